@@ -2,12 +2,13 @@
 
 use crate::adapt::{self, Adaptation, PrivateRules};
 use crate::characters::Filter;
-use crate::css::{self, Origin};
+use crate::css::{self, Origin, Sheet};
 use crate::encoding;
 use crate::error::Error;
 use crate::limits::Refusal;
 use crate::lines::{self, RichAnnotation, TaggedLine, TaggedLineElement, TaggedString};
 use crate::options::Options;
+use crate::padding;
 use crate::pass::Pass;
 use crate::reader::Reader;
 use crate::record::{self, Recorder};
@@ -101,6 +102,8 @@ pub struct Config<D> {
     text: String,
     /// Number of classes of the rule that has most.
     most_classes: usize,
+    /// Whether a rule selects by the name of a part of a table.
+    names_parts: bool,
     uses_doc_css: bool,
     keeps_controls: bool,
     max_wrap_width: Option<usize>,
@@ -112,7 +115,10 @@ pub struct Config<D> {
 /// What is recorded of a page.
 struct Recorded {
     recorder: Recorder,
-    css: String,
+    /// The rules of its style sheets.
+    settings: Vec<Setting>,
+    sheet: Sheet,
+    /// The rules of its inline styles.
     rules: PrivateRules,
 }
 
@@ -137,6 +143,7 @@ impl<D: Decorator> Config<D> {
             settings: Vec::new(),
             text: String::new(),
             most_classes: 0,
+            names_parts: false,
             uses_doc_css: false,
             keeps_controls: false,
             max_wrap_width: None,
@@ -225,6 +232,7 @@ impl<D: Decorator> Config<D> {
         let as_it_is = Filter { keeps_controls: true, ..Filter::default() };
         let sheet = css::read(css, origin, as_it_is, &mut self.settings, |text| keep(texts, text));
         self.most_classes = self.most_classes.max(sheet.most_classes);
+        self.names_parts |= sheet.names_parts;
         if sheet.is_well {
             Ok(self)
         } else {
@@ -300,24 +308,41 @@ impl<D: Decorator> Config<D> {
         })?;
         drop(page);
         let Sink { mut tree, css, is_quirky, .. } = sink;
+        let title = self.options.filter(|options| options.shows_title).and_then(|_| adapt::title(&tree));
+        let text = mem::take(&mut tree.text);
+        let mut recorder = Recorder::new(text, Filter { drops_soft_hyphens: false, ..filter });
+        let mut settings = Vec::new();
+        let of_sheets = Filter { keeps_controls: self.keeps_controls, ..Filter::default() };
+        let sheet = css::read(&css, Origin::Author, of_sheets, &mut settings, |text| recorder.keep(text));
         let adaptation = self.options.map(|options| Adaptation {
             columns: width.min(self.max_wrap_width.unwrap_or(usize::MAX)).min(u32::MAX as usize) as u32,
             has_colours: D::HAS_COLOURS,
-            title: options.shows_title.then(|| adapt::title(&tree)).flatten(),
+            title,
             is_quirky,
+            tables: options.tables,
+            names_parts: self.names_parts || sheet.names_parts,
+            stacks_cells: self.number_of(call::RAW_MODE) != 0,
+            shows_images: self.number_of(call::EMPTY_IMG_MODE) != 0,
         });
-        let text = mem::take(&mut tree.text);
-        let (recorder, rules) = Pass::record(&tree, Recorder::new(text, Filter { drops_soft_hyphens: false, ..filter }), adaptation);
-        Ok(Recorded { recorder, css, rules })
+        let (recorder, rules) = Pass::record(&tree, recorder, adaptation);
+        Ok(Recorded { recorder, settings, sheet, rules })
+    }
+
+    /// Returns the number of the last setting of a kind, or 0.
+    fn number_of(&self, kind: u32) -> u32 {
+        self.settings.iter().rev().find(|setting| setting.kind == kind).map_or(0, |setting| setting.number)
+    }
+
+    /// Whether spaces at the ends of lines are kept.
+    fn is_padded(&self) -> bool {
+        self.options.map_or(true, |options| options.is_padded) || self.settings.iter().any(|setting| setting.kind == call::PAD_BLOCK_WIDTH)
     }
 
     /// Calls a function with the page of a document.
     fn with_page<T>(&self, input: impl Read, width: usize, render: impl FnOnce(Page<'_>) -> Result<T, Error>) -> Result<T, Error> {
-        let Recorded { mut recorder, css, rules } = self.record(input, width)?;
+        let Recorded { mut recorder, settings: of_page, sheet, rules } = self.record(input, width)?;
         let (start, _) = recorder.keep(&self.text);
-        let mut settings: Vec<Setting> = self.settings.iter().map(|setting| setting.moved(start)).collect();
-        let filter = Filter { keeps_controls: self.keeps_controls, ..Filter::default() };
-        let sheet = css::read(&css, Origin::Author, filter, &mut settings, |text| recorder.keep(text));
+        let mut settings: Vec<Setting> = self.settings.iter().map(|setting| setting.moved(start)).chain(of_page).collect();
         rules.push_settings(self.most_classes.max(sheet.most_classes), &mut settings, |text| recorder.keep(text));
         if recorder.is_out_of_memory {
             return Err(Error::OutOfMemory);
@@ -338,7 +363,8 @@ impl<D: Decorator> Config<D> {
     ///
     /// `IoError` where the input can't be read; `TooNarrow`, `Fail`, `TooLarge` or `OutOfMemory` where it can't be rendered.
     pub fn string_from_read<R: Read>(self, input: R, width: usize) -> Result<String, Error> {
-        self.with_page(input, width, records::text)
+        let is_padded = self.is_padded();
+        self.with_page(input, width, |page| records::text(page, |text| padding::kept(text, is_padded))?)
     }
 
     /// The lines of HTML that is read, wrapped to `width` columns.
@@ -348,7 +374,10 @@ impl<D: Decorator> Config<D> {
     /// As [`Config::string_from_read`].
     pub fn lines_from_read<R: Read>(self, input: R, width: usize) -> Result<Vec<TaggedLine<Vec<D::Annotation>>>, Error> {
         let lines = self.with_page(input, width, |page| records::lines(page, lines::read))?;
-        let lines = lines.ok_or(Error::Fail)?;
+        let mut lines = lines.ok_or(Error::Fail)?;
+        if !self.is_padded() {
+            lines.iter_mut().for_each(|line| line.trim_end(|tag| !tag.iter().any(shows_spaces)));
+        }
         Ok(lines.into_iter().map(|line| line.map(annotated::<D>)).collect())
     }
 }
@@ -368,6 +397,11 @@ impl Config<RichDecorator> {
         }
         Ok(text)
     }
+}
+
+/// Whether spaces under an annotation can be seen.
+fn shows_spaces(annotation: &RichAnnotation) -> bool {
+    matches!(annotation, RichAnnotation::BgColour(_) | RichAnnotation::Link(_) | RichAnnotation::Strikeout)
 }
 
 /// Where a text begins behind others, and its length.

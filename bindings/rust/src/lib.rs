@@ -24,6 +24,7 @@ mod lines;
 mod moves;
 mod names;
 mod options;
+mod padding;
 mod pass;
 mod reader;
 mod record;
@@ -33,7 +34,7 @@ mod tree;
 
 pub use error::Error;
 pub use lines::{Colour, RichAnnotation, TaggedLine, TaggedLineElement, TaggedString};
-pub use options::Options;
+pub use options::{Options, Tables};
 pub use records::give_back_large_blocks;
 
 use std::io::Read;

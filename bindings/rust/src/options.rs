@@ -4,7 +4,20 @@ use crate::encoding;
 use crate::error::Error;
 use encoding_rs::Encoding;
 
-/// How a page is read as a browser reads it: its encoding, and whether its title is shown. [`Config::as_shown`] takes it.
+/// The tables of a page that are drawn, with their cells side by side. The others are shown as the blocks and lines in their cells.
+#[derive(Clone, Copy, Debug, Default, PartialEq, Eq)]
+pub enum Tables {
+    /// All.
+    All,
+    /// Those with data in several columns: they have a `th`, a `caption`, a `thead`, a `summary` or a border, or two rows with
+    /// something to show in several cells. Neither those with other tables in them, nor those whose `role` is `presentation` or `none`.
+    #[default]
+    Data,
+    /// None.
+    None,
+}
+
+/// How a page is read as a browser reads it: its encoding, and what is shown of it. [`Config::as_shown`] takes it.
 ///
 /// ```
 /// use html_render::{config, Options};
@@ -19,6 +32,8 @@ use encoding_rs::Encoding;
 pub struct Options {
     pub(crate) charset: Option<&'static Encoding>,
     pub(crate) shows_title: bool,
+    pub(crate) tables: Tables,
+    pub(crate) is_padded: bool,
 }
 
 impl Options {
@@ -42,5 +57,15 @@ impl Options {
     /// Shows the page's title above its text.
     pub fn title(self) -> Options {
         Options { shows_title: true, ..self }
+    }
+
+    /// Chooses the tables that are drawn. Without the call they are those of data.
+    pub fn tables(self, tables: Tables) -> Options {
+        Options { tables, ..self }
+    }
+
+    /// Keeps the spaces at the ends of lines that fill the last cells of tables.
+    pub fn pad(self) -> Options {
+        Options { is_padded: true, ..self }
     }
 }

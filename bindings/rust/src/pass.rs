@@ -95,16 +95,25 @@ impl<'a> Pass<'a> {
             next = self.tree.next_sibling(node);
             match self.tree.data(node) {
                 Data::Text { start, length, continues } => {
-                    if frame.place.context.hides_texts() {
+                    let context = frame.place.context;
+                    let mut piece = (*start, *length);
+                    if context.is_in_line() {
+                        let adapter = self.adapter.as_mut();
+                        match adapter.and_then(|adapter| adapter.cut_text(&self.recorder.text, node, piece)) {
+                            Some(cut) => piece = cut,
+                            None => continue,
+                        }
+                    }
+                    if context.hides_texts() {
                         continue;
                     }
                     let is_apart = frame.last == Last::Text && !continues;
                     frame.last = Last::Text;
-                    let parent = self.parent_of_text((*start, *length));
+                    let parent = self.parent_of_text(piece);
                     if is_apart {
                         self.recorder.part_texts(parent);
                     }
-                    self.recorder.text(parent, (*start, *length));
+                    self.recorder.text(parent, piece);
                 }
                 Data::Element(element) => {
                     if let Some(Entered { handle, context, last, end, numbers }) = self.open(node, element) {

@@ -72,6 +72,7 @@ pub(crate) enum Field {
 #[derive(Clone, Copy, Debug, PartialEq, Eq)]
 pub(crate) enum Part {
     Table,
+    Caption,
     Section,
     Row,
     Cell,
@@ -117,6 +118,7 @@ pub(crate) fn change_of(name: &LocalName) -> Change {
         local_name!("h5") => Change::Prefixed(6),
         local_name!("h6") => Change::Prefixed(7),
         local_name!("table") => Change::Table(Part::Table),
+        local_name!("caption") => Change::Table(Part::Caption),
         local_name!("tbody") | local_name!("tfoot") | local_name!("thead") => Change::Table(Part::Section),
         local_name!("tr") => Change::Table(Part::Row),
         local_name!("td") | local_name!("th") => Change::Table(Part::Cell),

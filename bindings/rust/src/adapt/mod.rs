@@ -2,6 +2,7 @@
 //!
 //! `docs/HTML.md` has a row for each: the element, what a browser does, what is shown, and the option that changes it.
 
+mod contents;
 mod elements;
 mod embedded;
 mod forms;
@@ -9,21 +10,26 @@ mod lists;
 mod margins;
 mod numbers;
 mod private;
+mod rows;
 mod style;
+mod tables;
 
 pub(crate) use lists::{is_blank, Holds};
 pub(crate) use numbers::Numbers;
 pub(crate) use private::{PrivateRules, RULE_CLASS};
 
+use crate::options::Tables;
 use crate::pass::{Entered, Last, Place};
 use crate::record::{self, Handle, Recorder};
-use crate::tree::{Attr, Element, Id, Tree, DOCUMENT};
+use crate::tree::{Attr, Element, Id, Piece, Tree, DOCUMENT};
 use elements::{change_of, Change, Field, Inner, List, Part};
 use html5ever::{local_name, namespace_url, ns, LocalName};
 use lists::Filled;
 use margins::{Margins, BULLET};
 use numbers::Plan;
+use rows::{Line, Row};
 use style::InlineStyle;
+use tables::Nesting;
 
 /// What is known of the elements around a place.
 #[derive(Clone, Copy, Debug, Default)]
@@ -36,6 +42,7 @@ pub(crate) struct Context {
     quotations: u8,
     /// The part of a table that is directly around, as it is recorded.
     part: Option<Part>,
+    line: Line,
     /// What the element directly around holds.
     pub holds: Holds,
     margins: Margins,
@@ -56,9 +63,14 @@ impl Context {
         self.is_invisible || self.has_no_size
     }
 
+    /// Whether texts are those of a row that is one line, or of a cell that has nothing to show.
+    pub fn is_in_line(&self) -> bool {
+        self.line != Line::Elsewhere
+    }
+
     /// Returns the context in an element, before what the element itself changes.
     fn inside(self) -> Context {
-        Context { part: None, holds: Holds::Anything, margins: self.margins.inside(), ..self }
+        Context { part: None, line: self.line.inside(), holds: Holds::Anything, margins: self.margins.inside(), ..self }
     }
 }
 
@@ -76,6 +88,14 @@ pub(crate) struct Adaptation {
     pub title: Option<String>,
     /// Whether the page is in quirks mode.
     pub is_quirky: bool,
+    /// The tables that are drawn.
+    pub tables: Tables,
+    /// Whether a rule selects by the name of a part of a table.
+    pub names_parts: bool,
+    /// Whether cells are never side by side on a line.
+    pub stacks_cells: bool,
+    /// Whether images without an `alt` are shown.
+    pub shows_images: bool,
 }
 
 /// Whether an adaptation asks for attributes of a name.
@@ -83,14 +103,17 @@ pub(crate) fn is_asked(name: &LocalName) -> bool {
     record::is_asked(name)
         || matches!(
             *name,
-            local_name!("checked")
+            local_name!("border")
+                | local_name!("checked")
                 | local_name!("data")
                 | local_name!("hidden")
                 | local_name!("multiple")
                 | local_name!("open")
                 | local_name!("reversed")
+                | local_name!("role")
                 | local_name!("selected")
                 | local_name!("style")
+                | local_name!("summary")
                 | local_name!("title")
                 | local_name!("type")
                 | local_name!("value")
@@ -120,12 +143,15 @@ pub(crate) struct Adapter<'a> {
     tree: &'a Tree,
     adaptation: Adaptation,
     filled: Filled,
+    nesting: Nesting,
+    row: Row,
     pub rules: PrivateRules,
 }
 
 impl<'a> Adapter<'a> {
     pub fn new(tree: &'a Tree, adaptation: Adaptation) -> Adapter<'a> {
-        Adapter { tree, adaptation, filled: Filled::default(), rules: PrivateRules::default() }
+        let (filled, nesting, row, rules) = Default::default();
+        Adapter { tree, adaptation, filled, nesting, row, rules }
     }
 
     /// Records what precedes the document: its title, if it is asked for.
@@ -139,6 +165,9 @@ impl<'a> Adapter<'a> {
 
     /// Records an element, and what of its contents isn't in the tree. Returns where its children are recorded, if they are.
     pub fn open(&mut self, recorder: &mut Recorder, node: Id, element: &'a Element, around: Place) -> Option<Entered> {
+        if around.context.is_in_line() {
+            self.row.reach(node);
+        }
         let attributes = self.tree.attributes_of(node);
         let is_html = element.space == ns!(html);
         let mut opened = Opened { node, element, attributes, parent: around.handle, said: said_by(attributes, is_html), start: None };
@@ -193,7 +222,7 @@ impl<'a> Adapter<'a> {
                 context.margins.add(columns);
                 Some(Entered::new(self.record(recorder, &opened), context))
             }
-            Change::Table(part) => Some(self.open_part(recorder, &opened, part, around.context.part, context)),
+            Change::Table(part) => Some(self.open_part(recorder, &opened, part, around.context, context)),
         }
     }
 
@@ -220,6 +249,12 @@ impl<'a> Adapter<'a> {
         let (element, attributes) = (self.tree.element(list)?, self.tree.attributes_of(list));
         let part = Opened { node: list, element, attributes, parent: numbers.parent, said: said_by(attributes, true), start };
         start.map(|_| self.record(recorder, &part))
+    }
+
+    /// Returns what is recorded of a text in a row that is one line, or in a cell that has nothing to show. The texts of the tree are
+    /// ranges of `text`.
+    pub fn cut_text(&mut self, text: &[u8], node: Id, piece: Piece) -> Option<Piece> {
+        self.row.cut(text, node, piece)
     }
 
     /// Records the element that shows what is directly in a list: a division of the item before it, or an item or a description.
@@ -290,17 +325,17 @@ impl<'a> Adapter<'a> {
         Entered { last: Last::Joined, end, ..Entered::new(handle, context) }
     }
 
-    /// Records a part of a table under its name if it is in its right place, and as a division if not: the library refuses a table's
-    /// parts outside of one.
-    fn open_part(&mut self, recorder: &mut Recorder, opened: &Opened<'_>, part: Part, around: Option<Part>, mut context: Context) -> Entered {
-        let is_in_place = match part {
-            Part::Table => true,
-            Part::Section => around == Some(Part::Table),
-            Part::Row => around == Some(Part::Section),
-            Part::Cell => around == Some(Part::Row),
+    /// Records a part of a table that is drawn under its name if it is in its right place, and as a division if not: the library refuses
+    /// a table's parts outside of one.
+    fn open_part(&mut self, recorder: &mut Recorder, opened: &Opened<'_>, part: Part, around: Context, mut context: Context) -> Entered {
+        let is_drawn = match part {
+            Part::Table => self.is_drawn(&recorder.text, opened.node),
+            Part::Caption | Part::Section => around.part == Some(Part::Table),
+            Part::Row => around.part == Some(Part::Section),
+            Part::Cell => around.part == Some(Part::Row),
         };
-        if !is_in_place {
-            return Entered::new(self.record_as(recorder, opened, &local_name!("div"), ""), context);
+        if !is_drawn {
+            return self.open_division(recorder, opened, part, around.line, context);
         }
         context.part = Some(part);
         if part == Part::Cell {

@@ -28,11 +28,13 @@ none, as text wrapped to a width.
                       what the page declares, or UTF-8, or windows-1252
       --no-links      no footnotes for links
       --no-wrap-links targets behind the document aren't cut
+      --tables WHICH  tables that are drawn: data (default), all, none; the others
+                      are shown as the blocks and lines in their cells
       --raw-tables    cells of tables stand one below another
       --no-borders    tables are drawn without borders
       --fence-tables  tables stand between lines of three backquotes
       --max-width N   a paragraph's lines have at most N columns
-      --pad           lines are filled with spaces
+      --pad           lines are filled with spaces, else none are at their ends
       --images MODE   of images without a text: none, name (of the file), always
       --narrow        fail where a character or a prefix is wider than a line,
                       rather than let it stand beyond the width

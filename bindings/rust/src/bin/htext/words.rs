@@ -1,6 +1,6 @@
 //! The words of the command line.
 
-use html_render::Options;
+use html_render::{Options, Tables};
 use std::ffi::{OsStr, OsString};
 use std::os::unix::ffi::{OsStrExt, OsStringExt};
 
@@ -153,6 +153,14 @@ impl Choices {
                 let label = word.text(words)?;
                 self.options = self.options.charset(&label).map_err(|_| Usage(format!("no such charset: {label}")))?;
             }
+            "--tables" => {
+                self.options = self.options.tables(match word.text(words)?.as_str() {
+                    "all" => Tables::All,
+                    "data" => Tables::Data,
+                    "none" => Tables::None,
+                    other => return Err(Usage(format!("no such tables: {other}"))),
+                });
+            }
             "--css" => self.css.push_str(&word.text(words)?),
             "--max-width" => self.changes.push(Change::MaxWidth(word.number(words)?)),
             "--images" => self.changes.push(Change::Images(match word.text(words)?.as_str() {
@@ -184,7 +192,10 @@ impl Choices {
             "--raw-tables" => Change::RawTables,
             "--no-borders" => Change::NoBorders,
             "--fence-tables" => Change::FenceTables,
-            "--pad" => Change::Pad,
+            "--pad" => {
+                self.options = self.options.pad();
+                Change::Pad
+            }
             "--page-css" => Change::PageCss,
             "--keep-controls" => Change::KeepControls,
             other => return Err(Usage(format!("no such option: {other}"))),
