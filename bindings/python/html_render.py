@@ -18,6 +18,7 @@ from pathlib import Path
 import html5lib
 
 from html_shown import ASKED, HTML, WHITE_SPACE, Around, Items, is_item, is_loose, loose_in, shown, takes, title_of, without_controls
+from html_tables import DRAWN, Tables
 
 __all__ = ["Error", "TooNarrow", "render"]
 
@@ -91,9 +92,9 @@ class _Recording:
     def __exit__(self, *_):
         _library.html_render_drop(self._recording)
 
-    def add_children(self, parent, tree, columns, keep_controls):
-        """Records the nodes below one of html5lib's tree, whose own node is `parent`, as a browser shows them in lines of so many
-        columns. It doesn't recurse: documents may be deep."""
+    def add_children(self, parent, tree, tables, keep_controls):
+        """Records the nodes below one of html5lib's tree, whose own node is `parent`, as a browser shows them, and `tables` says of
+        tables. It doesn't recurse: documents may be deep."""
         self._keeps_controls = keep_controls
         ahead = [(parent, Around(), Items(), iter(tree.childNodes), "")]
         while ahead:
@@ -102,12 +103,14 @@ class _Recording:
             if child is None:
                 ahead.pop()
                 self.add_text(above, after)
-            elif child.nodeType == child.TEXT_NODE and not around.hides_texts:
-                place = self._place_of(child, above, around, items)
-                self.add_text(above if place is None else place, self._kept(child.data, is_shown=True))
+            elif child.nodeType == child.TEXT_NODE:
+                text = tables.cut(child) if around.line else child.data
+                if not around.hides_texts and text:
+                    place = self._place_of(child, above, around, items)
+                    self.add_text(above if place is None else place, self._kept(text, is_shown=True))
             elif child.nodeType == child.ELEMENT_NODE:
                 place = self._place_of(child, above, around, items)
-                found = shown(child, around if place is None else around.in_loose(), columns)
+                found = shown(child, around if place is None else around.in_loose(), tables)
                 if found:
                     if is_item(child, around):
                         above = self._list_of(child, above, items)
@@ -146,6 +149,10 @@ class _Recording:
 
     def _add_element(self, parent, found):
         """Records the elements that one is shown as, and the text before its children. Returns the innermost one."""
+        if found.gap:
+            gap = self.add_element(parent, "span")
+            self._add_attribute(gap, "class", " " + WHITE_SPACE["pre-wrap"])
+            self.add_text(gap, found.gap)
         for name, space, attributes in found.elements:
             parent = self.add_element(parent, name, space)
             for key, value in attributes.items():
@@ -224,24 +231,40 @@ def _parse(html, charset):
 
 
 def render(
-    html, width=80, *, charset=None, title=False, decorate=True, footnotes=True, overflow=True, raw_tables=False, borders=True, keep_controls=False
+    html,
+    width=80,
+    *,
+    charset=None,
+    title=False,
+    decorate=True,
+    footnotes=True,
+    overflow=True,
+    tables="data",
+    raw_tables=False,
+    borders=True,
+    pad=False,
+    keep_controls=False,
 ):
     """Returns the plain text of HTML, a str or bytes, as a browser shows it, wrapped to `width` columns.
 
     `charset` names the encoding of bytes, as HTTP or a mail does. `title` shows the page's title above its text. `decorate` writes signs
     around emphasis, `footnotes` numbers links and puts their targets at the end, `overflow` lets what is wider than a line stay so rather
-    than raise TooNarrow, `raw_tables` stacks the cells of tables, and without `borders` tables are drawn without lines.
-    `keep_controls` keeps control characters of the page, which can control a terminal.
+    than raise TooNarrow, `raw_tables` stacks the cells of tables, and without `borders` tables are drawn without lines. `tables` says which
+    tables are drawn: those with `data`, `all` or `none`; the others are shown as the blocks and lines in their cells. `pad` fills lines
+    with spaces; without it none are at their ends. `keep_controls` keeps control characters of the page, which can control a terminal.
     """
     if width < 0:
         raise ValueError("a width is at least 0")
+    if tables not in DRAWN:
+        raise ValueError(f"tables is one of {', '.join(DRAWN)}")
     tree = _parse(html, charset)
     with _Recording() as recording:
         if title and title_of(tree):
             recording.add_text(recording.add_element(0, "p"), without_controls(title_of(tree), is_shown=True))
-        recording.add_children(0, tree, width, keep_controls)
+        recording.add_children(0, tree, Tables(tree, width, tables, raw_tables), keep_controls)
         recording.add_white_space()
-        for call, wanted, number in ((2, decorate, 0), (3, footnotes, 1), (1, overflow, 0), (10, raw_tables, 1), (11, not borders, 0)):
+        for call, wanted, number in ((2, decorate, 0), (3, footnotes, 1), (1, overflow, 0), (10, raw_tables, 1), (11, not borders, 0), (7, pad, 0)):
             if wanted:
                 recording.set(call, number)
-        return recording.text(0, width)
+        text = recording.text(0, width)
+        return text if pad else "\n".join(line.rstrip(" ") for line in text.split("\n"))

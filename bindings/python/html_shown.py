@@ -27,7 +27,7 @@ _EMBEDDED = frozenset("audio embed frame iframe object video".split())
 _FIELDS = frozenset("button input select textarea".split())
 _SIGNED = frozenset("b code em strong".split())
 _PREFIXES = {"blockquote": 2, "dd": 2, "h1": 2, "h2": 3, "h3": 4, "h4": 5, "h5": 6, "h6": 7}
-_PARTS = {"table": ("table", None), "tbody": ("section", "table"), "thead": ("section", "table"), "tfoot": ("section", "table")}
+_PARTS = {"table": ("table", None), "caption": ("caption", "table"), "tbody": ("section", "table"), "thead": ("section", "table"), "tfoot": ("section", "table")}
 _PARTS.update({"tr": ("row", "section"), "td": ("cell", "row"), "th": ("cell", "row")})
 _SIZES = frozenset("xx-small x-small small medium large x-large xx-large xxx-large initial".split())
 _SYSTEM_FONTS = frozenset("caption icon menu message-box small-caption status-bar".split())
@@ -37,6 +37,8 @@ _ITEMS = frozenset(["li"])
 _DESCRIPTIONS = frozenset(["dd", "div", "dt"])
 _SHOWN_WITHOUT_TEXT = frozenset("audio embed frame hr iframe img input object video".split())
 _UNREAD = frozenset("head script style template".split())
+_ON_LINES = frozenset("br div dl dt frame li ol p pre textarea ul".split())
+_SIGNS = {"a": 6, "b": 4, "strong": 4, "code": 2, "em": 2, "button": 4, "q": 2, "sup": 3}
 _RULE = "\u2500"
 _RULE_IN_CELL = 3
 
@@ -53,6 +55,7 @@ class Around:
     item_margin: int = 0
     is_in_cell: bool = False
     holds: frozenset = None
+    line: str = None
 
     @property
     def hides_texts(self):
@@ -61,7 +64,8 @@ class Around:
 
     def inside(self):
         """Returns what is known in an element, before what the element itself changes."""
-        return replace(self, part=None, margin=self.margin + self.item_margin, item_margin=0, holds=None)
+        line = "cell" if self.line == "cell" else None
+        return replace(self, part=None, line=line, margin=self.margin + self.item_margin, item_margin=0, holds=None)
 
     def in_loose(self):
         """Returns what is known in an element that shows what is directly in a list."""
@@ -101,7 +105,8 @@ class Items:
 
 @dataclass
 class Shown:
-    """How an element is recorded: names and attributes, the outermost one first; texts before and after its children."""
+    """How an element is recorded: names and attributes, the outermost one first; texts before and after its children; spaces before the
+    element, which are kept."""
 
     elements: list
     around: Around
@@ -109,6 +114,7 @@ class Shown:
     after: str = ""
     has_children: bool = True
     numbers: Numbers = None
+    gap: str = ""
 
 
 def without_controls(text, is_shown=False):
@@ -331,8 +337,53 @@ def loose_in(around, item):
     return ("li", False) if item is None else ("div", True)
 
 
-def shown(element, around, columns):
-    """Returns how an element is recorded where a line has so many columns, or None if nothing of it is."""
+def is_hidden(element):
+    """Whether nothing is shown of an element, nor of what is in it."""
+    attributes = _attributes_of(element)
+    return _is_dropped(attributes, _style_of(attributes))
+
+
+def _image_text(attributes):
+    """Returns the text of an image that is shown, if it has one."""
+    return attributes.get("alt", "").strip() if attributes.get("src") else ""
+
+
+def _own_text(element, attributes):
+    """Returns the text of an element that is shown in the place of what is in it, or None."""
+    tag = element.tagName
+    if tag == "img":
+        return _image_text(attributes) and f"[{_image_text(attributes)}]" or None
+    if tag in ("input", "select"):
+        return _input(attributes) if tag == "input" else _select(element, attributes)
+    link = _link(element, attributes)
+    return link and link[1] + " " * _SIGNS["a"]
+
+
+def seen(element):
+    """Returns how an element in a line is seen, and the columns of its text or its signs: as "nothing", its "contents", "signs" around
+    these, a "text" of its own, a "block" or a "table"."""
+    attributes, tag = _attributes_of(element), element.tagName
+    if element.namespaceURI != HTML:
+        titles = [it for it in element.childNodes if it.nodeType == it.ELEMENT_NODE and it.tagName == "title"]
+        text = "".join(it.data for it in titles[0].childNodes if it.nodeType == it.TEXT_NODE).strip() if titles else ""
+        return ("contents", 0) if tag != "svg" else ("text", len(text) + 2) if text else ("nothing", 0)
+    if is_hidden(element) or tag in _DROPPED or tag in _UNREAD or tag == "dialog" and "open" not in attributes:
+        return "nothing", 0
+    if tag == "table":
+        return "table", 0
+    if tag in _WITHIN or tag in _PREFIXES or tag in _PARTS or tag in _ON_LINES or tag == "hr":
+        return "block", 0
+    if tag in ("img", "input", "select") or tag in _EMBEDDED and not (tag == "object" and not attributes.get("data", "").strip()):
+        text = _own_text(element, attributes)
+        return ("nothing", 0) if text is None else ("text", len(text))
+    signs = _SIGNS.get(tag, 0) if tag != "a" or "href" in attributes else 0
+    return "signs" if tag in ("button", "q") else "contents", signs
+
+
+def shown(element, around, tables):
+    """Returns how an element is recorded, or None if nothing of it is. `tables` says how tables are, and how many columns a line has."""
+    if around.line:
+        tables.reach(element)
     attributes, tag = _attributes_of(element), element.tagName
     style = _style_of(attributes)
     inside = _changed(around, tag, attributes, style)
@@ -345,11 +396,11 @@ def shown(element, around, columns):
     if is_html and around.holds == _DESCRIPTIONS and element.tagName == "div":
         return Shown([], replace(inside, holds=_DESCRIPTIONS))
     if is_html:
-        return _changed_element(recorded, element, attributes, around, columns)
+        return _changed_element(recorded, element, attributes, around, tables)
     return recorded
 
 
-def _changed_element(recorded, element, attributes, around, columns):
+def _changed_element(recorded, element, attributes, around, tables):
     """Returns how one of HTML's elements is recorded, with what its name changes."""
     tag, inside = element.tagName, recorded.around
     if tag in _DROPPED or tag == "dialog" and "open" not in attributes:
@@ -372,12 +423,12 @@ def _changed_element(recorded, element, attributes, around, columns):
         recorded.elements[0] = ("span", HTML, attributes)
     elif tag in _PARTS:
         part, place = _PARTS[tag]
-        if place not in (None, around.part):
-            recorded.elements[0] = ("div", HTML, attributes)
+        if not (tables.is_drawn(element) if place is None else place == around.part):
+            recorded = tables.divided(recorded, element, around)
         else:
             recorded.around = replace(inside, part=part, is_in_cell=inside.is_in_cell or part == "cell")
     elif tag == "hr":
-        width = max(columns - inside.margin, 0)
+        width = max(tables.columns - inside.margin, 0)
         recorded.elements[0] = ("div", HTML, attributes)
         recorded.before = "" if inside.is_invisible else _RULE * (min(width, _RULE_IN_CELL) if inside.is_in_cell else width)
         recorded.has_children = False

@@ -327,7 +327,7 @@ pub(crate) fn read(css: &str, origin: Origin, filter: Filter, settings: &mut Vec
                 let renamed: Vec<Selector> = rule.selectors.iter().filter_map(renamed).collect();
                 for selector in rule.selectors.iter().chain(&renamed) {
                     sheet.most_classes = sheet.most_classes.max(selector.classes.len());
-                    sheet.names_parts |= selector.element.as_deref().map_or(false, is_part);
+                    sheet.names_parts |= !rule.declarations.is_empty() && selector.element.as_deref().map_or(false, is_part);
                     settings.extend(rule.declarations.iter().map(|declaration| setting(origin, selector, declaration, filter, &mut keep)));
                 }
             }

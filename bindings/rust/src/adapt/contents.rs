@@ -77,16 +77,6 @@ pub(super) fn is_unseen(text: &[u8], piece: Piece) -> bool {
     !is_visible(text_of(text, piece))
 }
 
-/// Whether nothing is shown of an element with these attributes. Styles are read only where they can say so.
-pub(super) fn is_hidden(attributes: &[Attr], is_html: bool) -> bool {
-    let can_hide = |attribute: &Attr| match attribute.name {
-        local_name!("style") => InlineStyle::can_drop(&attribute.value),
-        local_name!("hidden") => is_html,
-        _ => false,
-    };
-    attributes.iter().any(can_hide) && is_dropped(&said_by(attributes, is_html))
-}
-
 /// Columns of a text on one line, as it is read.
 #[derive(Default)]
 struct Measure {
@@ -134,6 +124,23 @@ impl<'a> Contents<'a> {
             node = self.tree.parent(node);
         }
         NONE
+    }
+
+    /// Whether nothing is shown of an element. Its style is read only where it can say so.
+    pub fn is_hidden(self, node: Id, is_html: bool) -> bool {
+        let attributes = self.tree.attributes_of(node);
+        let can_hide = |attribute: &Attr| match attribute.name {
+            local_name!("style") => InlineStyle::can_drop(&attribute.value),
+            local_name!("hidden") => is_html,
+            _ => false,
+        };
+        attributes.iter().any(can_hide) && is_dropped(&said_by(attributes, is_html))
+    }
+
+    /// Returns the cells of a row that aren't hidden.
+    pub fn cells_of(self, row: Id) -> impl Iterator<Item = Id> + 'a {
+        let is_cell = |element: &Element| matches!(element.name, local_name!("td") | local_name!("th"));
+        self.tree.children(row).filter(move |&cell| self.tree.element(cell).map_or(false, is_cell) && !self.is_hidden(cell, true))
     }
 
     /// Whether a cell has something to show: a visible text, an image with one, a field, or a table.
@@ -193,7 +200,7 @@ impl<'a> Contents<'a> {
     fn shown(self, node: Id, element: &Element) -> Shown {
         let attributes = self.tree.attributes_of(node);
         let is_html = element.space == ns!(html);
-        if is_hidden(attributes, is_html) {
+        if self.is_hidden(node, is_html) {
             return Shown::Nothing;
         }
         if !is_html {

@@ -1,8 +1,8 @@
 //! Tables that aren't drawn: their parts are divisions, and a row of short cells is one line.
 
-use super::contents::{is_hidden, is_unseen, text_of, Cell, Contents, Run};
+use super::contents::{is_unseen, text_of, Cell, Contents, Run};
 use super::elements::Part;
-use super::tables::{self, is_cell};
+use super::tables;
 use super::{Adapter, Context, Opened};
 use crate::options::Tables;
 use crate::pass::Entered;
@@ -67,8 +67,7 @@ impl Row {
         self.cells.clear();
         (self.count, self.at) = (0, At::End);
         let mut rest = columns;
-        let is_shown = |&cell: &Id| matches!(contents.tree.element(cell), Some(element) if is_cell(&element.name)) && !is_hidden(contents.tree.attributes_of(cell), true);
-        for cell in contents.tree.children(row).filter(is_shown) {
+        for cell in contents.cells_of(row) {
             let run = match contents.of_cell(cell, rest) {
                 Cell::Nothing => continue,
                 Cell::Inline(run) => run,
@@ -149,6 +148,7 @@ impl<'a> Adapter<'a> {
     }
 
     /// Whether a table is drawn as one. The texts of the tree are ranges of `text`.
+    #[inline(never)]
     pub(super) fn is_drawn(&mut self, text: &[u8], table: Id) -> bool {
         match self.adaptation.tables {
             Tables::All => true,
@@ -159,6 +159,7 @@ impl<'a> Adapter<'a> {
 
     /// Records a part of a table that isn't drawn, or a part outside of a table, as a division; the cell of a row that is a line as a
     /// piece of that.
+    #[inline(never)]
     pub(super) fn open_division(&mut self, recorder: &mut Recorder, opened: &Opened<'_>, part: Part, around: Line, mut context: Context) -> Entered {
         let mut name = local_name!("div");
         match part {

@@ -1,6 +1,6 @@
 //! Which tables are drawn: those that have data in columns. The others lay out a page.
 
-use super::contents::{is_hidden, Contents};
+use super::contents::Contents;
 use crate::tree::{Element, Id, Tree, NONE};
 use html5ever::{local_name, namespace_url, ns, LocalName};
 
@@ -13,7 +13,7 @@ impl Nesting {
     pub fn has_inner(&mut self, tree: &Tree, table: Id) -> bool {
         if self.0.is_empty() {
             self.0 = vec![false; tree.node_count()];
-            for table in tree.ids().filter(|&node| is_table(tree, node)) {
+            for table in tree.tables.iter().copied().filter(|&node| is_table(tree, node)) {
                 self.mark_around(tree, table);
             }
         }
@@ -72,18 +72,11 @@ impl Seen {
     /// Looks at the cells of a row, until it is known whether the table has data.
     fn look_at_row(&mut self, contents: Contents<'_>, row: Id) {
         let mut filled = 0;
-        let mut cells = 0..;
-        for cell in contents.tree.children(row) {
-            let name = match contents.tree.element(cell) {
-                Some(Element { name, .. }) if is_cell(name) && !is_hidden(contents.tree.attributes_of(cell), true) => name,
-                _ => continue,
-            };
-            self.is_marked |= *name == local_name!("th");
-            let position = cells.next();
+        for (position, cell) in contents.cells_of(row).enumerate() {
+            self.is_marked |= matches!(contents.tree.element(cell), Some(Element { name: local_name!("th"), .. }));
             if filled < 2 && contents.has_any(cell) {
                 filled += 1;
-                self.has_columns |= self.position.is_some() && self.position != position;
-                self.position = self.position.or(position);
+                self.has_columns |= *self.position.get_or_insert(position) != position;
                 self.full_rows += u32::from(filled == 2);
             }
             if self.is_data() {
@@ -91,11 +84,6 @@ impl Seen {
             }
         }
     }
-}
-
-/// Whether an element is a cell of a row.
-pub(super) fn is_cell(name: &LocalName) -> bool {
-    matches!(*name, local_name!("td") | local_name!("th"))
 }
 
 /// Whether a table without others in it has data in columns.
@@ -119,7 +107,7 @@ pub(super) fn is_data(contents: Contents<'_>, table: Id) -> bool {
             _ => continue,
         }
         let is_row = |&row: &Id| matches!(tree.element(row), Some(Element { name: local_name!("tr"), .. }));
-        for row in tree.children(part).filter(is_row).filter(|&row| !is_hidden(tree.attributes_of(row), true)) {
+        for row in tree.children(part).filter(is_row).filter(|&row| !contents.is_hidden(row, true)) {
             seen.look_at_row(contents, row);
             if seen.is_data() {
                 return true;
@@ -182,7 +170,7 @@ mod tests {
     fn tables_in_tables() {
         let tree = tree_of("<table id=a><tr><td><div><table><tr><td></table><table><tr><td><table></table></table></div><table></table></table><table></table>");
         let mut nesting = Nesting::default();
-        let tables: Vec<bool> = tree.ids().filter(|&node| is_table(&tree, node)).map(|table| nesting.has_inner(&tree, table)).collect();
+        let tables: Vec<bool> = tree.tables.iter().map(|&table| nesting.has_inner(&tree, table)).collect();
         assert_eq!(tables, [true, false, true, false, false, false]);
     }
 }

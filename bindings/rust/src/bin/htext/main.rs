@@ -34,7 +34,7 @@ none, as text wrapped to a width.
       --no-borders    tables are drawn without borders
       --fence-tables  tables stand between lines of three backquotes
       --max-width N   a paragraph's lines have at most N columns
-      --pad           lines are filled with spaces, else none are at their ends
+      --pad           lines are filled with spaces; without it none end with one
       --images MODE   of images without a text: none, name (of the file), always
       --narrow        fail where a character or a prefix is wider than a line,
                       rather than let it stand beyond the width
