@@ -23,7 +23,7 @@ def columns_of(text):
 
 def is_visible(text):
     """Whether a text has a character that isn't white space and takes a column."""
-    return columns_of("".join(text.split())) > 0
+    return any(not c.isspace() and columns_of(c) for c in text)
 
 
 def _is_html(node, *names):
@@ -68,8 +68,11 @@ class _Measure:
         self.columns += columns + (self.gap if self.columns else 0)
         self.gap, self.is_after_space = 0, False
 
-    def add_text(self, text):
+    def add_text(self, text, most):
+        """Adds a text, up to where more columns than so many are passed."""
         for c in text:
+            if self.columns > most:
+                return
             if c == "\u00a0":
                 self.gap, self.is_after_space = self.gap + 1, False
             elif c.isspace():
@@ -86,7 +89,7 @@ def _run_of(cell, room):
     while node is not None:
         kind, is_shown = "nothing", False
         if node.nodeType == node.TEXT_NODE:
-            measure.add_text(node.data)
+            measure.add_text(node.data, room)
             is_shown = is_visible(node.data)
         elif node.nodeType == node.ELEMENT_NODE:
             kind, columns = seen(node)
@@ -126,7 +129,7 @@ def _is_data(table):
             full_rows += len(filled) > 1
             if len(positions) > 1 and (is_marked or full_rows > 1):
                 return True
-    return False
+    return len(positions) > 1 and is_marked
 
 
 def _tables_around_others(tree):

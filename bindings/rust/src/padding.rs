@@ -7,15 +7,24 @@ use memchr::memmem;
 pub(crate) fn kept(text: &str, is_padded: bool) -> Result<String, Error> {
     let mut kept = String::new();
     kept.try_reserve_exact(text.len()).map_err(|_| Error::OutOfMemory)?;
-    let mut start = 0;
-    if !is_padded {
-        for end in memmem::find_iter(text.as_bytes(), b" \n") {
-            kept.push_str(text[start..end].trim_end_matches(' '));
-            start = end + 1;
-        }
+    if is_padded {
+        kept.push_str(text);
+    } else {
+        push_trimmed(text, &mut kept);
     }
-    kept.push_str(&text[start..]);
     Ok(kept)
+}
+
+/// Appends the lines of a text, without the spaces at their ends. Lines without any are appended together.
+fn push_trimmed(text: &str, to: &mut String) {
+    let bytes = text.as_bytes();
+    let mut start = 0;
+    for last in memmem::find_iter(bytes, b" \n") {
+        let spaces = bytes[start..last].iter().rev().take_while(|&&byte| byte == b' ').count();
+        to.push_str(&text[start..last - spaces]);
+        start = last + 1;
+    }
+    to.push_str(&text[start..]);
 }
 
 #[cfg(test)]

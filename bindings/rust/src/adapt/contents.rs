@@ -93,9 +93,12 @@ impl Measure {
         (self.gap, self.is_after_space) = (0, false);
     }
 
-    fn add_text(&mut self, text: &str) {
+    /// Adds a text, up to where more columns than so many are passed.
+    fn add_text(&mut self, text: &str, most: u32) {
         for c in text.chars() {
-            if c == '\u{a0}' {
+            if self.columns > most {
+                return;
+            } else if c == '\u{a0}' {
                 self.gap = self.gap.saturating_add(1);
                 self.is_after_space = false;
             } else if c.is_whitespace() {
@@ -171,7 +174,7 @@ impl<'a> Contents<'a> {
             let (is_shown, is_entered) = match self.tree.data(node) {
                 &Data::Text { start, length, .. } => {
                     let text = text_of(self.text, (start, length));
-                    measure.add_text(text);
+                    measure.add_text(text, room);
                     (is_visible(text), false)
                 }
                 Data::Element(element) => {
