@@ -308,7 +308,7 @@ impl<D: Decorator> Config<D> {
         })?;
         drop(page);
         let Sink { mut tree, css, is_quirky, .. } = sink;
-        let title = self.options.filter(|options| options.shows_title).and_then(|_| adapt::title(&tree));
+        let title = self.options.as_ref().filter(|options| options.shows_title).and_then(|_| adapt::title(&tree));
         let text = mem::take(&mut tree.text);
         let mut recorder = Recorder::new(text, Filter { drops_soft_hyphens: false, ..filter });
         let mut settings = Vec::new();
@@ -335,7 +335,7 @@ impl<D: Decorator> Config<D> {
 
     /// Whether spaces at the ends of lines are kept.
     fn is_padded(&self) -> bool {
-        self.options.map_or(true, |options| options.is_padded) || self.settings.iter().any(|setting| setting.kind == call::PAD_BLOCK_WIDTH)
+        self.options.as_ref().map_or(true, |options| options.is_padded) || self.settings.iter().any(|setting| setting.kind == call::PAD_BLOCK_WIDTH)
     }
 
     /// Calls a function with the page of a document.

@@ -3,11 +3,11 @@
 use super::contents::{is_unseen, text_of, Cell, Contents, Run};
 use super::elements::Part;
 use super::tables;
-use super::{Adapter, Context, Opened};
+use super::{Adaptation, Adapter, Context, Opened};
 use crate::options::Tables;
 use crate::pass::Entered;
 use crate::record::{self, Handle, Recorder};
-use crate::tree::{Id, Piece};
+use crate::tree::{Id, Piece, Tree};
 use html5ever::{local_name, LocalName};
 
 /// Between two cells on a line.
@@ -142,18 +142,21 @@ fn class_of(name: &LocalName) -> &'static str {
     }
 }
 
-impl<'a> Adapter<'a> {
-    fn contents<'b>(&'b self, text: &'b [u8]) -> Contents<'b> {
-        Contents { tree: self.tree, text, shows_images: self.adaptation.shows_images, has_signs: !self.adaptation.has_colours }
+impl Adaptation {
+    /// Returns the contents of a tree, whose texts are ranges of `text`.
+    fn contents<'a>(&self, tree: &'a Tree, text: &'a [u8]) -> Contents<'a> {
+        Contents { tree, text, shows_images: self.shows_images, has_signs: !self.has_colours }
     }
+}
 
+impl<'a> Adapter<'a> {
     /// Whether a table is drawn as one. The texts of the tree are ranges of `text`.
     #[inline(never)]
     pub(super) fn is_drawn(&mut self, text: &[u8], table: Id) -> bool {
         match self.adaptation.tables {
             Tables::All => true,
             Tables::None => false,
-            Tables::Data => !self.nesting.has_inner(self.tree, table) && tables::is_data(self.contents(text), table),
+            Tables::Data => !self.nesting.has_inner(self.tree, table) && tables::is_data(self.adaptation.contents(self.tree, text), table),
         }
     }
 
@@ -162,9 +165,9 @@ impl<'a> Adapter<'a> {
     #[inline(never)]
     pub(super) fn open_division(&mut self, recorder: &mut Recorder, opened: &Opened<'_>, part: Part, around: Line, mut context: Context) -> Entered {
         let mut name = local_name!("div");
+        let contents = self.adaptation.contents(self.tree, &recorder.text);
         match part {
             Part::Row => {
-                let contents = Contents { tree: self.tree, text: &recorder.text, shows_images: self.adaptation.shows_images, has_signs: !self.adaptation.has_colours };
                 let room = context.margins.room(self.adaptation.columns);
                 if !self.adaptation.stacks_cells && self.row.plan(contents, opened.node, room) {
                     context.line = Line::Row;
@@ -178,7 +181,7 @@ impl<'a> Adapter<'a> {
                 }
                 name = local_name!("span");
             }
-            Part::Cell if !self.contents(&recorder.text).has_any(opened.node) => {
+            Part::Cell if !contents.has_any(opened.node) => {
                 context.line = Line::Cell;
                 self.row.enter_empty();
             }
@@ -205,7 +208,6 @@ impl<'a> Adapter<'a> {
 #[cfg(test)]
 mod tests {
     use super::super::contents::tests::tree_of;
-    use super::super::Adaptation;
     use super::*;
     use crate::characters::Filter;
     use crate::pass::Pass;
