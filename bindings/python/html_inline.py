@@ -59,8 +59,13 @@ def base_of(tree, page):
     return own if len(own) <= _MAX_BASE else page
 
 
-def _leads_out(target):
-    """Whether a target leads somewhere else: it isn't empty, a place in the page or a script."""
+def written(href):
+    """Returns a target as it is written, without the white space that a browser drops."""
+    return re.sub("[\t\n\r]", "", href.strip(" \t\n\f\r"))
+
+
+def leads_out(target):
+    """Whether a target that is written leads somewhere else: it isn't empty, a place in the page or a script."""
     bare = target.lstrip(_UP_TO_SPACE)
     return bare != "" and bare[0] != "#" and scheme(bare) != "javascript"
 
@@ -75,6 +80,17 @@ def file_name(address):
     """Returns the part of an address that names a file; the host where it has no path, or else all."""
     path = re.split("[?#]", address.strip())[0].rstrip("/")
     return path.rpartition("/")[2] or address.strip()
+
+
+def columns_of(text):
+    """Returns the columns of a text on one line."""
+    widths = (0 if unicodedata.category(c) in ("Mn", "Me", "Cf", "Cc") else 1 + (unicodedata.east_asian_width(c) in "WF") for c in text)
+    return sum(widths)
+
+
+def is_visible(text):
+    """Whether a text has a character that isn't white space and takes a column."""
+    return any(not c.isspace() and columns_of(c) for c in text)
 
 
 def cut(line, columns):
@@ -242,8 +258,8 @@ class Inline:
 
     def open_link(self, element, step, href):
         """Opens a recorded link."""
-        target = re.sub("[\t\n\r]", "", href.strip(" \t\n\f\r"))
-        is_shown = self._mode != "none" and _leads_out(target)
+        target = written(href)
+        is_shown = self._mode != "none" and leads_out(target)
         self._links.append(_Link(element, step, resolved(target, self._base) if is_shown else None))
 
     def close_link(self, node, name_of):

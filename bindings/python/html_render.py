@@ -6,8 +6,8 @@
     world
 
 html5lib parses the HTML as browsers do (Debian's python3-html5lib); its tree becomes the calls of which the library builds the
-document that it renders, with what a browser shows (html_shown.py, html_inline.py). The library is the shared one that `bindings/build` makes, in bindings/out, or the file that the variable
-HTML_RENDER_LIB of the environment names.
+document that it renders, with what a browser shows (html_shown.py, html_inline.py, html_tables.py). The library is the shared one that
+`bindings/build` makes, in bindings/out, or the file that the variable HTML_RENDER_LIB of the environment names.
 """
 
 import ctypes
@@ -25,6 +25,7 @@ from html_shown import (
     WHITE_SPACE,
     Around,
     Items,
+    Signs,
     is_item,
     is_loose,
     loose_in,
@@ -34,6 +35,7 @@ from html_shown import (
     title_of,
     without_controls,
 )
+from html_tables import DRAWN, Tables
 
 __all__ = ["Error", "TooNarrow", "render"]
 
@@ -102,6 +104,7 @@ class _Recording:
         self._keeps_controls = False
         self._steps = Steps()
         self._inline = None
+        self._tables = None
         self._recording = _library.html_render_new()
         if not self._recording:
             raise MemoryError
@@ -112,11 +115,12 @@ class _Recording:
     def __exit__(self, *_):
         _library.html_render_drop(self._recording)
 
-    def add_children(self, parent, tree, columns, inline_of, keep_controls):
-        """Records the nodes below one of html5lib's tree, whose own node is `parent`, as a browser shows them in lines of so many
-        columns. A function returns the text of steps. It doesn't recurse: documents may be deep. Returns the lines after the text."""
+    def add_children(self, parent, tree, tables, inline_of, keep_controls):
+        """Records the nodes below one of html5lib's tree, whose own node is `parent`, as a browser shows them, and as `tables` says of
+        tables. A function returns the text of steps. It doesn't recurse: documents may be deep. Returns the lines after the text."""
         self._keeps_controls = keep_controls
         self._inline = inline_of(self._steps)
+        self._tables = tables
         ahead = [(parent, Around(), Items(), iter(tree.childNodes), None)]
         while ahead:
             above, around, items, children, ending = ahead[-1]
@@ -124,13 +128,14 @@ class _Recording:
             if child is None:
                 ahead.pop()
                 self._end_element(above, ending)
-            elif child.nodeType == child.TEXT_NODE and not around.hides_texts:
-                place = self._place_of(child, above, around, items)
-                add_text = self.add_text if around.is_in_drawing else self._inline.add_text
-                add_text(above if place is None else place, self._kept(child.data, is_shown=True))
+            elif child.nodeType == child.TEXT_NODE:
+                text = tables.cut(child) if around.line else child.data
+                if text and not around.hides_texts:
+                    place = self._place_of(child, above, around, items)
+                    self._inline.add_text(above if place is None else place, self._kept(text, is_shown=True))
             elif child.nodeType == child.ELEMENT_NODE:
                 place = self._place_of(child, above, around, items)
-                found = shown(child, around if place is None else around.in_loose(), columns)
+                found = shown(child, around if place is None else around.in_loose(), tables)
                 if found:
                     if is_item(child, around):
                         above = self._list_of(child, above, items)
@@ -172,6 +177,10 @@ class _Recording:
         """Records the elements that one is shown as, and the text before its children. Returns the innermost one."""
         inline, outer = self._inline, parent
         inline.begin(found.run)
+        if found.gap:
+            gap = self.add_element(parent, "span")
+            self._add_attribute(gap, "class", " " + WHITE_SPACE["pre-wrap"])
+            self.add_text(gap, found.gap)
         step = len(self._steps)
         for name, space, attributes in found.elements:
             step, parent = len(self._steps), self.add_element(parent, name, space)
@@ -188,7 +197,7 @@ class _Recording:
             inline.add_object()
         elif found.kind in ("link", "embedded"):
             inline.open_link(element, step, self._kept(found.target))
-        if found.before:
+        if found.before and not self._is_needless(found, "start"):
             (inline.add_text if found.run == "inline" or found.kind == "embedded" else self.add_text)(parent, found.before)
         return parent
 
@@ -200,11 +209,15 @@ class _Recording:
                 self._inline.add_object()
                 self.add_text(self.add_element(drawing, "title", SVG), self._kept(title, is_shown=True))
 
+    def _is_needless(self, found, place):
+        """Whether the space at a place of a label is at the start or the end of a cell of a row that is a line."""
+        return found.kind == "label" and found.around.line is not None and self._tables.at == place
+
     def _end_element(self, node, ending):
         """Ends the innermost of the elements that one is shown as, of which the document has none."""
         if ending is None:
             return
-        if ending.after:
+        if ending.after and not self._is_needless(ending, "end"):
             self._inline.add_text(node, ending.after)
         if ending.kind == "signed":
             self._inline.close_signed()
@@ -307,8 +320,10 @@ def render(
     base=None,
     wrap_links=False,
     overflow=True,
+    tables="data",
     raw_tables=False,
     borders=True,
+    pad=False,
     keep_controls=False,
 ):
     """Returns the plain text of HTML, a str or bytes, as a browser shows it, wrapped to `width` columns.
@@ -317,8 +332,10 @@ def render(
     around emphasis. `links` says how targets of links are shown: "notes" numbers links and puts the targets at the end, "inline" puts
     them after each link, "list" at the end without numbers, "none" nowhere; without it that is "notes", or "none" without `footnotes`.
     `base` is the page's address, against which targets are resolved; with `wrap_links` those at the end are cut at the width.
-    `overflow` lets what is wider than a line stay so rather than raise TooNarrow, `raw_tables` stacks the cells of tables, and without
-    `borders` tables are drawn without lines. `keep_controls` keeps control characters of the page, which can control a terminal.
+    `overflow` lets what is wider than a line stay so rather than raise TooNarrow. `tables` says which tables are drawn: those with
+    `data`, `all` or `none`; the others are shown as the blocks and lines in their cells. `raw_tables` stacks the cells of tables, and
+    without `borders` tables are drawn without lines. `pad` fills lines with spaces; without it none are at their ends.
+    `keep_controls` keeps control characters of the page, which can control a terminal.
 
     >>> print(render("<a href=a>b</a>", base="https://c.example/"), end="")
     b[1]
@@ -330,6 +347,8 @@ def render(
     mode = links or ("notes" if footnotes else "none")
     if width < 0:
         raise ValueError("a width is at least 0")
+    if tables not in DRAWN:
+        raise ValueError(f"tables is one of {', '.join(DRAWN)}")
     if mode not in LINK_MODES:
         raise ValueError(f"links are shown as one of {LINK_MODES}")
     if base is not None and not scheme(base):
@@ -339,11 +358,14 @@ def render(
         if title and title_of(tree):
             recording.add_text(recording.add_element(0, "p"), without_controls(title_of(tree), is_shown=True))
         address = base_of(tree, base)
-        notes = recording.add_children(0, tree, width, lambda steps: Inline(steps, decorate, mode, address), keep_controls)
-        for call, wanted, number in ((2, decorate, 0), (1, overflow, 0), (10, raw_tables, 1), (11, not borders, 0)):
+        shown_tables = Tables(tree, width, Signs(decorate, mode), tables, raw_tables)
+        notes = recording.add_children(0, tree, shown_tables, lambda steps: Inline(steps, decorate, mode, address), keep_controls)
+        for call, wanted, number in ((2, decorate, 0), (1, overflow, 0), (10, raw_tables, 1), (11, not borders, 0), (7, pad, 0)):
             if wanted:
                 recording.set(call, number)
         recording.add_rules(decorate)
         text = recording.text(0, width)
+    if not pad:
+        text = "\n".join(line.rstrip(" ") for line in text.split("\n"))
     lines = [line for note in notes for line in (cut(note, width) if wrap_links else [note])]
     return text + "\n" * bool(text and lines) + "".join(line + "\n" for line in lines)

@@ -8,7 +8,7 @@ import re
 from dataclasses import dataclass, replace
 from itertools import takewhile
 
-from html_inline import file_name
+from html_inline import columns_of, file_name, is_visible, leads_out, written
 
 HTML = "http://www.w3.org/1999/xhtml"
 SVG = "http://www.w3.org/2000/svg"
@@ -32,7 +32,7 @@ _FIELDS = frozenset("button input select textarea".split())
 _SIGNED = frozenset("b code em strong".split())
 _LINES = frozenset("blockquote body caption dd div dl dt frameset h1 h2 h3 h4 h5 h6 head hr html li ol p pre ul".split())
 _PREFIXES = {"blockquote": 2, "dd": 2, "h1": 2, "h2": 3, "h3": 4, "h4": 5, "h5": 6, "h6": 7}
-_PARTS = {"table": ("table", None), "tbody": ("section", "table"), "thead": ("section", "table"), "tfoot": ("section", "table")}
+_PARTS = {"table": ("table", None), "caption": ("caption", "table"), "tbody": ("section", "table"), "thead": ("section", "table"), "tfoot": ("section", "table")}
 _PARTS.update({"tr": ("row", "section"), "td": ("cell", "row"), "th": ("cell", "row")})
 _SIZES = frozenset("xx-small x-small small medium large x-large xx-large xxx-large initial".split())
 _SYSTEM_FONTS = frozenset("caption icon menu message-box small-caption status-bar".split())
@@ -45,6 +45,14 @@ _ITEMS = frozenset(["li"])
 _DESCRIPTIONS = frozenset(["dd", "div", "dt"])
 _SHOWN_WITHOUT_TEXT = frozenset("audio embed frame hr iframe img input object video".split())
 _UNREAD = frozenset("head script style template".split())
+_ON_LINES = frozenset("br div dl dt frame li ol p pre textarea ul".split())
+_OWN_SIGNS = {"button": 4, "q": 2, "sup": 3}
+_EMPHASIS_SIGNS = {"b": 4, "strong": 4, "code": 2, "em": 2}
+_IMAGE_SIGNS = 2
+# of a link's number, if a page has fewer than 1,000
+_NUMBER = 5
+_TARGET_SIGNS = 3
+_LABEL_SPACES = 2
 _RULE = "\u2500"
 _RULE_IN_CELL = 3
 
@@ -62,6 +70,7 @@ class Around:
     item_margin: int = 0
     is_in_cell: bool = False
     holds: frozenset = None
+    line: str = None
 
     @property
     def hides_texts(self):
@@ -70,7 +79,8 @@ class Around:
 
     def inside(self):
         """Returns what is known in an element, before what the element itself changes."""
-        return replace(self, part=None, margin=self.margin + self.item_margin, item_margin=0, holds=None)
+        line = "cell" if self.line == "cell" else None
+        return replace(self, part=None, line=line, margin=self.margin + self.item_margin, item_margin=0, holds=None)
 
     def in_loose(self):
         """Returns what is known in an element that shows what is directly in a list."""
@@ -112,8 +122,8 @@ class Items:
 class Shown:
     """How an element is recorded: names and attributes, the outermost one first; texts before and after its children. `run` is what it
     is to the text around it: inline, a line break, apart or a block; `kind` is that of a signed element, a link, an image, a link with
-    its text in `before`, or an object, which is shown without texts of the tree; `titles` are those
-    of a drawing that is recorded before the children."""
+    its text in `before`, an object, which is shown without texts of the tree, or a label; `titles` are those of a drawing that is
+    recorded before the children; `gap` are spaces before the element, which are kept."""
 
     elements: list
     around: Around
@@ -126,6 +136,7 @@ class Shown:
     kind: str = ""
     is_signed: bool = True
     target: str = ""
+    gap: str = ""
 
 
 def without_controls(text, is_shown=False):
@@ -355,8 +366,91 @@ def loose_in(around, item):
     return ("li", False) if item is None else ("div", True)
 
 
-def shown(element, around, columns):
-    """Returns how an element is recorded where a line has so many columns, or None if nothing of it is."""
+def is_hidden(element):
+    """Whether nothing is shown of an element, nor of what is in it."""
+    attributes = _attributes_of(element)
+    return _is_dropped(attributes, _style_of(attributes))
+
+
+@dataclass(frozen=True)
+class Signs:
+    """The signs around texts: whether emphasis has some, and how targets of links are shown."""
+
+    has_emphasis: bool
+    links: str
+
+    def of_link(self, href):
+        """Returns the columns of what follows a link to a target, as far as it is written."""
+        target = written(href)
+        if self.links not in ("notes", "inline") or not leads_out(target):
+            return 0
+        return _NUMBER if self.links == "notes" else columns_of(target) + _TARGET_SIGNS
+
+    def of_element(self, tag):
+        """Returns the columns of the signs around what is in an element."""
+        return _OWN_SIGNS.get(tag, 0) + (_EMPHASIS_SIGNS.get(tag, 0) if self.has_emphasis else 0)
+
+
+def columns_of_image(name):
+    """Returns the columns of an image or a drawing of a name."""
+    return columns_of(name.strip()) + _IMAGE_SIGNS
+
+
+def is_in_drawing(node):
+    """Whether a node is in a drawing, and not in a label of one."""
+    above = node.parentNode
+    return above.nodeType == above.ELEMENT_NODE and above.namespaceURI == SVG and above.tagName not in _LABELS
+
+
+def _seen_in_drawing(element):
+    """Returns how a drawing or an element in one is seen."""
+    tag = element.tagName
+    if tag == "svg" and not is_in_drawing(element):
+        title = "".join(_titles(element))
+        return ("signs", columns_of_image(title)) if is_visible(title) else ("contents", 0)
+    if tag in _HIDDEN_PARTS or _is_alternative(element):
+        return "nothing", 0
+    return "contents", _LABEL_SPACES if tag in _LABELS else 0
+
+
+def _seen_text(element, attributes, signs):
+    """Returns how an element is seen that has a text of its own in the place of what is in it."""
+    tag = element.tagName
+    if tag == "img":
+        name, has_source = attributes.get("alt", ""), attributes.get("src", "").strip() != ""
+        return ("text", columns_of_image(name)) if has_source and is_visible(name) else ("image" if has_source else "nothing", 0)
+    if tag in ("input", "select"):
+        text = _input(attributes) if tag == "input" else _select(element, attributes)
+        return ("nothing", 0) if text is None else ("text", columns_of(text))
+    link = _link(element, attributes)
+    return ("text", columns_of(link[1]) + signs.of_link(link[0])) if link else ("nothing", 0)
+
+
+def seen(element, signs):
+    """Returns how an element in a line is seen, and the columns of its text or its signs: as "nothing", its "contents", the contents of
+    a "link", "signs" around contents, an "image" without a text, a "text" of its own, a "block" or a "table"."""
+    attributes, tag = _attributes_of(element), element.tagName
+    if is_hidden(element):
+        return "nothing", 0
+    if element.namespaceURI != HTML:
+        return _seen_in_drawing(element) if element.namespaceURI == SVG else ("contents", 0)
+    if tag in _DROPPED or tag in _UNREAD or tag == "dialog" and "open" not in attributes:
+        return "nothing", 0
+    if tag == "table":
+        return "table", 0
+    if tag in _WITHIN or tag in _PREFIXES or tag in _PARTS or tag in _ON_LINES or tag == "hr":
+        return "block", 0
+    if tag in ("img", "input", "select") or tag in _EMBEDDED and not (tag == "object" and not attributes.get("data", "").strip()):
+        return _seen_text(element, attributes, signs)
+    if tag == "a" and "href" in attributes:
+        return "link", signs.of_link(attributes["href"])
+    return "signs" if tag in ("button", "q") else "contents", signs.of_element(tag)
+
+
+def shown(element, around, tables):
+    """Returns how an element is recorded, or None if nothing of it is. `tables` says how tables are, and how many columns a line has."""
+    if around.line:
+        tables.reach(element)
     attributes, tag = _attributes_of(element), element.tagName
     style = _style_of(attributes)
     inside = _changed(around, tag, attributes, style)
@@ -369,7 +463,7 @@ def shown(element, around, columns):
     if is_html and around.holds == _DESCRIPTIONS and element.tagName == "div":
         return Shown([], replace(inside, holds=_DESCRIPTIONS))
     if is_html:
-        return _changed_element(recorded, element, attributes, around, columns)
+        return _changed_element(recorded, element, attributes, around, tables)
     if element.namespaceURI == SVG:
         return _in_drawing(recorded, element, attributes)
     return recorded
@@ -402,7 +496,7 @@ def _in_drawing(recorded, element, attributes):
         return Shown([], inside)
     recorded.around = replace(inside, is_in_drawing=False)
     if not recorded.around.hides_texts:
-        recorded.before = recorded.after = " "
+        recorded.kind, recorded.before, recorded.after = "label", " ", " "
     return recorded
 
 
@@ -423,7 +517,7 @@ def _is_all_of_pre(element):
     return pre.nodeName == "pre" and pre.namespaceURI == HTML and all(it.nodeType == it.TEXT_NODE and not it.data.strip(_WHITE) for it in others)
 
 
-def _changed_element(recorded, element, attributes, around, columns):
+def _changed_element(recorded, element, attributes, around, tables):
     """Returns how one of HTML's elements is recorded, with what its name changes."""
     tag, inside = element.tagName, recorded.around
     if tag in _DROPPED or tag == "dialog" and "open" not in attributes:
@@ -451,12 +545,12 @@ def _changed_element(recorded, element, attributes, around, columns):
         recorded.kind = "object" if attributes.get("alt", "").strip() else "image"
     elif tag in _PARTS:
         part, place = _PARTS[tag]
-        if place not in (None, around.part):
-            recorded.elements[0] = ("div", HTML, attributes)
+        if not (tables.is_drawn(element) if place is None else place == around.part):
+            recorded = tables.divided(recorded, element, around)
         else:
             recorded.around = replace(inside, part=part, is_in_cell=inside.is_in_cell or part == "cell")
     elif tag == "hr":
-        width = max(columns - inside.margin, 0)
+        width = max(tables.columns - inside.margin, 0)
         recorded.elements[0] = ("div", HTML, attributes)
         recorded.before = "" if inside.is_invisible else _RULE * (min(width, _RULE_IN_CELL) if inside.is_in_cell else width)
         recorded.has_children = False

@@ -10,6 +10,7 @@ use crate::hiding::Hiding;
 use crate::limits::Refusal;
 use crate::lines::{self, RichAnnotation, TaggedLine, TaggedLineElement, TaggedString};
 use crate::options::{LinkMode, Options};
+use crate::padding;
 use crate::pass::Pass;
 use crate::reader::Reader;
 use crate::record::{self, Recorder};
@@ -105,6 +106,8 @@ pub struct Config<D> {
     text: String,
     /// Number of classes of the rule that has most.
     most_classes: usize,
+    /// Whether a rule selects by the name of a part of a table.
+    names_parts: bool,
     uses_doc_css: bool,
     keeps_controls: bool,
     max_wrap_width: Option<usize>,
@@ -126,6 +129,8 @@ struct Sheets {
     text: String,
     /// Number of classes of the rule that has most.
     most_classes: usize,
+    /// Whether a rule selects by the name of a part of a table.
+    names_parts: bool,
 }
 
 /// Rich text: lines whose characters are annotated.
@@ -149,6 +154,7 @@ impl<D: Decorator> Config<D> {
             settings: Vec::new(),
             text: String::new(),
             most_classes: 0,
+            names_parts: false,
             uses_doc_css: false,
             keeps_controls: false,
             max_wrap_width: None,
@@ -237,6 +243,7 @@ impl<D: Decorator> Config<D> {
         let as_it_is = Filter { keeps_controls: true, ..Filter::default() };
         let sheet = css::read(css, origin, as_it_is, &mut self.settings, |text| keep(texts, text));
         self.most_classes = self.most_classes.max(sheet.most_classes);
+        self.names_parts |= sheet.names_parts;
         if sheet.is_well {
             Ok(self)
         } else {
@@ -300,13 +307,17 @@ impl<D: Decorator> Config<D> {
         let (mut settings, mut text) = (self.settings.clone(), self.text.clone());
         let filter = Filter { keeps_controls: self.keeps_controls, ..Filter::default() };
         let sheet = css::read(css, Origin::Author, filter, &mut settings, |piece| keep(&mut text, piece));
-        Sheets { settings, text, most_classes: self.most_classes.max(sheet.most_classes) }
+        Sheets {
+            settings,
+            text,
+            most_classes: self.most_classes.max(sheet.most_classes),
+            names_parts: self.names_parts || sheet.names_parts,
+        }
     }
 
     /// Returns how targets of links are shown; `None` where links keep them.
     fn link_mode(&self, options: &Options) -> Option<LinkMode> {
-        let has_footnotes = self.settings.iter().rev().find(|setting| setting.kind == call::LINK_FOOTNOTES).map_or(false, |setting| setting.number != 0);
-        let mode = options.links.unwrap_or(if has_footnotes { LinkMode::Notes } else { LinkMode::None });
+        let mode = options.links.unwrap_or(if self.number_of(call::LINK_FOOTNOTES) != 0 { LinkMode::Notes } else { LinkMode::None });
         (!D::HAS_COLOURS).then(|| mode)
     }
 
@@ -327,20 +338,35 @@ impl<D: Decorator> Config<D> {
         })?;
         drop(page);
         let Sink { mut tree, css, is_quirky, .. } = sink;
+        let title = self.options.as_ref().filter(|options| options.shows_title).and_then(|_| adapt::title(&tree));
         let mut sheets = self.sheets(&css);
         let adaptation = self.options.as_ref().map(|options| Adaptation {
             columns: width.min(self.max_wrap_width.unwrap_or(usize::MAX)).min(u32::MAX as usize) as u32,
             has_colours: D::HAS_COLOURS,
-            title: options.shows_title.then(|| adapt::title(&tree)).flatten(),
+            title,
             is_quirky,
             has_signs: self.settings.iter().any(|setting| setting.kind == call::DO_DECORATE),
             links: self.link_mode(options),
             base: options.base.clone(),
             hiding: Hiding::take_from(&mut sheets.settings, &sheets.text),
+            tables: options.tables,
+            names_parts: sheets.names_parts,
+            stacks_cells: self.number_of(call::RAW_MODE) != 0,
+            shows_images: self.number_of(call::EMPTY_IMG_MODE) != 0,
         });
         let text = mem::take(&mut tree.text);
         let (recorder, adapted) = Pass::record(&tree, Recorder::new(text, Filter { drops_soft_hyphens: false, ..filter }), adaptation);
         Ok(Recorded { recorder, adapted, sheets })
+    }
+
+    /// Returns the number of the last setting of a kind, or 0.
+    fn number_of(&self, kind: u32) -> u32 {
+        self.settings.iter().rev().find(|setting| setting.kind == kind).map_or(0, |setting| setting.number)
+    }
+
+    /// Whether spaces at the ends of lines are kept.
+    fn is_padded(&self) -> bool {
+        self.options.as_ref().map_or(true, |options| options.is_padded) || self.settings.iter().any(|setting| setting.kind == call::PAD_BLOCK_WIDTH)
     }
 
     /// Calls a function with the page of a document. Returns what it returns, and the footnotes of the document.
@@ -389,7 +415,8 @@ impl<D: Decorator> Config<D> {
     ///
     /// `IoError` where the input can't be read; `TooNarrow`, `Fail`, `TooLarge` or `OutOfMemory` where it can't be rendered.
     pub fn string_from_read<R: Read>(self, input: R, width: usize) -> Result<String, Error> {
-        let (mut text, footnotes) = self.with_page(input, width, records::text)?;
+        let is_padded = self.is_padded();
+        let (mut text, footnotes) = self.with_page(input, width, |page| records::text(page, |text| padding::kept(text, is_padded))?)?;
         footnotes.append_to(&mut text)?;
         Ok(text)
     }
@@ -402,6 +429,9 @@ impl<D: Decorator> Config<D> {
     pub fn lines_from_read<R: Read>(self, input: R, width: usize) -> Result<Vec<TaggedLine<Vec<D::Annotation>>>, Error> {
         let (lines, footnotes) = self.with_page(input, width, |page| records::lines(page, lines::read))?;
         let mut lines = lines.ok_or(Error::Fail)?;
+        if !self.is_padded() {
+            lines.iter_mut().for_each(|line| line.trim_end(|tag| !tag.iter().any(shows_spaces)));
+        }
         footnotes.append_to_lines(&mut lines);
         Ok(lines.into_iter().map(|line| line.map(annotated::<D>)).collect())
     }
@@ -431,6 +461,11 @@ fn push_rules_without_signs(has_class: bool, settings: &mut Vec<Setting>, mut ke
     if has_class {
         settings.extend(css::without_signs(Unsigned::Class(keep(UNSIGNED_CLASS))));
     }
+}
+
+/// Whether spaces under an annotation can be seen.
+fn shows_spaces(annotation: &RichAnnotation) -> bool {
+    matches!(annotation, RichAnnotation::BgColour(_) | RichAnnotation::Link(_) | RichAnnotation::Strikeout)
 }
 
 /// Where a text begins behind others, and its length.

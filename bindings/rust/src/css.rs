@@ -73,6 +73,9 @@ const DISPLAY_NONE: u32 = 2;
 pub(crate) const WHITE_SPACE: u32 = 3;
 const CONTENT: u32 = 4;
 
+/// Number of the value `pre-wrap` of `white-space`.
+pub(crate) const PRE_WRAP: u32 = 2;
+
 const IMPORTANT: u32 = 4;
 const HAS_ELEMENT: u32 = 32;
 const HAS_ID: u32 = 64;
@@ -319,17 +322,22 @@ fn setting(origin: Origin, selector: &Selector, declaration: &Declaration, filte
     Setting { flags, text, text_length, element, element_length, ..rule }
 }
 
-/// Returns the selector under which an element is recorded that has another name there: an `hr` is a `div` of a private class.
+/// Whether an element of this name is a part of a table, which is recorded under another name where the table isn't drawn.
+fn is_part(name: &str) -> bool {
+    matches!(name, "caption" | "table" | "tbody" | "td" | "tfoot" | "th" | "thead" | "tr")
+}
+
+/// Returns the selector under which an element is recorded that has another name there: an `hr` is a `div` of a private class, and a
+/// part of a table is a `div` or a `span` of one.
 fn renamed(selector: &Selector) -> Option<Selector> {
-    let mut selector = selector.clone();
-    match selector.element.as_deref() {
-        Some("hr") => {
-            selector.element = Some("div".to_owned());
-            selector.classes.push(RULE_CLASS.to_owned());
-            Some(selector)
-        }
-        _ => None,
-    }
+    let (element, class) = match selector.element.as_deref()? {
+        "hr" => (Some("div".to_owned()), RULE_CLASS.to_owned()),
+        name if is_part(name) => (None, format!("\0{name}")),
+        _ => return None,
+    };
+    let mut renamed = Selector { element, ..selector.clone() };
+    renamed.classes.push(class);
+    Some(renamed)
 }
 
 /// What is read of a style sheet.
@@ -337,6 +345,8 @@ fn renamed(selector: &Selector) -> Option<Selector> {
 pub(crate) struct Sheet {
     /// Number of classes of the selector that has most.
     pub most_classes: usize,
+    /// Whether a rule selects by the name of a part of a table.
+    pub names_parts: bool,
     /// Whether each of its rules has a block.
     pub is_well: bool,
 }
@@ -345,13 +355,14 @@ pub(crate) struct Sheet {
 pub(crate) fn read(css: &str, origin: Origin, filter: Filter, settings: &mut Vec<Setting>, mut keep: impl FnMut(&str) -> Piece) -> Sheet {
     let mut input = ParserInput::new(css);
     let mut parser = Parser::new(&mut input);
-    let mut sheet = Sheet { most_classes: 0, is_well: true };
+    let mut sheet = Sheet { is_well: true, ..Sheet::default() };
     for rule in RuleListParser::new_for_stylesheet(&mut parser, Rules) {
         match rule {
             Ok(rule) => {
                 let renamed: Vec<Selector> = rule.selectors.iter().filter_map(renamed).collect();
                 for selector in rule.selectors.iter().chain(&renamed) {
                     sheet.most_classes = sheet.most_classes.max(selector.classes.len());
+                    sheet.names_parts |= !rule.declarations.is_empty() && selector.element.as_deref().map_or(false, is_part);
                     settings.extend(rule.declarations.iter().map(|declaration| setting(origin, selector, declaration, filter, &mut keep)));
                 }
             }

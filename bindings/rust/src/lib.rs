@@ -28,6 +28,7 @@ mod names;
 mod options;
 #[cfg(test)]
 mod outline;
+mod padding;
 mod pass;
 mod reader;
 mod record;
@@ -37,7 +38,7 @@ mod tree;
 
 pub use error::Error;
 pub use lines::{Colour, RichAnnotation, TaggedLine, TaggedLineElement, TaggedString};
-pub use options::{LinkMode, Options};
+pub use options::{LinkMode, Options, Tables};
 pub use records::give_back_large_blocks;
 
 use std::io::Read;

@@ -68,6 +68,21 @@ impl<T> TaggedLine<T> {
         TaggedLine { elements: self.elements.into_iter().map(made).collect() }
     }
 
+    /// Removes the spaces at its end, in strings of which a function says so by their tags.
+    pub(crate) fn trim_end(&mut self, is_trimmed: impl Fn(&T) -> bool) {
+        for at in (0..self.elements.len()).rev() {
+            if let TaggedLineElement::Str(string) = &mut self.elements[at] {
+                if is_trimmed(&string.tag) {
+                    string.s.truncate(string.s.trim_end_matches(' ').len());
+                }
+                if !string.s.is_empty() {
+                    return;
+                }
+                self.elements.remove(at);
+            }
+        }
+    }
+
     /// Its elements, in order.
     pub fn iter(&self) -> impl Iterator<Item = &TaggedLineElement<T>> + '_ {
         self.elements.iter()

@@ -19,8 +19,20 @@ pub enum LinkMode {
     None,
 }
 
-/// How a page is read as a browser reads it: its encoding and its address, and whether its title and the targets of its links are
-/// shown. [`Config::as_shown`] takes it.
+/// The tables of a page that are drawn, with their cells side by side. The others are shown as the blocks and lines in their cells.
+#[derive(Clone, Copy, Debug, Default, PartialEq, Eq)]
+pub enum Tables {
+    /// All.
+    All,
+    /// Those with data in several columns: they have a `th`, a `caption`, a `thead`, a `summary` or a border, or two rows with
+    /// something to show in several cells. Neither those with other tables in them, nor those whose `role` is `presentation` or `none`.
+    #[default]
+    Data,
+    /// None.
+    None,
+}
+
+/// How a page is read as a browser reads it: its encoding and its address, and what is shown of it. [`Config::as_shown`] takes it.
 ///
 /// ```
 /// use html_render::{config, Options};
@@ -38,6 +50,8 @@ pub struct Options {
     pub(crate) base: Option<Url>,
     pub(crate) links: Option<LinkMode>,
     pub(crate) wraps_links: bool,
+    pub(crate) tables: Tables,
+    pub(crate) is_padded: bool,
 }
 
 impl Options {
@@ -85,5 +99,15 @@ impl Options {
     /// Whether the targets at the end are cut at the width. Without the call they may pass it.
     pub fn wrap_links(self, wraps: bool) -> Options {
         Options { wraps_links: wraps, ..self }
+    }
+
+    /// Chooses the tables that are drawn. Without the call they are those of data.
+    pub fn tables(self, tables: Tables) -> Options {
+        Options { tables, ..self }
+    }
+
+    /// Keeps the spaces at the ends of lines that fill the last cells of tables.
+    pub fn pad(self) -> Options {
+        Options { is_padded: true, ..self }
     }
 }

@@ -35,8 +35,8 @@ pub(crate) enum End {
     Button,
     /// The mark at the end of a quotation in so many others is recorded.
     Quotation(u8),
-    /// The space after a label of a drawing is recorded.
-    Label,
+    /// The space after a label of a drawing is recorded; in a line of cells, unless the cell shows nothing after it.
+    Label { is_in_line: bool },
     /// Its signs are looked at.
     Signed,
     /// Its number is recorded.
@@ -115,18 +115,26 @@ impl<'a> Pass<'a> {
             match self.tree.data(node) {
                 Data::Text { start, length, continues } => {
                     let context = frame.place.context;
+                    let mut piece = (*start, *length);
+                    if context.is_in_line() {
+                        let adapter = self.adapter.as_mut();
+                        match adapter.and_then(|adapter| adapter.cut_text(&self.recorder.text, node, piece)) {
+                            Some(cut) => piece = cut,
+                            None => continue,
+                        }
+                    }
                     if context.hides_texts() {
                         continue;
                     }
                     let is_apart = frame.last == Last::Text && !continues;
                     frame.last = Last::Text;
-                    let parent = self.parent_of_text((*start, *length));
+                    let parent = self.parent_of_text(piece);
                     if is_apart {
                         self.recorder.part_texts(parent);
                     }
                     let piece = match &mut self.adapter {
-                        Some(adapter) => adapter.add_text(&mut self.recorder, (*start, *length)),
-                        None => (*start, *length),
+                        Some(adapter) => adapter.add_text(&mut self.recorder, piece),
+                        None => piece,
                     };
                     if piece.1 > 0 {
                         self.recorder.text(parent, piece);

@@ -162,14 +162,11 @@ pub fn give_back_large_blocks() {
     }
 }
 
-/// The text of a page.
-pub(crate) fn text(page: Page<'_>) -> Result<String, Error> {
+/// The text of a page, which a function reads.
+pub(crate) fn text<T>(page: Page<'_>, read: impl FnOnce(&str) -> T) -> Result<T, Error> {
     let given = rendered(html_render_text, page)?;
-    let mut text = Vec::new();
-    text.try_reserve_exact(given.bytes().len()).map_err(|_| Error::OutOfMemory)?;
-    text.extend_from_slice(given.bytes());
     // SAFETY: they are the bytes of a text, as the library's contract says
-    Ok(unsafe { String::from_utf8_unchecked(text) })
+    Ok(read(unsafe { std::str::from_utf8_unchecked(given.bytes()) }))
 }
 
 /// The lines of a page, as records, which a function reads.

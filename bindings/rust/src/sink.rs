@@ -64,7 +64,11 @@ impl TreeSink for Sink {
     }
 
     fn create_element(&mut self, name: QualName, attributes: Vec<Attribute>, flags: ElementFlags) -> Id {
+        let is_table = name.local == local_name!("table");
         let node = self.tree.add_element(name, attributes, self.wanted.is_asked);
+        if is_table {
+            self.tree.tables.push(node);
+        }
         if flags.mathml_annotation_xml_integration_point {
             if let Some(element) = self.tree.element_mut(node) {
                 element.is_integration_point = true;

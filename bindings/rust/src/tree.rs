@@ -76,6 +76,8 @@ pub(crate) type Piece = (u32, u32);
 pub(crate) struct Tree {
     nodes: Vec<Node>,
     attributes: Vec<Attr>,
+    /// The elements named `table`.
+    pub tables: Vec<Id>,
     pub text: Vec<u8>,
     pub filter: Filter,
     /// Whether the text passes what 32 bits can name, or memory is out.
@@ -85,7 +87,7 @@ pub(crate) struct Tree {
 impl Tree {
     /// Returns the tree of a document without children, whose texts go through a filter.
     pub fn new(filter: Filter) -> Tree {
-        let mut tree = Tree { nodes: Vec::new(), attributes: Vec::new(), text: Vec::new(), filter, is_out_of_memory: false };
+        let mut tree = Tree { nodes: Vec::new(), attributes: Vec::new(), tables: Vec::new(), text: Vec::new(), filter, is_out_of_memory: false };
         tree.add(Data::Root);
         tree
     }

@@ -84,10 +84,16 @@ fn widths() {
 
 #[test]
 fn tables() {
-    let table = "<table><tr><td>a<td>b</table>";
+    let table = "<table border=1><tr><td>a<td>b</table>";
     assert_eq!(text(&["--no-borders"], table), "a b\n");
     assert_eq!(text(&["--raw-tables"], table), "a\nb\n");
     assert_eq!(text(&["--no-borders", "--fence-tables"], table), "```\na b\n```\n");
+    assert_eq!(text(&["--tables=none"], table), "a  b\n");
+    assert_eq!(text(&["--tables", "none", "--raw-tables"], table), "a\nb\n");
+    let layout = "<table><tr><td>a<td>b</table>";
+    assert_eq!(text(&[], layout), "a  b\n");
+    assert_eq!(text(&["--tables=data"], layout), "a  b\n");
+    assert_eq!(text(&["--tables=all"], layout), text(&[], table));
 }
 
 #[test]
@@ -112,6 +118,7 @@ fn faults() {
     assert_eq!(fault(&["--css", "h1"], "x").0, 2);
     assert_eq!(fault(&["--charset", "klingon"], "").0, 2);
     assert_eq!(fault(&["--pad=1"], "").0, 2);
+    assert_eq!(fault(&["--tables=some"], ""), (2, "htext: no such tables: some; htext --help tells how\n".to_owned()));
     let (status, message) = fault(&["no/such.html"], "");
     assert!(status == 3 && message.starts_with("htext: no/such.html: "), "{message}");
     assert!(fault(&["--narrow", "-w1"], "\u{754c}").1.starts_with("htext: -: "));

@@ -1,7 +1,7 @@
 //! What a browser shows of a page: the cases of `shown/cases.txt`, and what they can't say.
 
-use html_render::config::{plain, plain_no_decorate, rich, Config, PlainDecorator, RichDecorator};
-use html_render::{from_read, render, Colour, Options, RichAnnotation};
+use html_render::config::{plain, plain_no_decorate, rich, Config, ImageRenderMode, PlainDecorator, RichDecorator};
+use html_render::{from_read, render, Colour, Options, RichAnnotation, Tables};
 use std::collections::BTreeSet;
 
 const CASES: &str = include_str!("../../shown/cases.txt");
@@ -99,6 +99,67 @@ fn rules_are_never_too_narrow() {
             assert!(text.lines().all(|line| line.chars().count() <= width && line.trim_end() != "─ ─"), "{page} at {width}: {text}");
         }
     }
+}
+
+#[test]
+fn tables_that_are_drawn() {
+    let page = "<table><tr><td>a<td>b</table><table border=1><tr><td>c<td>d</table>";
+    let text = |tables| plain().as_shown(Options::new().tables(tables)).string_from_read(page.as_bytes(), 20).unwrap();
+    assert_eq!(text(Tables::None), "a  b\nc  d\n");
+    assert_eq!(text(Tables::Data), "a  b\n\n─┬─\nc│d\n─┴─\n");
+    assert_eq!(text(Tables::All), "─┬─\na│b\n─┴─\n\n─┬─\nc│d\n─┴─\n");
+}
+
+#[test]
+fn rules_for_parts_of_tables_that_are_not_drawn() {
+    let page = "<table class=t role=none><caption>a</caption><tr><td id=b>b<br><td>c<tr class=d><th>d</table>e";
+    for (css, wanted) in [
+        ("p { color: red }", "a\nb\nc\nd\ne\n"),
+        ("td { display: none }", "a\nd\ne\n"),
+        ("td#b { display: none }", "a\nc\nd\ne\n"),
+        ("th { display: none }", "a\nb\nc\ne\n"),
+        ("tr.d { display: none }", "a\nb\nc\ne\n"),
+        ("caption { display: none }", "b\nc\nd\ne\n"),
+        ("tbody { display: none }", "a\ne\n"),
+        ("table.t { display: none }", "e\n"),
+        ("div { display: none }", "a\nb\nc\nd\ne\n"),
+        ("td::before { content: '-' } tr::after { content: ';' }", "a\n-b\n-c\n;\nd\n;\ne\n"),
+    ] {
+        assert_eq!(shown(page, plain().add_css(css).unwrap(), 80), wanted, "{css}");
+        assert_eq!(shown(&format!("<style>{css}</style>{page}"), plain().use_doc_css(), 80), wanted, "{css}");
+    }
+}
+
+#[test]
+fn rows_that_pass_the_width_are_wrapped() {
+    // texts of rules aren't counted
+    let page = "<table><tr><td>one two<td>three<td>four</table>";
+    assert_eq!(shown(page, plain().add_css("td::before { content: '--' }").unwrap(), 20), "--one two  --three\n--four\n");
+}
+
+#[test]
+fn images_in_cells() {
+    let page = "<table><tr><td>a<td><img src='x/b.png'><td>c</table>";
+    assert_eq!(shown(page, plain(), 80), "a  c\n");
+    assert_eq!(shown(page, plain().empty_img_mode(ImageRenderMode::Filename), 80), "a  [b.png]  c\n");
+}
+
+#[test]
+fn spaces_at_the_ends_of_lines() {
+    let page = "<table border=1><tr><td>a<td>bc<tr><td>d<td style='background-color: red'>e</table>";
+    let drawn = "─┬──\na│bc\n─┼──\nd│e";
+    assert_eq!(shown(page, plain(), 80), format!("{drawn}\n─┴──\n"));
+    let padded = format!("{drawn} \n─┴──\n");
+    assert_eq!(plain().as_shown(Options::new().pad()).string_from_read(page.as_bytes(), 80).unwrap(), padded);
+    assert_eq!(from_read(page.as_bytes(), 80).unwrap(), padded);
+    assert_eq!(shown("<p>a", plain().pad_block_width(), 3), "a  \n");
+    let lines = |config: Config<RichDecorator>| {
+        let lines = config.lines_from_read("<pre>a  <b>  </b><p style='background-color: red'>b  </p><a href=x>c  </a></pre>".as_bytes(), 80).unwrap();
+        let texts = lines.iter().map(|line| line.tagged_strings().map(|string| string.s.as_str()).collect::<String>());
+        texts.collect::<Vec<_>>()
+    };
+    assert_eq!(lines(rich().as_shown(Options::new())), ["a", "", "b  ", "", "c  "]);
+    assert_eq!(lines(rich().as_shown(Options::new().pad())), ["a    ", "", "b  ", "", "c  "]);
 }
 
 #[test]

@@ -23,11 +23,16 @@ fn is_alternative(tree: &Tree, node: Id) -> bool {
     is_named(tree, tree.parent(node), &local_name!("switch")) && tree.siblings_before(node).any(|sibling| tree.element(sibling).is_some())
 }
 
+/// Whether an element of SVG shows texts in a place of their own.
+pub(super) fn is_label(element: &Element) -> bool {
+    matches!(element.name, local_name!("foreignObject") | local_name!("text") | local_name!("tspan"))
+}
+
 /// Returns how an element of SVG in a drawing is shown.
 pub(super) fn part_of(tree: &Tree, node: Id, element: &Element) -> Part {
     match element.name {
         _ if is_alternative(tree, node) => Part::Hidden,
-        local_name!("foreignObject") | local_name!("text") | local_name!("tspan") => Part::Label,
+        _ if is_label(element) => Part::Label,
         local_name!("clipPath")
         | local_name!("defs")
         | local_name!("desc")

@@ -86,6 +86,7 @@ pub(crate) enum Field {
 #[derive(Clone, Copy, Debug, PartialEq, Eq)]
 pub(crate) enum Part {
     Table,
+    Caption,
     Section,
     Row,
     Cell,
@@ -163,6 +164,7 @@ pub(crate) fn change_of(name: &LocalName) -> Change {
         local_name!("h5") => Change::Heading(6),
         local_name!("h6") => Change::Heading(7),
         local_name!("table") => Change::Table(Part::Table),
+        local_name!("caption") => Change::Table(Part::Caption),
         local_name!("tbody") | local_name!("tfoot") | local_name!("thead") => Change::Table(Part::Section),
         local_name!("tr") => Change::Table(Part::Row),
         local_name!("td") | local_name!("th") => Change::Table(Part::Cell),

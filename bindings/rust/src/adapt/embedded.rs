@@ -51,7 +51,7 @@ fn can_be_followed(address: &str) -> bool {
 }
 
 /// Returns the part of an address that names a file; the host where it has no path, or else all.
-fn file_name(address: &str) -> &str {
+pub(crate) fn file_name(address: &str) -> &str {
     let address = address.trim();
     let path = address.split(|c| c == '?' || c == '#').next().unwrap_or(address).trim_end_matches('/');
     match path.rsplit('/').next() {

@@ -36,13 +36,18 @@ impl Margins {
         self.is_in_cell = true;
     }
 
+    /// Returns the columns that the prefixes leave, where a line of the document has so many.
+    pub fn room(self, columns: u32) -> u32 {
+        columns.saturating_sub(self.columns)
+    }
+
     /// Returns the columns of a rule, where a line of the document has so many.
     pub fn rule(self, columns: u32) -> u32 {
-        let rest = columns.saturating_sub(self.columns);
+        let room = self.room(columns);
         if self.is_in_cell {
-            rest.min(RULE_IN_CELL)
+            room.min(RULE_IN_CELL)
         } else {
-            rest
+            room
         }
     }
 }

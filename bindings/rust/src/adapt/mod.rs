@@ -2,6 +2,7 @@
 //!
 //! `docs/HTML.md` has a row for each: the element, what a browser does, what is shown, and the option that changes it.
 
+mod contents;
 mod drawings;
 mod elements;
 mod embedded;
@@ -14,7 +15,9 @@ mod lists;
 mod margins;
 mod numbers;
 mod private;
+mod rows;
 mod style;
+mod tables;
 mod targets;
 
 pub(crate) use elements::Run;
@@ -24,7 +27,7 @@ pub(crate) use numbers::Numbers;
 pub(crate) use private::{PrivateRules, RULE_CLASS};
 
 use crate::hiding::Hiding;
-use crate::options::LinkMode;
+use crate::options::{LinkMode, Tables};
 use crate::pass::{End, Entered, Last, Place};
 use crate::record::{self, Handle, Recorder};
 use crate::tree::{Attr, Data, Element, Id, Piece, Tree, DOCUMENT, NONE};
@@ -36,8 +39,10 @@ use links::Links;
 use lists::Filled;
 use margins::{Margins, BULLET};
 use numbers::Plan;
+use rows::{Line, Row};
 use std::rc::Rc;
 use style::{InlineStyle, Styles};
+use tables::Nesting;
 use tendril::StrTendril;
 use url::Url;
 
@@ -54,6 +59,7 @@ pub(crate) struct Context {
     quotations: u8,
     /// The part of a table that is directly around, as it is recorded.
     part: Option<Part>,
+    line: Line,
     /// What the element directly around holds.
     pub holds: Holds,
     margins: Margins,
@@ -74,9 +80,14 @@ impl Context {
         self.is_invisible || self.has_no_size || self.is_in_drawing
     }
 
+    /// Whether texts are those of a row that is one line, or of a cell that has nothing to show.
+    pub fn is_in_line(&self) -> bool {
+        self.line != Line::Elsewhere
+    }
+
     /// Returns the context in an element, before what the element itself changes.
     fn inside(self) -> Context {
-        Context { part: None, holds: Holds::Anything, margins: self.margins.inside(), ..self }
+        Context { part: None, line: self.line.inside(), holds: Holds::Anything, margins: self.margins.inside(), ..self }
     }
 }
 
@@ -102,6 +113,22 @@ pub(crate) struct Adaptation {
     pub base: Option<Url>,
     /// The rules of style sheets that hide elements.
     pub hiding: Hiding,
+    /// The tables that are drawn.
+    pub tables: Tables,
+    /// Whether a rule selects by the name of a part of a table.
+    pub names_parts: bool,
+    /// Whether cells are never side by side on a line.
+    pub stacks_cells: bool,
+    /// Whether images without an `alt` are shown.
+    pub shows_images: bool,
+}
+
+impl Adaptation {
+    /// Whether a rule hides an element of these attributes, which say something of it.
+    fn is_hidden_by_rule(&self, element: &Element, attributes: &[Attr], said: &Said) -> bool {
+        let is_displayed = said.style.as_ref().map_or(false, InlineStyle::is_displayed);
+        self.hiding.hides(&element.name, attributes, is_displayed)
+    }
 }
 
 /// What an adapted document needs beside its steps.
@@ -127,14 +154,17 @@ pub(crate) fn is_asked(name: &LocalName) -> bool {
     record::is_asked(name)
         || matches!(
             *name,
-            local_name!("checked")
+            local_name!("border")
+                | local_name!("checked")
                 | local_name!("data")
                 | local_name!("hidden")
                 | local_name!("multiple")
                 | local_name!("open")
                 | local_name!("reversed")
+                | local_name!("role")
                 | local_name!("selected")
                 | local_name!("style")
+                | local_name!("summary")
                 | local_name!("title")
                 | local_name!("type")
                 | local_name!("value")
@@ -193,13 +223,16 @@ pub(crate) struct Adapter<'a> {
     filled: Filled,
     styles: Styles,
     inline: Inline,
+    nesting: Nesting,
+    row: Row,
     rules: PrivateRules,
 }
 
 impl<'a> Adapter<'a> {
     pub fn new(tree: &'a Tree, mut adaptation: Adaptation) -> Adapter<'a> {
         let inline = Inline::new(Links::new(adaptation.links, adaptation.base.take()), adaptation.has_signs);
-        Adapter { tree, adaptation, filled: Filled::default(), styles: Styles::default(), inline, rules: PrivateRules::default() }
+        let (filled, styles, nesting, row, rules) = Default::default();
+        Adapter { tree, adaptation, filled, styles, inline, nesting, row, rules }
     }
 
     /// Returns what the recorded document needs beside its steps.
@@ -237,7 +270,8 @@ impl<'a> Adapter<'a> {
                 let mark = recorder.keep(quotation_marks(quotations).1);
                 self.inline.record_text(recorder, handle, mark);
             }
-            End::Label => {
+            End::Label { is_in_line: true } if self.row.is_at_end() => {}
+            End::Label { .. } => {
                 let space = recorder.keep(" ");
                 self.inline.record_text(recorder, handle, space);
             }
@@ -260,6 +294,9 @@ impl<'a> Adapter<'a> {
 
     /// Records an element, and what of its contents isn't in the tree. Returns where its children are recorded, if they are.
     pub fn open(&mut self, recorder: &mut Recorder, node: Id, element: &'a Element, around: Place) -> Option<Entered> {
+        if around.context.is_in_line() {
+            self.row.reach(node);
+        }
         let attributes = self.tree.attributes(element);
         let is_html = element.space == ns!(html);
         let said = self.said_by(attributes, is_html);
@@ -278,7 +315,8 @@ impl<'a> Adapter<'a> {
             context.holds = Holds::Descriptions;
             return Some(Entered::new(around.handle, context));
         }
-        let run = change.run();
+        let is_piece_of_line = around.context.line == Line::Row && change == Change::Table(Part::Cell);
+        let run = if is_piece_of_line { Run::Apart } else { change.run() };
         self.inline.begin(recorder, run);
         let mut entered = self.open_changed(recorder, &mut opened, change, around, context);
         if let (Some(Entered { end: end @ End::Inline, .. }), true) = (&mut entered, run != Run::Inline) {
@@ -344,7 +382,7 @@ impl<'a> Adapter<'a> {
                 context.margins.add(columns);
                 Some(Entered::new(self.record(recorder, opened), context))
             }
-            Change::Table(part) => Some(self.open_part(recorder, opened, part, around.context.part, context)),
+            Change::Table(part) => Some(self.open_part(recorder, opened, part, around.context, context)),
         }
     }
 
@@ -368,12 +406,7 @@ impl<'a> Adapter<'a> {
     /// Whether nothing of an element is shown, by its attributes or by a rule.
     #[inline(always)]
     fn is_hidden(&self, element: &Element, attributes: &[Attr], said: &Said) -> bool {
-        said.drops() || self.adaptation.hiding.has_rules() && self.is_hidden_by_rule(element, attributes, said)
-    }
-
-    fn is_hidden_by_rule(&self, element: &Element, attributes: &[Attr], said: &Said) -> bool {
-        let is_displayed = said.style.as_ref().map_or(false, InlineStyle::is_displayed);
-        self.adaptation.hiding.hides(&element.name, attributes, is_displayed)
+        said.drops() || self.adaptation.hiding.has_rules() && self.adaptation.is_hidden_by_rule(element, attributes, said)
     }
 
     fn is_hidden_item(&self, item: Id) -> bool {
@@ -394,6 +427,12 @@ impl<'a> Adapter<'a> {
         let said = self.said_by(attributes, true);
         let part = Opened { start: Some(start), ..Opened::new(list, element, attributes, numbers.parent, said) };
         Some(self.record(recorder, &part))
+    }
+
+    /// Returns what is recorded of a text in a row that is one line, or in a cell that has nothing to show. The texts of the tree are
+    /// ranges of `text`.
+    pub fn cut_text(&mut self, text: &[u8], node: Id, piece: Piece) -> Option<Piece> {
+        self.row.cut(text, node, piece)
     }
 
     /// Records the element that shows what is directly in a list: a division of the item before it, or an item or a description.
@@ -492,9 +531,12 @@ impl<'a> Adapter<'a> {
         if context.hides_texts() {
             return Entered::new(handle, context);
         }
-        let space = recorder.keep(" ");
-        self.inline.record_text(recorder, handle, space);
-        Entered { last: Last::Joined, end: End::Label, ..Entered::new(handle, context) }
+        let is_in_line = context.is_in_line();
+        if !is_in_line || !self.row.is_at_start() {
+            let space = recorder.keep(" ");
+            self.inline.record_text(recorder, handle, space);
+        }
+        Entered { last: Last::Joined, end: End::Label { is_in_line }, ..Entered::new(handle, context) }
     }
 
     /// Records a `q`, and the mark at its start.
@@ -562,17 +604,17 @@ impl<'a> Adapter<'a> {
         Entered::new(inner, context)
     }
 
-    /// Records a part of a table under its name if it is in its right place, and as a division if not: the library refuses a table's
-    /// parts outside of one.
-    fn open_part(&mut self, recorder: &mut Recorder, opened: &Opened<'_>, part: Part, around: Option<Part>, mut context: Context) -> Entered {
-        let is_in_place = match part {
-            Part::Table => true,
-            Part::Section => around == Some(Part::Table),
-            Part::Row => around == Some(Part::Section),
-            Part::Cell => around == Some(Part::Row),
+    /// Records a part of a table that is drawn under its name if it is in its right place, and as a division if not: the library refuses
+    /// a table's parts outside of one.
+    fn open_part(&mut self, recorder: &mut Recorder, opened: &Opened<'_>, part: Part, around: Context, mut context: Context) -> Entered {
+        let is_drawn = match part {
+            Part::Table => self.is_drawn(&recorder.text, opened.node),
+            Part::Caption | Part::Section => around.part == Some(Part::Table),
+            Part::Row => around.part == Some(Part::Section),
+            Part::Cell => around.part == Some(Part::Row),
         };
-        if !is_in_place {
-            return Entered::new(self.record_as(recorder, opened, &local_name!("div"), ""), context);
+        if !is_drawn {
+            return self.open_division(recorder, opened, part, around.line, context);
         }
         context.part = Some(part);
         if part == Part::Cell {

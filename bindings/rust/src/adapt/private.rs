@@ -51,6 +51,11 @@ impl PrivateRules {
         }
     }
 
+    /// Adds the rule of elements whose white space is kept where it fits on a line. Appends their class.
+    pub fn keep_spaces(&mut self, classes: &mut String) {
+        self.declare((css::WHITE_SPACE, css::PRE_WRAP, false), None, classes);
+    }
+
     fn declare(&mut self, declaration: Declaration, id: Option<Piece>, classes: &mut String) {
         let next = self.declarations.len() as u32;
         let number = *self.classes.entry(declaration).or_insert(next);

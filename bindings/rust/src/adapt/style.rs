@@ -75,6 +75,14 @@ impl InlineStyle {
         style
     }
 
+    /// Whether the value of an attribute `style` has a word that is in every declaration which drops an element, or may be one that is
+    /// written with escapes.
+    pub fn can_drop(text: &str) -> bool {
+        let text = text.as_bytes();
+        let has = |word: &[u8]| text.windows(word.len()).any(|found| found.eq_ignore_ascii_case(word));
+        text.contains(&b'\\') || has(b"none") || has(b"hid") || has(b"clip")
+    }
+
     fn declare(&mut self, declaration: Declared<Property>) {
         let is_important = declaration.is_important;
         match declaration.value {
@@ -249,11 +257,13 @@ mod tests {
             "overflow:hidden;max-height:0px",
             "max-height: 0em; overflow: visible hidden",
         ] {
-            assert!(drops(style), "{style}");
+            assert!(drops(style) && InlineStyle::can_drop(style), "{style}");
         }
         for style in ["", "display: inline-block", "display: none; display: block", "display: none-such x y", "max-height: 0", "overflow: hidden", "max-height: 1px; overflow: hidden", "mso-hide: none"] {
             assert!(!drops(style), "{style}");
         }
+        assert!(drops("display: n\\6fne") && InlineStyle::can_drop("display: n\\6fne"));
+        assert!(!InlineStyle::can_drop("color: red; width: 100%"));
         assert!(InlineStyle::of("").drops(true));
         assert!(!InlineStyle::of("display: flex").drops(true));
     }

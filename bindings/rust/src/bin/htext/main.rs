@@ -35,11 +35,13 @@ none, as text wrapped to a width.
       --wrap-links    targets at the end are cut at the width
       --no-wrap-links they aren't, and may pass it (default)
       --base URL      the address of the page, against which targets are resolved
+      --tables WHICH  tables that are drawn: data (default), all, none; the others
+                      are shown as the blocks and lines in their cells
       --raw-tables    cells of tables stand one below another
       --no-borders    tables are drawn without borders
       --fence-tables  tables stand between lines of three backquotes
       --max-width N   a paragraph's lines have at most N columns
-      --pad           lines are filled with spaces
+      --pad           lines are filled with spaces; without it none end with one
       --images MODE   of images without a text: none, name (of the file), always
       --narrow        fail where a character or a prefix is wider than a line,
                       rather than let it stand beyond the width

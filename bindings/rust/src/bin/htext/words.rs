@@ -1,6 +1,6 @@
 //! The words of the command line.
 
-use html_render::{LinkMode, Options};
+use html_render::{LinkMode, Options, Tables};
 use std::ffi::{OsStr, OsString};
 use std::mem;
 use std::os::unix::ffi::{OsStrExt, OsStringExt};
@@ -176,6 +176,15 @@ impl Choices {
                     other => return Err(Usage(format!("no such mode: {other}"))),
                 }
             }
+            "--tables" => {
+                let tables = match word.text(words)?.as_str() {
+                    "all" => Tables::All,
+                    "data" => Tables::Data,
+                    "none" => Tables::None,
+                    other => return Err(Usage(format!("no such tables: {other}"))),
+                };
+                self.options = mem::take(&mut self.options).tables(tables);
+            }
             "--css" => self.css.push_str(&word.text(words)?),
             "--max-width" => self.changes.push(Change::MaxWidth(word.number(words)?)),
             "--images" => self.changes.push(Change::Images(match word.text(words)?.as_str() {
@@ -210,7 +219,10 @@ impl Choices {
             "--raw-tables" => Change::RawTables,
             "--no-borders" => Change::NoBorders,
             "--fence-tables" => Change::FenceTables,
-            "--pad" => Change::Pad,
+            "--pad" => {
+                self.options = mem::take(&mut self.options).pad();
+                Change::Pad
+            }
             "--page-css" => Change::PageCss,
             "--keep-controls" => Change::KeepControls,
             other => return Err(Usage(format!("no such option: {other}"))),

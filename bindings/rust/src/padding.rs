@@ -1,0 +1,41 @@
+//! Spaces at the ends of lines, with which the library fills the cells of tables.
+
+use crate::error::Error;
+use memchr::memmem;
+
+/// Returns a text in memory that may be refused, with the spaces at the ends of its lines or without them.
+pub(crate) fn kept(text: &str, is_padded: bool) -> Result<String, Error> {
+    let mut kept = String::new();
+    kept.try_reserve_exact(text.len()).map_err(|_| Error::OutOfMemory)?;
+    if is_padded {
+        kept.push_str(text);
+    } else {
+        push_trimmed(text, &mut kept);
+    }
+    Ok(kept)
+}
+
+/// Appends the lines of a text, without the spaces at their ends. Lines without any are appended together.
+fn push_trimmed(text: &str, to: &mut String) {
+    let bytes = text.as_bytes();
+    let mut start = 0;
+    for last in memmem::find_iter(bytes, b" \n") {
+        let spaces = bytes[start..last].iter().rev().take_while(|&&byte| byte == b' ').count();
+        to.push_str(&text[start..last - spaces]);
+        start = last + 1;
+    }
+    to.push_str(&text[start..]);
+}
+
+#[cfg(test)]
+mod tests {
+    use super::*;
+
+    #[test]
+    fn ends_of_lines() {
+        let text = "a  \n  b │ \n \n\nc d\u{a0} \n";
+        assert_eq!(kept(text, false).unwrap(), "a\n  b │\n\n\nc d\u{a0}\n");
+        assert_eq!(kept(text, true).unwrap(), text);
+        assert_eq!(kept("", false).unwrap(), "");
+    }
+}
