@@ -32,11 +32,12 @@ def _next(node, is_entered, top):
 
 @dataclass
 class _Link:
-    """A link in a cell, as its contents are read: its element and the node after all that is in it; whether something in it is shown, and
-    the first image in it without a text."""
+    """A link in a cell, as its contents are read: its element, the node after all that is in it, and the columns of what follows it;
+    whether something in it is shown, and the first image in it without a text."""
 
     element: object
     end: object
+    columns: int = 0
     is_shown: bool = False
     image: object = None
 
@@ -101,13 +102,15 @@ class _Line:
             self.link.is_shown = True
 
     def leave_link(self, node):
-        """Leaves a link before a node. It is named by an image, if it shows nothing else."""
+        """Leaves a link before a node that isn't in it. It is named by an image, if it shows nothing else."""
         if self.link is None or self.link.end is not node:
             return
         link, self.link = self.link, None
         if link.image is not None and not link.is_shown:
             self.measure.add(columns_of_image(name_of_image(link.image, link.element)))
             self.show(link.image)
+        if link.is_shown or link.image is not None:
+            self.measure.add(link.columns)
 
     def read_text(self, node, room):
         """Reads a text."""
@@ -122,11 +125,12 @@ class _Line:
             self.link.image = node
         if kind in ("nothing", "image"):
             return False
-        self.measure.add(columns)
+        if kind == "link" and self.link is None:
+            self.link = _Link(node, _next(node, False, cell), columns)
+        if kind != "link":
+            self.measure.add(columns)
         if kind in ("signs", "text"):
             self.show(node)
-        if kind == "link" and self.link is None:
-            self.link = _Link(node, _next(node, False, cell))
         return kind != "text"
 
 

@@ -131,6 +131,21 @@ fn rules_for_parts_of_tables_that_are_not_drawn() {
 }
 
 #[test]
+fn rules_hide_cells_of_lines() {
+    let page = "<table><tr><td>a<td class=b><p>b<td><i class=c>c</i><td>d</table><table><tr class=b><td>e<td>f</table>";
+    for (css, wanted) in [
+        (".b { display: none }", "a  c  d\n"),
+        (".c { display: none }", "a\n\nb\n\nd\ne  f\n"),
+        (".b { display: none } .c { display: none }", "a  d\n"),
+    ] {
+        assert_eq!(shown(page, plain().add_css(css).unwrap(), 80), wanted, "{css}");
+    }
+    let table = "<table><tr><td>a<td>b<tr class=c><td>d<td>e</table>";
+    assert_eq!(shown(table, plain().add_css(".c { display: none }").unwrap(), 80), "a  b\n");
+    assert_eq!(shown(table, plain().add_css("* { color: red }").unwrap(), 80), "─┬─\na│b\n─┼─\nd│e\n─┴─\n");
+}
+
+#[test]
 fn rows_that_pass_the_width_are_wrapped() {
     // texts of rules aren't counted
     let page = "<table><tr><td>one two<td>three<td>four</table>";

@@ -150,16 +150,24 @@ impl Line {
         }
     }
 
-    /// Leaves a link before a node. It is named by an image, if it shows nothing else.
+    /// Leaves a link before a node that isn't in it.
     fn leave_link(&mut self, contents: Contents<'_>, node: Id) {
-        let image = match &self.link {
-            Some(Link { node: link, end, is_shown, image }) if *end == node => image.filter(|_| !is_shown).map(|image| (image, *link)),
-            _ => return,
-        };
-        self.link = None;
-        if let Some((image, link)) = image {
-            self.measure.add(contents.columns_of_image(&embedded::image_name(contents.tree, image, link)));
+        if !matches!(&self.link, Some(link) if link.end == node) {
+            return;
+        }
+        if let Some(link) = self.link.take() {
+            self.end_link(contents, link);
+        }
+    }
+
+    /// Notes what is shown where a link ends. It is named by an image, if it shows nothing else.
+    fn end_link(&mut self, contents: Contents<'_>, Link { node, is_shown, image, .. }: Link) {
+        if let Some(image) = image.filter(|_| !is_shown) {
+            self.measure.add(contents.columns_of_image(&embedded::image_name(contents.tree, image, node)));
             self.show(image);
+        }
+        if let (Some(target), true) = (contents.tree.attribute(node, &local_name!("href")), is_shown || image.is_some()) {
+            self.measure.add(contents.link_signs(target));
         }
     }
 }
@@ -282,8 +290,10 @@ impl<'a> Contents<'a> {
         line.has_drawing |= element.space == ns!(svg);
         match shown {
             Shown::Nothing | Shown::Block | Shown::Table => return false,
-            Shown::Contents | Shown::Link | Shown::Signs => line.measure.add(self.signs(node, element)),
+            Shown::Contents | Shown::Signs => line.measure.add(self.signs(node, element)),
             Shown::Text => line.measure.add(self.columns_of(node, element)),
+            Shown::Link if line.link.is_some() => {}
+            Shown::Link => line.link = Some(Link { node, end: self.next(node, false, cell), is_shown: false, image: None }),
             Shown::Image => {
                 if let Some(link) = line.link.as_mut().filter(|link| !link.is_shown) {
                     link.image = link.image.or(Some(node));
@@ -293,9 +303,6 @@ impl<'a> Contents<'a> {
         }
         if matches!(shown, Shown::Signs | Shown::Text) {
             line.show(node);
-        }
-        if matches!(shown, Shown::Link) && line.link.is_none() {
-            line.link = Some(Link { node, end: self.next(node, false, cell), is_shown: false, image: None });
         }
         !matches!(shown, Shown::Text)
     }
@@ -408,7 +415,6 @@ impl<'a> Contents<'a> {
             local_name!("button") => 4,
             local_name!("q") => 2,
             local_name!("sup") => 3,
-            local_name!("a") => self.tree.attribute(node, &local_name!("href")).map_or(0, |target| self.link_signs(target)),
             local_name!("b") | local_name!("strong") if self.adaptation.has_signs => 4,
             local_name!("code") | local_name!("em") if self.adaptation.has_signs => 2,
             _ => 0,
@@ -487,7 +493,7 @@ pub(super) mod tests {
     }
 
     /// Returns the columns of a cell on a line of at most 20, and 0 if it has nothing to show.
-    fn columns_of(cell: &str, adaptation: &Adaptation) -> Option<u32> {
+    fn columns(cell: &str, adaptation: &Adaptation) -> Option<u32> {
         let tree = tree_of(&format!("<table><tr><td>{cell}<td>x</table>"));
         match adaptation.contents(&tree, &tree.text).of_cell(element_of(&tree, "td"), 20) {
             Cell::Nothing => Some(0),
@@ -496,13 +502,21 @@ pub(super) mod tests {
         }
     }
 
-    fn columns(cell: &str) -> Option<u32> {
-        columns_of(cell, &adaptation())
-    }
-
     #[test]
     fn cells_with_something_to_show() {
-        for cell in ["a", "<p><b>\u{754c}</b></p>", "<img src=i alt=b>", "<input>", "<select></select>", "<button></button>", "<table></table>", "<iframe src=c></iframe>", "<svg><title>d</title></svg>"] {
+        for cell in [
+            "a",
+            "<p><b>\u{754c}</b></p>",
+            "<img src=i alt=b>",
+            "<input>",
+            "<select></select>",
+            "<button></button>",
+            "<table></table>",
+            "<iframe src=c></iframe>",
+            "<svg><title>d</title></svg>",
+            "<svg><g><text>d</text></g></svg>",
+            "<a href=c><b></b><img src=i></a>",
+        ] {
             assert!(has_any(cell), "{cell}");
         }
         for cell in [
@@ -513,6 +527,8 @@ pub(super) mod tests {
             "<script>a</script><style>b</style><template>c</template>",
             "<span style='color: red; DISPLAY: none'>a</span><b hidden>b</b>",
             "<p></p><hr><svg></svg>",
+            "<svg><g>a</g><text></text><desc>b</desc></svg>",
+            "<a href=c></a><img src=i><a><img src=i></a>",
         ] {
             assert!(!has_any(cell), "{cell}");
         }
@@ -528,13 +544,33 @@ pub(super) mod tests {
             ("<i>a</i><a>b</a><span hidden>c</span>", Some(2)),
             ("<img src=i alt=abc>", Some(5)),
             ("<input value=ab>", Some(8)),
+            ("<a href='#b'>a</a><a href=' JavaScript:b'>a</a>", Some(2)),
+            ("<a href=x><img src='b/cd.png'><b></b></a>a<a href=y> </a>", Some(18)),
+            ("<a href=x>a<img src='b/cd.png'></a> <img src=b>", Some(6)),
+            ("<svg><title>ab</title><text>c</text>d</svg>", Some(7)),
             ("abcdefghijklmnopqrst", Some(20)),
             ("abcdefghijklmnopqrstu", None),
             ("a<br>b", None),
             ("<p>a", None),
             ("<table></table>", None),
         ] {
-            assert_eq!(columns(cell), wanted, "{cell}");
+            assert_eq!(columns(cell, &adaptation()), wanted, "{cell}");
         }
+    }
+
+    #[test]
+    fn columns_of_signs() {
+        let cell = "<a href=xy>a</a> <b>b</b>";
+        for (links, has_signs, wanted) in [
+            (Some(LinkMode::Notes), true, 12),
+            (Some(LinkMode::Inline), true, 12),
+            (Some(LinkMode::List), true, 7),
+            (Some(LinkMode::None), false, 3),
+            (None, false, 3),
+        ] {
+            assert_eq!(columns(cell, &Adaptation { links, has_signs, ..adaptation() }), Some(wanted));
+        }
+        let named = |has_colours| columns("<img src=i alt=abc>", &Adaptation { has_colours, ..adaptation() });
+        assert_eq!((named(false), named(true)), (Some(5), Some(3)));
     }
 }
