@@ -201,7 +201,7 @@ class Inline:
             if middle:
                 self._trailing = []
             if end or not middle:
-                self._trailing.append(len(self._steps))
+                self._trailing.append(("space", len(self._steps)))
             self._steps.add_text(parent, text)
 
     def begin(self, run):
@@ -214,7 +214,7 @@ class Inline:
             if self._links:
                 self._links[-1].is_line_open = False
         if run == "break":
-            self._trailing.append(len(self._steps))
+            self._trailing.append(("break", len(self._steps)))
 
     def end(self, node, run):
         """Notes that a recorded element ends."""
@@ -293,9 +293,9 @@ class Inline:
             return
         if self._insert_before_break(sign):
             return
-        spaces = [self._cut(step) for step in self._trailing]
-        self._trailing = []
+        spaces = [self._cut(step) for part, step in self._trailing if part == "space"]
         self.add_text(node, sign)
+        self._trailing = [("sign", len(self._steps) - 1)]
         if spaces:
             self.add_text(node, spaces[0])
         if link.block is not None:
@@ -335,7 +335,7 @@ class Inline:
         step = waiting[0].step
         self._steps.insert(step, ["text", waiting[0].parent, space])
         self._last = ""
-        self._trailing.append(step)
+        self._trailing.append(("space", step))
         for signed in waiting:
             signed.step += 1
             signed.class_step = None if signed.class_step is None else signed.class_step + 1
@@ -350,30 +350,32 @@ class Inline:
         return end if middle else text
 
     def _move_trailing(self, parent):
-        """Moves white space and line breaks after the last visible character to the end of another node. Returns whether there are any."""
+        """Moves white space, line breaks and numbers of links after the last visible character to the end of another node. Returns whether
+        there are any."""
         if not self._trailing:
             return False
         steps, self._trailing, space = self._trailing, [], ""
-        for step in steps:
-            if self._steps[step][0] == "text" and _parted(self._steps[step][2])[1]:
+        for part, step in steps:
+            if part == "space" and _parted(self._steps[step][2])[1]:
                 space = self._cut(step)
             else:
                 self._steps[step][1] = parent
-                self._trailing.append(step)
+                self._trailing.append((part, step))
         self._last = ""
         if space and not self._trailing:
-            self._trailing.append(len(self._steps))
+            self._trailing.append(("space", len(self._steps)))
             self._steps.add_text(parent, space)
         return True
 
     def _insert_before_break(self, text):
         """Inserts a text before the first line break after the last visible character. Returns whether there is such a break."""
-        place = next((place for place, step in enumerate(self._trailing) if self._steps[step][0] != "text"), None)
+        place = next((place for place, (part, _) in enumerate(self._trailing) if part == "break"), None)
         if place is None:
             return False
-        for step in self._trailing[:place]:
-            self._cut(step)
-        step = self._trailing[place]
+        for part, step in self._trailing[:place]:
+            if part == "space":
+                self._cut(step)
+        step = self._trailing[place][1]
         self._steps.insert(step, ["text", self._steps[step][1], text])
-        self._trailing = [it + 1 for it in self._trailing[place:]]
+        self._trailing = [("sign", step)] + [(part, step + 1) for part, step in self._trailing[place:]]
         return True

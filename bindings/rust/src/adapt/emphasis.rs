@@ -1,8 +1,8 @@
 //! Signs around emphasis: none inside a word, around nothing, or around blocks, and none that has white space on its inner side.
 //!
 //! An element is recorded with its signs, which the library writes. They are dropped by a private class, for which a rule writes
-//! nothing, as soon as it is known that they are wrong. White space at the start of an element is recorded before it, and white space
-//! and line breaks at its end after it.
+//! nothing, as soon as it is known that they are wrong. White space at the start of an element is recorded before it; white space,
+//! line breaks and the number of a link at its end after it.
 
 use super::flow::{self, Flow};
 use crate::record::{Handle, Recorder};

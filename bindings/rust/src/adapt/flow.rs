@@ -8,16 +8,26 @@ use crate::tree::Piece;
 pub(crate) struct Flow {
     /// The text recorded last; empty after anything else.
     last: Piece,
-    /// The line breaks and the white space after the last visible character.
+    /// The white space, line breaks and numbers of links after the last visible character.
     trailing: Vec<Trailing>,
 }
 
-/// A step that is a line break, or whose text ends with white space.
+/// A step of which something goes outside of signs.
 #[derive(Clone, Copy)]
 struct Trailing {
     step: usize,
-    /// Number of bytes of white space; 0 for a line break.
-    blank: u32,
+    part: Part,
+}
+
+/// What of a step goes outside of signs.
+#[derive(Clone, Copy, PartialEq, Eq)]
+enum Part {
+    /// So many bytes of white space at the end of its text.
+    Space(u32),
+    /// A line break.
+    Break,
+    /// The number of a link.
+    Sign,
 }
 
 /// Maximum number of steps after the last visible character that are known.
@@ -113,26 +123,31 @@ impl Flow {
             self.trailing.clear();
         }
         if blank > 0 {
-            self.add_trailing(Trailing { step: recorder.steps.len(), blank: blank as u32 });
+            self.add_trailing(recorder.steps.len(), Part::Space(blank as u32));
         }
     }
 
     /// Notes a line break that becomes a step.
     pub fn add_break(&mut self, step: usize) {
-        self.add_trailing(Trailing { step, blank: 0 });
+        self.add_trailing(step, Part::Break);
+    }
+
+    /// Notes that a step is the number of a link.
+    pub fn add_sign(&mut self, step: usize) {
+        self.add_trailing(step, Part::Sign);
     }
 
     /// Notes so many bytes of white space, which became a step before an element without text.
     pub fn add_space(&mut self, step: usize, blank: u32) {
         self.last = (0, 0);
-        self.add_trailing(Trailing { step, blank });
+        self.add_trailing(step, Part::Space(blank));
     }
 
-    fn add_trailing(&mut self, trailing: Trailing) {
+    fn add_trailing(&mut self, step: usize, part: Part) {
         if self.trailing.len() == MAX_TRAILING {
             self.trailing.clear();
         }
-        self.trailing.push(trailing);
+        self.trailing.push(Trailing { step, part });
     }
 
     /// Notes something that isn't text, or the start of a block.
@@ -151,25 +166,25 @@ impl Flow {
         last_char(bytes(text, self.last)).map_or(false, is_word_char)
     }
 
-    /// Moves white space and line breaks after the last visible character to the end of another node. Returns whether there are any.
+    /// Moves what goes outside of signs to the end of another node. Returns whether there is any.
     pub fn move_trailing(&mut self, recorder: &mut Recorder, parent: Handle) -> bool {
         if self.trailing.is_empty() {
             return false;
         }
         let mut space = None;
-        self.trailing.retain(|&Trailing { step, blank }| {
-            // that text alone has something visible which has white space after it
-            let is_moved = blank == 0 || recorder.text_length(step) == blank;
-            if is_moved {
-                recorder.set_parent(step, parent);
-            } else {
+        self.trailing.retain(|&Trailing { step, part }| match part {
+            Part::Space(blank) if blank < recorder.text_length(step) => {
                 space = Some(recorder.cut_text(step, blank));
+                false
             }
-            is_moved
+            _ => {
+                recorder.set_parent(step, parent);
+                true
+            }
         });
         self.last = (0, 0);
         if let Some(space) = space.filter(|_| self.trailing.is_empty()) {
-            self.trailing.push(Trailing { step: recorder.steps.len(), blank: space.1 });
+            self.trailing.push(Trailing { step: recorder.steps.len(), part: Part::Space(space.1) });
             recorder.text(parent, space);
         }
         true
@@ -178,9 +193,11 @@ impl Flow {
     /// Takes the white space after the last visible character out of the texts. Returns the first piece of it.
     pub fn cut_trailing(&mut self, recorder: &mut Recorder) -> Option<Piece> {
         let mut space = None;
-        for Trailing { step, blank } in self.trailing.drain(..) {
-            let cut = recorder.cut_text(step, blank);
-            space = space.or(Some(cut));
+        for Trailing { step, part } in self.trailing.drain(..) {
+            if let Part::Space(blank) = part {
+                let cut = recorder.cut_text(step, blank);
+                space = space.or(Some(cut));
+            }
         }
         space
     }
@@ -188,16 +205,19 @@ impl Flow {
     /// Inserts a text before the first line break after the last visible character, without white space between. Returns whether there
     /// is such a break.
     pub fn insert_before_break(&mut self, recorder: &mut Recorder, text: Piece) -> bool {
-        let place = match self.trailing.iter().position(|trailing| trailing.blank == 0) {
+        let place = match self.trailing.iter().position(|trailing| trailing.part == Part::Break) {
             Some(place) => place,
             None => return false,
         };
-        for Trailing { step, blank } in self.trailing.drain(..place) {
-            recorder.cut_text(step, blank);
+        for Trailing { step, part } in self.trailing.drain(..place) {
+            if let Part::Space(blank) = part {
+                recorder.cut_text(step, blank);
+            }
         }
         let step = self.trailing[0].step;
         if recorder.insert_text(step, recorder.parent(step), text) {
             self.trailing.iter_mut().for_each(|trailing| trailing.step += 1);
+            self.trailing.insert(0, Trailing { step, part: Part::Sign });
         }
         true
     }

@@ -180,7 +180,9 @@ impl Inline {
         }
         let place = block.unwrap_or(handle);
         let space = self.flow.cut_trailing(recorder);
+        let step = recorder.steps.len();
         self.record_text(recorder, place, sign);
+        self.flow.add_sign(step);
         if let Some(space) = space {
             self.record_text(recorder, place, space);
         }
@@ -250,7 +252,7 @@ mod tests {
             ("<b>a <em> </em></b>b", "<b>a<!em></></> b"),
             ("<b>a<br> </b>- <b><em>c<br></em></b>d", "<b>a</><br></> - <b><em>c</></><br></>d"),
             ("<b>\u{a0}a\u{a0}</b>", "\u{a0}<b>a</>\u{a0}"),
-            ("<b>a <a href=x> b </a></b>c", "<b>a <a> b[1]</></> c"),
+            ("<b>a <a href=x> b </a></b>c", "<b>a <a> b</></>[1] c"),
         ] {
             assert_eq!(recorded(page), wanted, "{page}");
         }
@@ -265,6 +267,7 @@ mod tests {
     #[test]
     fn numbers_of_links() {
         for (page, wanted, footnotes) in [
+            ("<code><a href=x>a</a></code><b><a href=y>b<br></a> </b>", "<code><a>a</></>[1]<b><a>b</></>[2]<br></> ", "[1]: x [2]: y"),
             ("<a href=x>a</a>b<a href=y>c</a><a href=' x '>d</a>", "<a>a[1]</>b<a>c[2]</><a>d[1]</>", "[1]: x [2]: y"),
             ("<a href=x>a </a>b", "<a>a[1] </>b", "[1]: x"),
             ("<a href='http://a.example/'>a.example </a>", "<a>a.example </>", ""),
