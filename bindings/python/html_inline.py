@@ -252,7 +252,8 @@ class Inline:
             return
         signed = self._emphasis.pop()
         if not signed.is_filled:
-            self._drop_signs([signed])
+            # emphasis around nothing is something, and another element around nothing isn't
+            self._steps[signed.step][2] = "span"
         elif signed.is_signed and not self._move_trailing(signed.parent) and self._last and _is_word(self._last):
             self._ended.append(signed)
 
@@ -362,10 +363,15 @@ class Inline:
                 self._steps[step][1] = parent
                 self._trailing.append((part, step))
         self._last = ""
-        if space and not self._trailing:
-            self._trailing.append(("space", len(self._steps)))
-            self._steps.add_text(parent, space)
+        if space:
+            step = self._trailing[0][1] if self._trailing else len(self._steps)
+            self._insert_first("space", step, parent, space)
         return True
+
+    def _insert_first(self, part, step, parent, text):
+        """Inserts a text as a step before all that is after the last visible character."""
+        self._steps.insert(step, ["text", parent, text])
+        self._trailing = [(part, step)] + [(other, it + 1) for other, it in self._trailing]
 
     def _insert_before_break(self, text):
         """Inserts a text before the first line break after the last visible character. Returns whether there is such a break."""
@@ -375,7 +381,7 @@ class Inline:
         for part, step in self._trailing[:place]:
             if part == "space":
                 self._cut(step)
-        step = self._trailing[place][1]
-        self._steps.insert(step, ["text", self._steps[step][1], text])
-        self._trailing = [("sign", step)] + [(part, step + 1) for part, step in self._trailing[place:]]
+        self._trailing = self._trailing[place:]
+        step = self._trailing[0][1]
+        self._insert_first("sign", step, self._steps[step][1], text)
         return True

@@ -13,6 +13,7 @@ document that it renders, with what a browser shows (html_shown.py, html_inline.
 import ctypes
 import os
 import re
+from itertools import groupby
 from pathlib import Path
 
 import html5lib
@@ -284,6 +285,29 @@ class _Recording:
             _library.html_render_append_text(self._recording, node, *texts[0])
 
 
+def _join_texts(tree):
+    """Joins texts directly after each other, of which html5lib makes several. It doesn't recurse: documents may be deep."""
+    ahead = [tree]
+    while ahead:
+        node = ahead.pop()
+        children = []
+        for is_text, run in groupby(node.childNodes, key=lambda it: it.nodeType == it.TEXT_NODE):
+            run = list(run)
+            if is_text:
+                run[0].data = "".join(it.data for it in run)
+                children.append(run[0])
+            else:
+                children.extend(run)
+                ahead.extend(run)
+        if len(children) < len(node.childNodes):
+            node.childNodes[:] = children
+            for before, after in zip([None, *children], [*children, None]):
+                if before is not None:
+                    before.nextSibling = after
+                if after is not None:
+                    after.previousSibling = before
+
+
 def _bytes(text):
     """Returns a text in UTF-8; a surrogate that stands alone becomes U+FFFD."""
     return text.encode("utf-16", "surrogatepass").decode("utf-16", "replace").encode("utf-8")
@@ -354,6 +378,7 @@ def render(
     if base is not None and not scheme(base):
         raise ValueError("the page's address is absolute")
     tree = parse(html, charset)
+    _join_texts(tree)
     with _Recording() as recording:
         if title and title_of(tree):
             recording.add_text(recording.add_element(0, "p"), without_controls(title_of(tree), is_shown=True))

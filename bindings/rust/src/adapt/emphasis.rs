@@ -118,7 +118,7 @@ impl Emphasis {
 
     /// Ends the innermost element.
     pub fn close(&mut self, recorder: &mut Recorder, flow: &mut Flow) {
-        let mut signed = match self.open.pop() {
+        let signed = match self.open.pop() {
             Some(signed) => signed,
             None => return,
         };
@@ -126,7 +126,8 @@ impl Emphasis {
         self.around_blocks = self.around_blocks.min(depth);
         if self.filled <= depth {
             self.has_space_before &= self.filled < depth;
-            self.drop_signs(recorder, &mut signed);
+            // emphasis around nothing is something, and another element around nothing isn't
+            recorder.rename(signed.step, &local_name!("span"));
             return;
         }
         self.filled = depth;

@@ -183,11 +183,19 @@ impl Flow {
             }
         });
         self.last = (0, 0);
-        if let Some(space) = space.filter(|_| self.trailing.is_empty()) {
-            self.trailing.push(Trailing { step: recorder.steps.len(), part: Part::Space(space.1) });
-            recorder.text(parent, space);
+        if let Some(space) = space {
+            let step = self.trailing.first().map_or(recorder.steps.len(), |first| first.step);
+            self.insert_first(recorder, Trailing { step, part: Part::Space(space.1) }, parent, space);
         }
         true
+    }
+
+    /// Inserts a text as a step before all that is after the last visible character.
+    fn insert_first(&mut self, recorder: &mut Recorder, first: Trailing, parent: Handle, text: Piece) {
+        if recorder.insert_text(first.step, parent, text) {
+            self.trailing.iter_mut().for_each(|trailing| trailing.step += 1);
+            self.trailing.insert(0, first);
+        }
     }
 
     /// Takes the white space after the last visible character out of the texts. Returns the first piece of it.
@@ -215,10 +223,7 @@ impl Flow {
             }
         }
         let step = self.trailing[0].step;
-        if recorder.insert_text(step, recorder.parent(step), text) {
-            self.trailing.iter_mut().for_each(|trailing| trailing.step += 1);
-            self.trailing.insert(0, Trailing { step, part: Part::Sign });
-        }
+        self.insert_first(recorder, Trailing { step, part: Part::Sign }, recorder.parent(step), text);
         true
     }
 }

@@ -230,14 +230,14 @@ mod tests {
     #[test]
     fn signs_around_nothing_and_blocks() {
         for (page, wanted) in [
-            ("<b></b><em> </em>a", "<!b></> <!em></>a"),
-            ("<b><em></em></b>", "<!b><!em></></>"),
-            ("<b><img src=x></b><b><img src=x alt=y></b>", "<!b><img></></><b><img y></></>"),
+            ("<b></b><em> </em>a", "<span></> <span></>a"),
+            ("<b><em></em></b>", "<span><span></></>"),
+            ("<b><img src=x></b><b><img src=x alt=y></b>", "<span><img></></><b><img y></></>"),
             ("<b><pre>a</pre></b>", "<!b><pre>a</></>"),
             ("<b>a<div>b<em>c</em></div></b>", "<!b>a<div>b<!em>c</></></>"),
             ("<pre><code>a</code>\n</pre>", "<pre><!code>a</>\n</>"),
             ("<pre>a <b>b</b></pre>", "<pre>a <b>b</></>"),
-            ("<b style='visibility: hidden'>a</b>", "<!b></>"),
+            ("<b style='visibility: hidden'>a</b>", "<!span></>"),
         ] {
             assert_eq!(recorded(page), wanted, "{page}");
         }
@@ -249,7 +249,7 @@ mod tests {
             ("a<b> b </b>c", "a <b>b</> c"),
             ("<b><em> a </em></b>b", " <b><em>a</></> b"),
             ("<b> <em>\n <i>a</i> </em> </b>", " <b><em><i>a</></></>  "),
-            ("<b>a <em> </em></b>b", "<b>a<!em></></> b"),
+            ("<b>a <em> </em></b>b", "<b>a<span></></>  b"),
             ("<b>a<br> </b>- <b><em>c<br></em></b>d", "<b>a</><br></> - <b><em>c</></><br></>d"),
             ("<b>\u{a0}a\u{a0}</b>", "\u{a0}<b>a</>\u{a0}"),
             ("<b>a <a href=x> b </a></b>c", "<b>a <a> b</></>[1] c"),
