@@ -45,7 +45,7 @@ _AGENT = 1
 _AUTHOR = 3
 _WHITE_SPACE = 3
 _CONTENT = 4
-_BEFORE_AND_AFTER = (1, 2)
+_BEFORE_AND_AFTER = (8, 16)
 
 
 class Error(Exception):
