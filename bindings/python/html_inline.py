@@ -240,10 +240,11 @@ class Inline:
             self._interrupt()
 
     def open_signed(self, node, parent, step, is_signed):
-        """Opens a recorded element with signs."""
+        """Opens a recorded element with signs. It has none in the signs of another."""
         if self._has_signs:
+            is_in_signs = any(it.is_signed for it in self._emphasis)
             self._emphasis.append(_Signed(node, parent, step, self._steps.class_step(step)))
-            if not is_signed:
+            if not is_signed or is_in_signs:
                 self._drop_signs(self._emphasis[-1:])
 
     def close_signed(self):

@@ -65,6 +65,7 @@ class Around:
     has_no_size: bool = False
     is_in_drawing: bool = False
     quotations: int = 0
+    is_in_pre: bool = False
     part: str = None
     margin: int = 0
     item_margin: int = 0
@@ -510,13 +511,6 @@ def _run_of(element):
     return "block" if tag in _LINES or tag in _WITHIN or tag in _PARTS else "inline"
 
 
-def _is_all_of_pre(element):
-    """Whether an element and white space are all that is in a `pre`."""
-    pre = element.parentNode
-    others = [it for it in pre.childNodes if it is not element]
-    return pre.nodeName == "pre" and pre.namespaceURI == HTML and all(it.nodeType == it.TEXT_NODE and not it.data.strip(_WHITE) for it in others)
-
-
 def _changed_element(recorded, element, attributes, around, tables):
     """Returns how one of HTML's elements is recorded, with what its name changes."""
     tag, inside = element.tagName, recorded.around
@@ -526,7 +520,9 @@ def _changed_element(recorded, element, attributes, around, tables):
         return _changed_field(recorded, element, attributes)
     if tag in _WITHIN:
         recorded.elements.append((_WITHIN[tag], HTML, {}))
-    if tag in ("ul", "dir", "menu"):
+    if tag == "pre" or _WITHIN.get(tag) == "pre":
+        recorded.around = replace(inside, is_in_pre=True)
+    elif tag in ("ul", "dir", "menu"):
         recorded.around = replace(inside, item_margin=2, holds=_ITEMS)
     elif tag == "ol":
         recorded.numbers, columns = _numbers(element, attributes)
@@ -537,7 +533,7 @@ def _changed_element(recorded, element, attributes, around, tables):
     elif tag in _PREFIXES:
         recorded.around = replace(inside, margin=inside.margin + _PREFIXES[tag])
     elif tag in _SIGNED:
-        recorded.kind, recorded.is_signed = "signed", not inside.hides_texts and not _is_all_of_pre(element)
+        recorded.kind, recorded.is_signed = "signed", not inside.hides_texts and not inside.is_in_pre
     elif tag == "a" and "href" in attributes:
         recorded.kind, recorded.target = "link", attributes["href"]
         recorded.elements[0] = (tag, HTML, {key: value for key, value in attributes.items() if key != "href"})

@@ -326,7 +326,7 @@ impl<'a> Contents<'a> {
             Change::Image => self.shown_of_image(node),
             Change::Drawing => self.shown_in_drawing(node, element),
             Change::Block if element.name == local_name!("head") => Shown::Nothing,
-            Change::Block | Change::Break | Change::Heading(_) | Change::Within(_) => Shown::Block,
+            Change::Block | Change::Break | Change::Heading(_) | Change::Preformatted | Change::Within(_) => Shown::Block,
             Change::Dialog if self.tree.attribute(node, &local_name!("open")).is_none() => Shown::Nothing,
             Change::Dialog | Change::Rule | Change::List(_) | Change::Descriptions | Change::Prefixed(_) => Shown::Block,
             Change::Object if !names_contents(attributes) => Shown::Contents,

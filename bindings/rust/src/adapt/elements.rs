@@ -13,6 +13,8 @@ pub(crate) enum Change {
     Break,
     /// It is recorded as it is, on lines of its own.
     Block,
+    /// A `pre`.
+    Preformatted,
     /// An `a`.
     Link,
     /// An `img`.
@@ -169,7 +171,8 @@ pub(crate) fn change_of(name: &LocalName) -> Change {
         local_name!("tr") => Change::Table(Part::Row),
         local_name!("td") | local_name!("th") => Change::Table(Part::Cell),
         local_name!("b") | local_name!("code") | local_name!("em") | local_name!("strong") => Change::Signed,
-        local_name!("body") | local_name!("caption") | local_name!("dt") | local_name!("frameset") | local_name!("head") | local_name!("html") | local_name!("pre") => Change::Block,
+        local_name!("body") | local_name!("caption") | local_name!("dt") | local_name!("frameset") | local_name!("head") | local_name!("html") => Change::Block,
+        local_name!("pre") => Change::Preformatted,
         local_name!("sup") => Change::Apart,
         local_name!("button") => Change::Field(Field::Button),
         local_name!("input") => Change::Field(Field::Input),

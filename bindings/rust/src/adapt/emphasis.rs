@@ -1,4 +1,4 @@
-//! Signs around emphasis: none inside a word, around nothing, or around blocks, and none that has white space on its inner side.
+//! Signs around emphasis: none inside a word, in other signs, around nothing, or around blocks, and none that has white space on its inner side.
 //!
 //! An element is recorded with its signs, which the library writes. They are dropped by a private class, for which a rule writes
 //! nothing, as soon as it is known that they are wrong. White space at the start of an element is recorded before it; white space,
@@ -34,6 +34,8 @@ pub(crate) struct Signed {
 pub(crate) struct Emphasis {
     /// Open elements, the outermost one first.
     open: Vec<Signed>,
+    /// Number of the open elements that have signs so far.
+    signed: usize,
     /// Number of the open elements in which something is shown: the outermost ones.
     filled: usize,
     /// Number of the open elements around a block: the outermost ones.
@@ -57,6 +59,7 @@ impl Emphasis {
 
     /// Opens an element that was recorded.
     pub fn open(&mut self, signed: Signed) {
+        self.signed += usize::from(signed.is_signed);
         self.open.push(signed);
     }
 
@@ -88,6 +91,11 @@ impl Emphasis {
     /// Returns the number of the step that the last text made one more before others, if it did.
     pub fn take_inserted(&mut self) -> Option<usize> {
         self.inserted.take()
+    }
+
+    /// Whether an open element has signs so far.
+    pub fn is_in_signs(&self) -> bool {
+        self.signed > 0
     }
 
     /// Whether an element has no signs.
@@ -123,6 +131,7 @@ impl Emphasis {
             None => return,
         };
         let depth = self.open.len();
+        self.signed -= usize::from(signed.is_signed);
         self.around_blocks = self.around_blocks.min(depth);
         if self.filled <= depth {
             self.has_space_before &= self.filled < depth;
@@ -167,6 +176,7 @@ impl Emphasis {
     fn drop_of_open(&mut self, recorder: &mut Recorder, from: usize) {
         for number in from..self.open.len() {
             let mut signed = self.open[number];
+            self.signed -= usize::from(signed.is_signed);
             self.drop_signs(recorder, &mut signed);
             self.open[number] = signed;
         }

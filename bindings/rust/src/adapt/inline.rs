@@ -134,10 +134,10 @@ impl Inline {
         }
     }
 
-    /// Opens a recorded element with signs.
+    /// Opens a recorded element with signs. It has none in the signs of another.
     pub fn open_signed(&mut self, recorder: &mut Recorder, mut signed: Signed, is_signed: bool) {
         if self.has_signs {
-            if !is_signed {
+            if !is_signed || self.emphasis.is_in_signs() {
                 self.emphasis.drop_signs(recorder, &mut signed);
             }
             self.emphasis.open(signed);
@@ -216,6 +216,8 @@ mod tests {
             ("<b>a<i>b</i></b><span>c</span>", "<!b>a<i>b</></><span>c</>"),
             ("<b>a</b><em>b</em>", "<!b>a</><!em>b</>"),
             ("<b><em>a</em></b>b", "<!b><!em>a</></>b"),
+            ("<em><code>a</code> <b>b</b></em> <b>c</b>", "<em><!code>a</> <!b>b</></> <b>c</>"),
+            ("a<b>b <em>c</em></b> <b>d<p>e <em>f</em></p></b>", "a<!b>b <em>c</></> <!b>d<p>e <em>f</></></>"),
             ("\u{e9}<b>\u{e9}</b>", "\u{e9}<!b>\u{e9}</>"),
             ("<b>a</b><br>b<div>c</div><b>d</b><p>e", "<b>a</><br></>b<div>c</><b>d</><p>e</>"),
             ("\u{4e16}<b>\u{754c}</b>\u{4e16}", "\u{4e16}<b>\u{754c}</>\u{4e16}"),
@@ -231,12 +233,12 @@ mod tests {
     fn signs_around_nothing_and_blocks() {
         for (page, wanted) in [
             ("<b></b><em> </em>a", "<span></> <span></>a"),
-            ("<b><em></em></b>", "<span><span></></>"),
+            ("<b><em></em></b>", "<span><!span></></>"),
             ("<b><img src=x></b><b><img src=x alt=y></b>", "<span><img></></><b><img y></></>"),
             ("<b><pre>a</pre></b>", "<!b><pre>a</></>"),
             ("<b>a<div>b<em>c</em></div></b>", "<!b>a<div>b<!em>c</></></>"),
             ("<pre><code>a</code>\n</pre>", "<pre><!code>a</>\n</>"),
-            ("<pre>a <b>b</b></pre>", "<pre>a <b>b</></>"),
+            ("<pre>a <b>b</b></pre><listing><i><em>c</em></i></listing>", "<pre>a <!b>b</></><listing><pre><i><!em>c</></></></>"),
             ("<b style='visibility: hidden'>a</b>", "<!span></>"),
         ] {
             assert_eq!(recorded(page), wanted, "{page}");
@@ -247,10 +249,10 @@ mod tests {
     fn white_space_goes_outside_of_signs() {
         for (page, wanted) in [
             ("a<b> b </b>c", "a <b>b</> c"),
-            ("<b><em> a </em></b>b", " <b><em>a</></> b"),
-            ("<b> <em>\n <i>a</i> </em> </b>", " <b><em><i>a</></></>  "),
-            ("<b>a <em> </em></b>b", "<b>a<span></></>  b"),
-            ("<b>a<br> </b>- <b><em>c<br></em></b>d", "<b>a</><br></> - <b><em>c</></><br></>d"),
+            ("<b><em> a </em></b>b", " <b><!em>a</></> b"),
+            ("<b> <em>\n <i>a</i> </em> </b>", " <b><!em><i>a</></></>  "),
+            ("<b>a <em> </em></b>b", "<b>a<!span></></>  b"),
+            ("<b>a<br> </b>- <b><em>c<br></em></b>d", "<b>a</><br></> - <b><!em>c</></><br></>d"),
             ("<b>\u{a0}a\u{a0}</b>", "\u{a0}<b>a</>\u{a0}"),
             ("<b>a <a href=x> b </a></b>c", "<b>a <a> b</></>[1] c"),
         ] {

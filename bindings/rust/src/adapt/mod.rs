@@ -30,7 +30,7 @@ use crate::hiding::Hiding;
 use crate::options::{LinkMode, Tables};
 use crate::pass::{End, Entered, Last, Place};
 use crate::record::{self, Handle, Recorder};
-use crate::tree::{Attr, Data, Element, Id, Piece, Tree, DOCUMENT, NONE};
+use crate::tree::{Attr, Element, Id, Piece, Tree, DOCUMENT};
 use elements::{change_of, Change, Field, Inner, List, Part};
 use emphasis::{Signed, UNSIGNED_SUFFIX};
 use html5ever::{local_name, namespace_url, ns, LocalName};
@@ -57,6 +57,8 @@ pub(crate) struct Context {
     is_in_drawing: bool,
     /// Number of quotations around.
     quotations: u8,
+    /// Whether a `pre` is around.
+    is_in_pre: bool,
     /// The part of a table that is directly around, as it is recorded.
     part: Option<Part>,
     line: Line,
@@ -331,6 +333,10 @@ impl<'a> Adapter<'a> {
         let (node, attributes) = (opened.node, opened.attributes);
         match change {
             Change::Kept | Change::Apart | Change::Block => Some(Entered::new(self.record(recorder, opened), context)),
+            Change::Preformatted => {
+                context.is_in_pre = true;
+                Some(Entered::new(self.record(recorder, opened), context))
+            }
             Change::Break => {
                 self.inline.add_break(recorder.steps.len());
                 Some(Entered::new(self.record(recorder, opened), context))
@@ -463,6 +469,7 @@ impl<'a> Adapter<'a> {
     /// Records an element and another in it, for its contents.
     fn open_within(&mut self, recorder: &mut Recorder, opened: &Opened<'_>, inner: Inner, mut context: Context) -> Entered {
         let handle = self.record(recorder, opened);
+        context.is_in_pre |= inner == Inner::Preformatted;
         if inner == Inner::List {
             context.holds = Holds::Items;
             context.margins.add_items(BULLET);
@@ -552,14 +559,13 @@ impl<'a> Adapter<'a> {
         Entered { last: Last::Joined, end, ..Entered::new(handle, context) }
     }
 
-    /// Records emphasis: without signs if its texts are hidden, or if it is all that a `pre` has.
+    /// Records emphasis: without signs if its texts are hidden or in a `pre`.
     fn open_signed(&mut self, recorder: &mut Recorder, opened: &mut Opened<'_>, context: Context) -> Entered {
         opened.may_be_unsigned = self.inline.has_signs();
         let step = recorder.steps.len();
         let handle = self.record(recorder, opened);
         let signed = Signed { handle, parent: opened.parent, step, class_step: recorder.class_step(step), is_signed: true };
-        let is_signed = !context.hides_texts() && !is_all_of_pre(self.tree, &recorder.text, opened.node);
-        self.inline.open_signed(recorder, signed, is_signed);
+        self.inline.open_signed(recorder, signed, !context.hides_texts() && !context.is_in_pre);
         Entered { end: End::Signed, ..Entered::new(handle, context) }
     }
 
@@ -765,20 +771,6 @@ fn is_picture(element: &Element) -> bool {
 
 fn is_drawing(element: &Element) -> bool {
     element.name == local_name!("svg") && element.space == ns!(svg)
-}
-
-/// Whether a node and white space are all that is in a `pre`. The texts of the tree are ranges of `text`.
-fn is_all_of_pre(tree: &Tree, text: &[u8], node: Id) -> bool {
-    let pre = tree.parent(node);
-    let is_pre = matches!(tree.element(pre), Some(element) if element.name == local_name!("pre") && element.space == ns!(html));
-    // at most a text before it and one after it, so that few texts are looked at
-    let (first, next) = (tree.first_child(pre), tree.next_sibling(node));
-    let is_alone = (first == node || tree.next_sibling(first) == node) && (next == NONE || tree.next_sibling(next) == NONE);
-    let is_nothing = |child: Id| match *tree.data(child) {
-        Data::Text { start, length, .. } => is_blank(text, (start, length)),
-        _ => false,
-    };
-    is_pre && is_alone && (first == node || is_nothing(first)) && (next == NONE || is_nothing(next))
 }
 
 /// Returns the marks around a quotation in so many others.
