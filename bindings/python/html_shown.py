@@ -46,6 +46,8 @@ _DESCRIPTIONS = frozenset(["dd", "div", "dt"])
 _SHOWN_WITHOUT_TEXT = frozenset("audio embed frame hr iframe img input object video".split())
 _UNREAD = frozenset("head script style template".split())
 _ON_LINES = frozenset("br div dl dt frame li ol p pre textarea ul".split())
+# nodes that are looked at for the first text in an element
+_NODES_BEFORE_TEXT = 16
 _OWN_SIGNS = {"button": 4, "q": 2, "sup": 3}
 _EMPHASIS_SIGNS = {"b": 4, "strong": 4, "code": 2, "em": 2}
 _IMAGE_SIGNS = 2
@@ -445,7 +447,25 @@ def seen(element, signs):
         return _seen_text(element, attributes, signs)
     if tag == "a" and "href" in attributes:
         return "link", signs.of_link(attributes["href"])
-    return "signs" if tag in ("button", "q") else "contents", signs.of_element(tag)
+    is_unsigned = tag == "sup" and _begins_with_bracket(element, signs)
+    return "signs" if tag in ("button", "q") else "contents", 0 if is_unsigned else signs.of_element(tag)
+
+
+def _begins_with_bracket(element, signs):
+    """Whether the text that an element shows begins with a bracket."""
+    ahead = element.childNodes[::-1]
+    for _ in range(_NODES_BEFORE_TEXT):
+        if not ahead:
+            return False
+        node = ahead.pop()
+        if node.nodeType == node.TEXT_NODE and node.data.strip():
+            return node.data.strip()[0] == "["
+        if node.nodeType == node.ELEMENT_NODE:
+            kind, _ = seen(node, signs)
+            if kind not in ("contents", "link", "image", "nothing"):
+                return False
+            ahead += node.childNodes[::-1] if kind in ("contents", "link") else []
+    return False
 
 
 def shown(element, around, tables):
@@ -534,6 +554,8 @@ def _changed_element(recorded, element, attributes, around, tables):
         recorded.around = replace(inside, margin=inside.margin + _PREFIXES[tag])
     elif tag in _SIGNED:
         recorded.kind, recorded.is_signed = "signed", not inside.hides_texts and not inside.is_in_pre
+    elif tag == "sup" and _begins_with_bracket(element, tables.signs):
+        recorded.elements[0] = ("span", HTML, attributes)
     elif tag == "a" and "href" in attributes:
         recorded.kind, recorded.target = "link", attributes["href"]
         recorded.elements[0] = (tag, HTML, {key: value for key, value in attributes.items() if key != "href"})

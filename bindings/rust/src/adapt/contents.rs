@@ -14,6 +14,9 @@ const NUMBER: u32 = 5;
 /// Columns of the signs around a target that follows its link.
 const TARGET_SIGNS: u32 = 3;
 
+/// Maximum number of nodes that are looked at for the first text in an element.
+const NODES_BEFORE_TEXT: usize = 16;
+
 /// Columns of the spaces around a label of a drawing.
 const LABEL_SPACES: u32 = 2;
 
@@ -244,6 +247,30 @@ impl<'a> Contents<'a> {
         false
     }
 
+    /// Whether the text that an element shows begins with a bracket.
+    pub fn begins_with_bracket(self, top: Id) -> bool {
+        let mut node = self.tree.first_child(top);
+        for _ in 0..NODES_BEFORE_TEXT {
+            if node == NONE {
+                return false;
+            }
+            let is_entered = match self.tree.data(node) {
+                &Data::Text { start, length, .. } => match text_of(self.text, (start, length)).trim_start().chars().next() {
+                    Some(first) => return first == '[',
+                    None => false,
+                },
+                Data::Element(element) => match self.shown(node, element) {
+                    Shown::Contents | Shown::Link => true,
+                    Shown::Image | Shown::Nothing => false,
+                    Shown::Block | Shown::Signs | Shown::Table | Shown::Text => return false,
+                },
+                Data::Comment | Data::Root => false,
+            };
+            node = self.next(node, is_entered, top);
+        }
+        false
+    }
+
     /// Returns what a cell has to show on a line of at most so many columns.
     pub fn of_cell(self, cell: Id, room: u32) -> Cell {
         let mut line = Line::default();
@@ -320,7 +347,7 @@ impl<'a> Contents<'a> {
         match change {
             Change::Dropped => Shown::Nothing,
             Change::Kept if matches!(element.name, local_name!("script") | local_name!("style") | local_name!("template")) => Shown::Nothing,
-            Change::Kept | Change::Apart | Change::Signed => Shown::Contents,
+            Change::Kept | Change::Signed | Change::Superscript => Shown::Contents,
             Change::Link if attributes.iter().any(|attribute| attribute.name == local_name!("href")) => Shown::Link,
             Change::Link => Shown::Contents,
             Change::Image => self.shown_of_image(node),
@@ -414,6 +441,7 @@ impl<'a> Contents<'a> {
             _ if element.space == ns!(svg) => self.signs_in_drawing(node, element),
             local_name!("button") => 4,
             local_name!("q") => 2,
+            local_name!("sup") if self.begins_with_bracket(node) => 0,
             local_name!("sup") => 3,
             local_name!("b") | local_name!("strong") if self.adaptation.has_signs => 4,
             local_name!("code") | local_name!("em") if self.adaptation.has_signs => 2,
@@ -542,6 +570,7 @@ pub(super) mod tests {
             ("&nbsp;a&nbsp; &nbsp;\u{754c}&nbsp;", Some(6)),
             ("<a href=x>ab</a> <b>c</b>", Some(13)),
             ("<i>a</i><a>b</a><span hidden>c</span>", Some(2)),
+            ("<sup>1</sup><sup> <i></i><b hidden>a</b><a>[</a>2]</sup>", Some(8)),
             ("<img src=i alt=abc>", Some(5)),
             ("<input value=ab>", Some(8)),
             ("<a href='#b'>a</a><a href=' JavaScript:b'>a</a>", Some(2)),

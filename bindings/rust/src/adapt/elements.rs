@@ -7,8 +7,8 @@ use html5ever::{local_name, LocalName};
 pub(crate) enum Change {
     /// It is recorded as it is, among the text around it.
     Kept,
-    /// It is recorded as it is, and ends a word.
-    Apart,
+    /// A `sup`, which ends a word.
+    Superscript,
     /// A `br`.
     Break,
     /// It is recorded as it is, on lines of its own.
@@ -113,7 +113,7 @@ impl Change {
         match self {
             Change::Kept | Change::Drawing | Change::Dropped | Change::Image | Change::Link | Change::Quotation | Change::Signed => Run::Inline,
             Change::Break => Run::Break,
-            Change::Apart | Change::Embedded | Change::Field(_) | Change::Object => Run::Apart,
+            Change::Embedded | Change::Field(_) | Change::Object | Change::Superscript => Run::Apart,
             _ => Run::Block,
         }
     }
@@ -173,7 +173,7 @@ pub(crate) fn change_of(name: &LocalName) -> Change {
         local_name!("b") | local_name!("code") | local_name!("em") | local_name!("strong") => Change::Signed,
         local_name!("body") | local_name!("caption") | local_name!("dt") | local_name!("frameset") | local_name!("head") | local_name!("html") => Change::Block,
         local_name!("pre") => Change::Preformatted,
-        local_name!("sup") => Change::Apart,
+        local_name!("sup") => Change::Superscript,
         local_name!("button") => Change::Field(Field::Button),
         local_name!("input") => Change::Field(Field::Input),
         local_name!("select") => Change::Field(Field::Select),

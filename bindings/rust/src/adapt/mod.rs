@@ -332,7 +332,7 @@ impl<'a> Adapter<'a> {
     fn open_changed(&mut self, recorder: &mut Recorder, opened: &mut Opened<'_>, change: Change, around: Place, mut context: Context) -> Option<Entered> {
         let (node, attributes) = (opened.node, opened.attributes);
         match change {
-            Change::Kept | Change::Apart | Change::Block => Some(Entered::new(self.record(recorder, opened), context)),
+            Change::Kept | Change::Block => Some(Entered::new(self.record(recorder, opened), context)),
             Change::Preformatted => {
                 context.is_in_pre = true;
                 Some(Entered::new(self.record(recorder, opened), context))
@@ -342,6 +342,7 @@ impl<'a> Adapter<'a> {
                 Some(Entered::new(self.record(recorder, opened), context))
             }
             Change::Signed => Some(self.open_signed(recorder, opened, context)),
+            Change::Superscript => Some(self.open_superscript(recorder, opened, context)),
             Change::Link => Some(self.open_link(recorder, opened, context)),
             Change::Image => Some(self.open_image(recorder, opened, context)),
             Change::Field(field) => self.open_field(recorder, opened, field, context),
@@ -567,6 +568,13 @@ impl<'a> Adapter<'a> {
         let signed = Signed { handle, parent: opened.parent, step, class_step: recorder.class_step(step), is_signed: true };
         self.inline.open_signed(recorder, signed, !context.hides_texts() && !context.is_in_pre);
         Entered { end: End::Signed, ..Entered::new(handle, context) }
+    }
+
+    /// Records a `sup`: without signs around brackets, as citations have.
+    fn open_superscript(&mut self, recorder: &mut Recorder, opened: &Opened<'_>, context: Context) -> Entered {
+        let has_brackets = self.adaptation.contents(self.tree, &recorder.text).begins_with_bracket(opened.node);
+        let handle = if has_brackets { self.record_as(recorder, opened, &local_name!("span"), "") } else { self.record(recorder, opened) };
+        Entered::new(handle, context)
     }
 
     /// Records an `a`, with its target in rich text alone.
