@@ -11,6 +11,8 @@ from urllib.parse import urljoin
 # a class that no page has: control characters aren't recorded
 UNSIGNED = "\x01unsigned"
 
+# what is on lines of its own: with blank lines around, a list, an item or a description of one, or else
+BLOCKS = ("block", "parted", "list", "item")
 LINK_MODES = ("notes", "inline", "list", "none")
 
 _INVISIBLE = frozenset("\u034f\u200b\u200c\u200d\u2060\ufeff")
@@ -114,7 +116,11 @@ class Steps(list):
         self._nodes = 0
 
     def add_element(self, parent, name, space):
-        self.append(["element", parent, name, space])
+        return self.add_made(["element", parent, name, space])
+
+    def add_made(self, step):
+        """Adds the step of an element. Returns its node."""
+        self.append(step)
         self._nodes += 1
         return self._nodes
 
@@ -158,6 +164,72 @@ class _Link:
     block: int = None
 
 
+class _Gaps:
+    """Blank lines where browsers have margins and the library makes none. Where one may be missing an empty element is recorded, which
+    becomes a line break if contents without a margin follow it. `before` is what is directly before: nothing (at the "start" of lines
+    that are rendered together), a "margin", a "list", "contents" or a "gap"."""
+
+    def __init__(self, steps):
+        self._steps = steps
+        self._placeholder = None
+        self.before = "start"
+        self._is_after_margin = False
+
+    def add_text(self, text):
+        """Notes a text."""
+        if not all(_is_blank(it) for it in text):
+            self.add_contents()
+        elif self.before == "gap" and not text.isascii():
+            self.before = "margin"
+
+    def add_contents(self):
+        """Notes something that is shown."""
+        if self.before == "gap":
+            self._placeholder[2] = "br"
+        self.before = "contents"
+
+    def begin(self, run):
+        """Notes that an element begins."""
+        if run == "parted" or run == "break" and self.before == "gap":
+            self.before = "margin"
+        elif run == "item":
+            if self.before == "gap":
+                self.add_contents()
+            self.before = "start"
+
+    def begin_descriptions(self):
+        """Notes that a `dl` begins: the library makes a blank line before it."""
+        self.before, self._is_after_margin = "margin", False
+
+    def end(self, run):
+        """Notes that an element ends."""
+        if run == "item":
+            self._is_after_margin = self.before in ("margin", "list", "gap")
+            self.before = "start" if self.before == "start" else "contents"
+        elif run == "parted":
+            self.before = "margin"
+        elif run == "list" and self.before == "contents":
+            self.before = "list"
+
+    def part(self, node):
+        """Has a blank line in a node part what is before from contents that follow."""
+        if self.before in ("contents", "list"):
+            self._placeholder, self.before = ["element", node, "span", 1], "gap"
+            self._steps.add_made(self._placeholder)
+
+    def part_term(self, node):
+        """Parts a term from a description that ends with a margin."""
+        if self._is_after_margin:
+            self._is_after_margin = False
+            self.part(node)
+
+    def end_table(self, node, is_drawn):
+        """Parts a table from what follows in a node."""
+        if is_drawn:
+            self.before = "contents"
+        self.part(node)
+
+
 class Inline:
     """Text as it is recorded. `mode` says how targets are shown."""
 
@@ -172,6 +244,7 @@ class Inline:
         self._ended = []
         self._links = []
         self._numbers = {}
+        self.gaps = _Gaps(steps)
         self.has_unsigned = False
 
     @property
@@ -182,6 +255,7 @@ class Inline:
     def add_text(self, parent, text):
         """Records a text, unless it is empty."""
         start, middle, end = _parted(text)
+        self.gaps.add_text(text)
         if self._links:
             self._links[-1].text += text
         if middle:
@@ -208,8 +282,9 @@ class Inline:
         """Notes that an element begins, which is inline, a line break, apart from the text around it or a block."""
         if run == "inline":
             return
+        self.gaps.begin(run)
         self._interrupt(keeps_trailing=run == "break")
-        if run == "block":
+        if run in BLOCKS:
             self._drop_signs(self._emphasis)
             if self._links:
                 self._links[-1].is_line_open = False
@@ -220,12 +295,14 @@ class Inline:
         """Notes that a recorded element ends."""
         if run == "inline":
             return
+        self.gaps.end(run)
         self._interrupt(keeps_trailing=True)
-        if run == "block" and self._links and self._links[-1].is_line_open:
+        if run in BLOCKS and self._links and self._links[-1].is_line_open:
             self._links[-1].is_line_open, self._links[-1].block = False, node
 
     def add_object(self):
         """Notes a picture or a field that is shown."""
+        self.gaps.add_contents()
         self._interrupt()
         self._show()
         if self._links:
@@ -270,6 +347,7 @@ class Inline:
         if link.image and not link.is_shown:
             image, element = link.image
             self._steps.add_attribute(image, "alt", name_of(element, link.element))
+            self.gaps.add_contents()
             self._fill()
         is_told = link.target is not None and not link.differs and link.is_shown and _is_told_by(_parted(link.text)[1], link.target)
         is_shown = link.is_shown or link.image is not None
@@ -296,10 +374,13 @@ class Inline:
         if self._insert_before_break(sign):
             return
         spaces = [self._cut(step) for part, step in self._trailing if part == "space"]
+        # the place may be before that of a blank line
+        before, self.gaps.before = self.gaps.before, "contents"
         self.add_text(node, sign)
         self._trailing = [("sign", len(self._steps) - 1)]
         if spaces:
             self.add_text(node, spaces[0])
+        self.gaps.before = before
         if link.block is not None:
             self._interrupt(keeps_trailing=True)
 

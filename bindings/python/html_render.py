@@ -177,6 +177,7 @@ class _Recording:
     def _add_element(self, parent, found, element):
         """Records the elements that one is shown as, and the text before its children. Returns the innermost one."""
         inline, outer = self._inline, parent
+        found.outer = outer
         inline.begin(found.run)
         if found.gap:
             gap = self.add_element(parent, "span")
@@ -196,6 +197,15 @@ class _Recording:
             inline.add_image(parent, element)
         elif found.kind == "object":
             inline.add_object()
+        elif found.kind == "spacer":
+            self.add_text(parent, " ")
+            inline.gaps.part(parent)
+        elif found.kind in ("term", "layout"):
+            (inline.gaps.part_term if found.kind == "term" else inline.gaps.part)(parent)
+        elif found.kind == "descriptions":
+            inline.gaps.begin_descriptions()
+        elif found.kind in ("drawn", "part"):
+            inline.gaps.before = "margin" if found.kind == "drawn" else "start"
         elif found.kind in ("link", "embedded"):
             inline.open_link(element, step, self._kept(found.target))
         if found.before and not self._is_needless(found, "start"):
@@ -225,6 +235,8 @@ class _Recording:
         elif ending.kind in ("link", "embedded"):
             self._inline.close_link(node, name_of_image)
         self._inline.end(node, ending.run)
+        if ending.kind in ("layout", "drawn"):
+            self._inline.gaps.end_table(ending.outer if ending.kind == "drawn" else node, ending.kind == "drawn")
 
     def add_element(self, parent, name, space=HTML):
         """Records an element without attributes."""

@@ -31,6 +31,8 @@ _EMBEDDED = frozenset("audio embed frame iframe object video".split())
 _FIELDS = frozenset("button input select textarea".split())
 _SIGNED = frozenset("b code em strong".split())
 _LINES = frozenset("blockquote body caption dd div dl dt frameset h1 h2 h3 h4 h5 h6 head hr html li ol p pre ul".split())
+_MARGINS = frozenset("blockquote h1 h2 h3 h4 h5 h6 p pre".split())
+_LISTS = frozenset("dl ol ul".split())
 _PREFIXES = {"blockquote": 2, "dd": 2, "h1": 2, "h2": 3, "h3": 4, "h4": 5, "h5": 6, "h6": 7}
 _PARTS = {"table": ("table", None), "caption": ("caption", "table"), "tbody": ("section", "table"), "thead": ("section", "table"), "tfoot": ("section", "table")}
 _PARTS.update({"tr": ("row", "section"), "td": ("cell", "row"), "th": ("cell", "row")})
@@ -68,6 +70,7 @@ class Around:
     is_in_drawing: bool = False
     quotations: int = 0
     is_in_pre: bool = False
+    is_in_table: bool = False
     part: str = None
     margin: int = 0
     item_margin: int = 0
@@ -125,8 +128,10 @@ class Items:
 class Shown:
     """How an element is recorded: names and attributes, the outermost one first; texts before and after its children. `run` is what it
     is to the text around it: inline, a line break, apart or a block; `kind` is that of a signed element, a link, an image, a link with
-    its text in `before`, an object, which is shown without texts of the tree, or a label; `titles` are those of a drawing that is
-    recorded before the children; `gap` are spaces before the element, which are kept."""
+    its text in `before`, an object, which is shown without texts of the tree, a label, a `dl`, a
+    term, a spacer, which parts what is around it, a layout or a drawn table, or a part of one that is rendered apart; `titles` are those of a drawing that is
+    recorded before the children; `gap` are spaces before the element, which are kept; `outer` is the node that it
+    was recorded in."""
 
     elements: list
     around: Around
@@ -140,6 +145,7 @@ class Shown:
     is_signed: bool = True
     target: str = ""
     gap: str = ""
+    outer: int = 0
 
 
 def without_controls(text, is_shown=False):
@@ -483,6 +489,8 @@ def shown(element, around, tables):
     recorded = Shown([(tag, element.namespaceURI, attributes)], inside, run=_run_of(element) if is_html else "inline")
     if is_html and around.holds == _DESCRIPTIONS and element.tagName == "div":
         return Shown([], replace(inside, holds=_DESCRIPTIONS))
+    if is_html and tag in ("div", "p") and not around.is_in_pre and not inside.line and _is_spacer(element):
+        return Shown([("div", HTML, attributes)], inside, has_children=False, run="block", kind="spacer")
     if is_html:
         return _changed_element(recorded, element, attributes, around, tables)
     if element.namespaceURI == SVG:
@@ -528,7 +536,28 @@ def _run_of(element):
         return "break"
     if tag == "sup" or tag in _EMBEDDED or tag in _FIELDS:
         return "apart"
+    within = _WITHIN.get(tag, tag)
+    for run, names in (("parted", _MARGINS), ("list", _LISTS), ("item", ("dd", "li"))):
+        if within in names:
+            return run
     return "block" if tag in _LINES or tag in _WITHIN or tag in _PARTS else "inline"
+
+
+def _is_spacer(block):
+    """Whether all in a block are no-break spaces and white space."""
+    ahead, has_spaces = list(block.childNodes), False
+    while ahead:
+        node = ahead.pop()
+        if node.nodeType == node.TEXT_NODE:
+            if node.data and not node.data.isspace():
+                return False
+            has_spaces |= not node.data.isascii()
+        elif node.nodeType == node.ELEMENT_NODE:
+            is_inline = node.namespaceURI == HTML and _run_of(node) == "inline"
+            if not is_inline or node.tagName in _DROPPED or node.tagName in ("img", "q"):
+                return False
+            ahead += node.childNodes
+    return has_spaces
 
 
 def _changed_element(recorded, element, attributes, around, tables):
@@ -549,7 +578,7 @@ def _changed_element(recorded, element, attributes, around, tables):
         recorded.around = replace(inside, item_margin=columns, holds=_ITEMS)
         recorded.elements[0] = (tag, HTML, {**attributes, "start": str(recorded.numbers.following)})
     elif tag == "dl":
-        recorded.around = replace(inside, holds=_DESCRIPTIONS)
+        recorded.kind, recorded.around = "descriptions", replace(inside, holds=_DESCRIPTIONS)
     elif tag in _PREFIXES:
         recorded.around = replace(inside, margin=inside.margin + _PREFIXES[tag])
     elif tag in _SIGNED:
@@ -565,13 +594,18 @@ def _changed_element(recorded, element, attributes, around, tables):
         part, place = _PARTS[tag]
         if not (tables.is_drawn(element) if place is None else place == around.part):
             recorded = tables.divided(recorded, element, around)
+            recorded.kind = "layout" if part == "table" and not around.is_in_table else ""
         else:
             recorded.around = replace(inside, part=part, is_in_cell=inside.is_in_cell or part == "cell")
+            recorded.kind = {"table": "drawn", "section": "", "row": ""}.get(part, "part")
+        recorded.around = replace(recorded.around, is_in_table=True)
     elif tag == "hr":
         width = max(tables.columns - inside.margin, 0)
         recorded.elements[0] = ("div", HTML, attributes)
         recorded.before = "" if inside.is_invisible else _RULE * (min(width, _RULE_IN_CELL) if inside.is_in_cell else width)
-        recorded.has_children = False
+        recorded.kind, recorded.has_children = "object" if recorded.before else "", False
+    elif tag == "dt":
+        recorded.kind = "term"
     elif tag == "q" and not inside.hides_texts:
         recorded.before, recorded.after = ("\u201c", "\u201d") if inside.quotations % 2 == 0 else ("\u2018", "\u2019")
         recorded.around = replace(inside, quotations=inside.quotations + 1)

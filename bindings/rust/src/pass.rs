@@ -41,6 +41,8 @@ pub(crate) enum End {
     Signed,
     /// Its number is recorded.
     Link,
+    /// A table in a node is parted from what follows.
+    Table { parent: Handle, is_drawn: bool },
 }
 
 /// A recorded element whose children are recorded too.

@@ -69,6 +69,8 @@ pub(crate) struct Recorder {
     /// The longest horizontal line so far.
     rule: Piece,
     node_count: u32,
+    /// Number of the step that made the last placeholder.
+    placeholder: Option<usize>,
 }
 
 impl Recorder {
@@ -82,6 +84,7 @@ impl Recorder {
             names: Box::new([(); NAMES].map(|()| (local_name!(""), (0, 0)))),
             rule: (0, 0),
             node_count: 0,
+            placeholder: None,
         }
     }
 
@@ -165,6 +168,19 @@ impl Recorder {
         self.count_node()
     }
 
+    /// Records an empty element, which shows nothing until it has another name.
+    pub fn record_placeholder(&mut self, parent: Handle) {
+        self.placeholder = Some(self.steps.len());
+        self.element(parent, HTML, &local_name!("span"));
+    }
+
+    /// Gives the last placeholder a name.
+    pub fn name_placeholder(&mut self, name: &LocalName) {
+        if let Some(step) = self.placeholder.take() {
+            self.rename(step, name);
+        }
+    }
+
     /// Gives an element an attribute, unless it has one of that name.
     pub fn attribute(&mut self, node: Handle, name: &LocalName, value: &str) {
         let value = self.keep_filtered(value);
@@ -188,6 +204,7 @@ impl Recorder {
             self.is_out_of_memory = true;
             return false;
         }
+        self.placeholder = self.placeholder.map(|step| step + usize::from(step >= number));
         self.steps.insert(number, Step { kind: kind::PUT_TEXT, node: parent, value, value_length, ..Step::default() });
         true
     }

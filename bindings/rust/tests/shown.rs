@@ -105,7 +105,7 @@ fn rules_are_never_too_narrow() {
 fn tables_that_are_drawn() {
     let page = "<table><tr><td>a<td>b</table><table border=1><tr><td>c<td>d</table>";
     let text = |tables| plain().as_shown(Options::new().tables(tables)).string_from_read(page.as_bytes(), 20).unwrap();
-    assert_eq!(text(Tables::None), "a  b\nc  d\n");
+    assert_eq!(text(Tables::None), "a  b\n\nc  d\n");
     assert_eq!(text(Tables::Data), "a  b\n\n─┬─\nc│d\n─┴─\n");
     assert_eq!(text(Tables::All), "─┬─\na│b\n─┴─\n\n─┬─\nc│d\n─┴─\n");
 }
@@ -114,16 +114,16 @@ fn tables_that_are_drawn() {
 fn rules_for_parts_of_tables_that_are_not_drawn() {
     let page = "<table class=t role=none><caption>a</caption><tr><td id=b>b<br><td>c<tr class=d><th>d</table>e";
     for (css, wanted) in [
-        ("p { color: red }", "a\nb\nc\nd\ne\n"),
-        ("td { display: none }", "a\nd\ne\n"),
-        ("td#b { display: none }", "a\nc\nd\ne\n"),
-        ("th { display: none }", "a\nb\nc\ne\n"),
-        ("tr.d { display: none }", "a\nb\nc\ne\n"),
-        ("caption { display: none }", "b\nc\nd\ne\n"),
-        ("tbody { display: none }", "a\ne\n"),
+        ("p { color: red }", "a\nb\nc\nd\n\ne\n"),
+        ("td { display: none }", "a\nd\n\ne\n"),
+        ("td#b { display: none }", "a\nc\nd\n\ne\n"),
+        ("th { display: none }", "a\nb\nc\n\ne\n"),
+        ("tr.d { display: none }", "a\nb\nc\n\ne\n"),
+        ("caption { display: none }", "b\nc\nd\n\ne\n"),
+        ("tbody { display: none }", "a\n\ne\n"),
         ("table.t { display: none }", "e\n"),
-        ("div { display: none }", "a\nb\nc\nd\ne\n"),
-        ("td::before { content: '-' } tr::after { content: ';' }", "a\n-b\n-c\n;\nd\n;\ne\n"),
+        ("div { display: none }", "a\nb\nc\nd\n\ne\n"),
+        ("td::before { content: '-' } tr::after { content: ';' }", "a\n-b\n-c\n;\nd\n;\n\ne\n"),
     ] {
         assert_eq!(shown(page, plain().add_css(css).unwrap(), 80), wanted, "{css}");
         assert_eq!(shown(&format!("<style>{css}</style>{page}"), plain().use_doc_css(), 80), wanted, "{css}");
@@ -135,7 +135,7 @@ fn rules_hide_cells_of_lines() {
     let page = "<table><tr><td>a<td class=b><p>b<td><i class=c>c</i><td>d</table><table><tr class=b><td>e<td>f</table>";
     for (css, wanted) in [
         (".b { display: none }", "a  c  d\n"),
-        (".c { display: none }", "a\n\nb\n\nd\ne  f\n"),
+        (".c { display: none }", "a\n\nb\n\nd\n\ne  f\n"),
         (".b { display: none } .c { display: none }", "a  d\n"),
     ] {
         assert_eq!(shown(page, plain().add_css(css).unwrap(), 80), wanted, "{css}");

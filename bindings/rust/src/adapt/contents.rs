@@ -247,6 +247,31 @@ impl<'a> Contents<'a> {
         false
     }
 
+    /// Whether all in a block are no-break spaces and white space.
+    pub fn is_spacer(self, block: Id) -> bool {
+        let mut has_spaces = false;
+        let mut node = self.tree.first_child(block);
+        while node != NONE {
+            match self.tree.data(node) {
+                &Data::Text { start, length, .. } => {
+                    let text = text_of(self.text, (start, length));
+                    if !text.chars().all(char::is_whitespace) {
+                        return false;
+                    }
+                    has_spaces |= !text.is_ascii();
+                }
+                Data::Element(element) if element.space == ns!(html) => match change_of(&element.name) {
+                    Change::Kept | Change::Signed | Change::Link => {}
+                    _ => return false,
+                },
+                Data::Element(_) => return false,
+                Data::Comment | Data::Root => {}
+            }
+            node = self.next(node, true, block);
+        }
+        has_spaces
+    }
+
     /// Whether the text that an element shows begins with a bracket.
     pub fn begins_with_bracket(self, top: Id) -> bool {
         let mut node = self.tree.first_child(top);
@@ -353,7 +378,8 @@ impl<'a> Contents<'a> {
             Change::Image => self.shown_of_image(node),
             Change::Drawing => self.shown_in_drawing(node, element),
             Change::Block if element.name == local_name!("head") => Shown::Nothing,
-            Change::Block | Change::Break | Change::Heading(_) | Change::Preformatted | Change::Within(_) => Shown::Block,
+            Change::Block | Change::Break | Change::Division | Change::Heading(_) | Change::Paragraph | Change::Preformatted => Shown::Block,
+            Change::Description | Change::Item | Change::Term | Change::Within(_) => Shown::Block,
             Change::Dialog if self.tree.attribute(node, &local_name!("open")).is_none() => Shown::Nothing,
             Change::Dialog | Change::Rule | Change::List(_) | Change::Descriptions | Change::Prefixed(_) => Shown::Block,
             Change::Object if !names_contents(attributes) => Shown::Contents,

@@ -13,6 +13,16 @@ pub(crate) enum Change {
     Break,
     /// It is recorded as it is, on lines of its own.
     Block,
+    /// A `div`.
+    Division,
+    /// A `p`.
+    Paragraph,
+    /// An `li`.
+    Item,
+    /// A `dt`.
+    Term,
+    /// A `dd`.
+    Description,
     /// A `pre`.
     Preformatted,
     /// An `a`.
@@ -105,6 +115,20 @@ pub(crate) enum Run {
     Break,
     /// It is on lines of its own.
     Block,
+    /// It is on lines of its own, and the library makes blank lines around it.
+    Parted,
+    /// A list.
+    List,
+    /// An item or a description, whose lines are rendered apart.
+    Item,
+}
+
+impl Run {
+    /// Whether an element is on lines of its own.
+    #[inline]
+    pub fn is_block(self) -> bool {
+        matches!(self, Run::Block | Run::Parted | Run::List | Run::Item)
+    }
 }
 
 impl Change {
@@ -114,6 +138,9 @@ impl Change {
             Change::Kept | Change::Drawing | Change::Dropped | Change::Image | Change::Link | Change::Quotation | Change::Signed => Run::Inline,
             Change::Break => Run::Break,
             Change::Embedded | Change::Field(_) | Change::Object | Change::Superscript => Run::Apart,
+            Change::Heading(_) | Change::Paragraph | Change::Prefixed(_) | Change::Preformatted | Change::Within(Inner::Preformatted) => Run::Parted,
+            Change::List(_) | Change::Descriptions | Change::Within(Inner::List) => Run::List,
+            Change::Description | Change::Item => Run::Item,
             _ => Run::Block,
         }
     }
@@ -125,7 +152,9 @@ pub(crate) fn change_of(name: &LocalName) -> Change {
         // the most frequent ones
         local_name!("a") => Change::Link,
         local_name!("br") => Change::Break,
-        local_name!("div") | local_name!("li") | local_name!("p") => Change::Block,
+        local_name!("div") => Change::Division,
+        local_name!("li") => Change::Item,
+        local_name!("p") => Change::Paragraph,
         local_name!("i") | local_name!("span") => Change::Kept,
         local_name!("img") => Change::Image,
         local_name!("canvas") | local_name!("datalist") | local_name!("noembed") | local_name!("noframes") | local_name!("title") => Change::Dropped,
@@ -158,7 +187,9 @@ pub(crate) fn change_of(name: &LocalName) -> Change {
         local_name!("ol") => Change::List(List::Ordered),
         local_name!("ul") => Change::List(List::Unordered),
         local_name!("dl") => Change::Descriptions,
-        local_name!("blockquote") | local_name!("dd") => Change::Prefixed(2),
+        local_name!("blockquote") => Change::Prefixed(2),
+        local_name!("dd") => Change::Description,
+        local_name!("dt") => Change::Term,
         local_name!("h1") => Change::Heading(2),
         local_name!("h2") => Change::Heading(3),
         local_name!("h3") => Change::Heading(4),
@@ -171,7 +202,7 @@ pub(crate) fn change_of(name: &LocalName) -> Change {
         local_name!("tr") => Change::Table(Part::Row),
         local_name!("td") | local_name!("th") => Change::Table(Part::Cell),
         local_name!("b") | local_name!("code") | local_name!("em") | local_name!("strong") => Change::Signed,
-        local_name!("body") | local_name!("caption") | local_name!("dt") | local_name!("frameset") | local_name!("head") | local_name!("html") => Change::Block,
+        local_name!("body") | local_name!("caption") | local_name!("frameset") | local_name!("head") | local_name!("html") => Change::Block,
         local_name!("pre") => Change::Preformatted,
         local_name!("sup") => Change::Superscript,
         local_name!("button") => Change::Field(Field::Button),
@@ -193,7 +224,7 @@ mod tests {
         assert_eq!(change_of(&LocalName::from("search")), Change::Within(Inner::Division));
         assert_eq!(change_of(&LocalName::from("span")), Change::Kept);
         assert_eq!(change_of(&local_name!("h6")), Change::Heading(7));
-        for (name, run) in [("span", Run::Inline), ("b", Run::Inline), ("br", Run::Break), ("sup", Run::Apart), ("input", Run::Apart), ("li", Run::Block), ("td", Run::Block), ("hr", Run::Block)] {
+        for (name, run) in [("span", Run::Inline), ("b", Run::Inline), ("br", Run::Break), ("sup", Run::Apart), ("input", Run::Apart), ("li", Run::Item), ("p", Run::Parted), ("ul", Run::List), ("dd", Run::Item), ("div", Run::Block), ("menu", Run::List), ("xmp", Run::Parted), ("td", Run::Block), ("hr", Run::Block)] {
             assert_eq!(change_of(&LocalName::from(name)).run(), run, "{name}");
         }
     }

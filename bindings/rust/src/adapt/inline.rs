@@ -3,6 +3,7 @@
 use super::elements::Run;
 use super::emphasis::{Emphasis, Signed};
 use super::flow::{self, Flow};
+use super::gaps::Gaps;
 use super::links::{EndedLink, Links};
 use crate::record::{Handle, Recorder};
 use crate::tree::{Id, Piece};
@@ -15,12 +16,13 @@ pub(crate) struct Inline {
     has_signs: bool,
     emphasis: Emphasis,
     pub links: Links,
+    pub gaps: Gaps,
 }
 
 impl Inline {
     /// Returns the start of a text whose emphasis may have signs.
     pub fn new(links: Links, has_signs: bool) -> Inline {
-        Inline { flow: Flow::default(), has_signs, emphasis: Emphasis::default(), links }
+        Inline { flow: Flow::default(), has_signs, emphasis: Emphasis::default(), links, gaps: Gaps::default() }
     }
 
     pub fn has_signs(&self) -> bool {
@@ -41,6 +43,7 @@ impl Inline {
     /// Notes a text before it is recorded. Returns what of it is recorded.
     #[inline(always)]
     pub fn add_text(&mut self, recorder: &mut Recorder, piece: Piece) -> Piece {
+        self.gaps.add_text(recorder, piece);
         if self.is_watching() {
             self.add_watched_text(recorder, piece)
         } else {
@@ -81,7 +84,8 @@ impl Inline {
     }
 
     /// Notes a picture or a field that is shown.
-    pub fn add_object(&mut self) {
+    pub fn add_object(&mut self, recorder: &mut Recorder) {
+        self.gaps.add_contents(recorder);
         self.flow.interrupt();
         self.links.add_object();
         self.emphasis.fill();
@@ -92,6 +96,7 @@ impl Inline {
     pub fn begin(&mut self, recorder: &mut Recorder, run: Run) {
         if run != Run::Inline {
             self.flow.end_word();
+            self.gaps.begin(recorder, run);
             if self.is_watching() {
                 self.begin_watched(recorder, run);
             }
@@ -104,7 +109,7 @@ impl Inline {
         if run != Run::Break {
             self.flow.interrupt();
         }
-        if run == Run::Block {
+        if run.is_block() {
             self.links.begin_block();
             self.emphasis.add_block(recorder);
         }
@@ -121,6 +126,7 @@ impl Inline {
     #[inline(always)]
     pub fn end(&mut self, handle: Handle, run: Run) {
         self.flow.end_word();
+        self.gaps.end(run);
         if self.is_watching() {
             self.end_watched(handle, run);
         }
@@ -129,7 +135,7 @@ impl Inline {
     #[inline(never)]
     fn end_watched(&mut self, handle: Handle, run: Run) {
         self.emphasis.end_word();
-        if run == Run::Block {
+        if run.is_block() {
             self.links.end_block(handle);
         }
     }
@@ -159,6 +165,7 @@ impl Inline {
         };
         if let Some((image, node, link)) = link.image {
             recorder.attribute(image, &local_name!("alt"), &name_of(node, link));
+            self.gaps.add_contents(recorder);
             self.emphasis.fill();
         }
         if let (Some(step), false) = (link.empty_step, self.links.keeps_targets()) {
@@ -181,11 +188,14 @@ impl Inline {
         let place = block.unwrap_or(handle);
         let space = self.flow.cut_trailing(recorder);
         let step = recorder.steps.len();
+        // the place may be before that of a blank line
+        let gaps = std::mem::take(&mut self.gaps);
         self.record_text(recorder, place, sign);
         self.flow.add_sign(step);
         if let Some(space) = space {
             self.record_text(recorder, place, space);
         }
+        self.gaps = gaps;
         if block.is_some() {
             self.flow.end_word();
         }

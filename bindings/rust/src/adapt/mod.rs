@@ -9,6 +9,7 @@ mod embedded;
 mod emphasis;
 mod flow;
 mod forms;
+mod gaps;
 mod inline;
 mod links;
 mod lists;
@@ -59,6 +60,8 @@ pub(crate) struct Context {
     quotations: u8,
     /// Whether a `pre` is around.
     is_in_pre: bool,
+    /// Whether a table is around.
+    is_in_table: bool,
     /// The part of a table that is directly around, as it is recorded.
     part: Option<Part>,
     line: Line,
@@ -277,6 +280,14 @@ impl<'a> Adapter<'a> {
                 let space = recorder.keep(" ");
                 self.inline.record_text(recorder, handle, space);
             }
+            End::Table { parent, is_drawn } => {
+                self.inline.end(handle, Run::Block);
+                if is_drawn {
+                    self.inline.gaps.end_drawn(recorder, parent);
+                } else {
+                    self.inline.gaps.part(recorder, parent);
+                }
+            }
             End::Signed => self.inline.close_signed(recorder),
             End::Link => {
                 let tree = self.tree;
@@ -317,6 +328,10 @@ impl<'a> Adapter<'a> {
             context.holds = Holds::Descriptions;
             return Some(Entered::new(around.handle, context));
         }
+        if matches!(change, Change::Division | Change::Paragraph) && self.is_spacer(recorder, node, context) {
+            self.record_spacer(recorder, &opened);
+            return None;
+        }
         let is_piece_of_line = around.context.line == Line::Row && change == Change::Table(Part::Cell);
         let run = if is_piece_of_line { Run::Apart } else { change.run() };
         self.inline.begin(recorder, run);
@@ -332,7 +347,7 @@ impl<'a> Adapter<'a> {
     fn open_changed(&mut self, recorder: &mut Recorder, opened: &mut Opened<'_>, change: Change, around: Place, mut context: Context) -> Option<Entered> {
         let (node, attributes) = (opened.node, opened.attributes);
         match change {
-            Change::Kept | Change::Block => Some(Entered::new(self.record(recorder, opened), context)),
+            Change::Kept | Change::Block | Change::Division | Change::Item | Change::Paragraph => Some(Entered::new(self.record(recorder, opened), context)),
             Change::Preformatted => {
                 context.is_in_pre = true;
                 Some(Entered::new(self.record(recorder, opened), context))
@@ -379,11 +394,21 @@ impl<'a> Adapter<'a> {
             }
             Change::Descriptions => {
                 context.holds = Holds::Descriptions;
+                self.inline.gaps.begin_descriptions();
                 Some(Entered::new(self.record(recorder, opened), context))
             }
             Change::Heading(columns) => {
                 context.margins.add(columns);
                 Some(self.open_heading(recorder, opened, context))
+            }
+            Change::Term => {
+                let handle = self.record(recorder, opened);
+                self.inline.gaps.part_term(recorder, handle);
+                Some(Entered::new(handle, context))
+            }
+            Change::Description => {
+                context.margins.add(DESCRIPTION);
+                Some(Entered::new(self.record(recorder, opened), context))
             }
             Change::Prefixed(columns) => {
                 context.margins.add(columns);
@@ -467,6 +492,22 @@ impl<'a> Adapter<'a> {
         handle
     }
 
+    /// Whether a block shows nothing but no-break spaces and white space.
+    #[inline]
+    fn is_spacer(&self, recorder: &Recorder, block: Id, context: Context) -> bool {
+        !context.is_in_pre && !context.is_in_line() && self.adaptation.contents(self.tree, &recorder.text).is_spacer(block)
+    }
+
+    /// Records a block that shows nothing: it ends a line, and parts what is around it.
+    fn record_spacer(&mut self, recorder: &mut Recorder, opened: &Opened<'_>) {
+        self.inline.begin(recorder, Run::Block);
+        let handle = self.record_as(recorder, opened, &local_name!("div"), "");
+        let space = recorder.keep(" ");
+        recorder.text(handle, space);
+        self.inline.gaps.part(recorder, handle);
+        self.inline.end(handle, Run::Block);
+    }
+
     /// Records an element and another in it, for its contents.
     fn open_within(&mut self, recorder: &mut Recorder, opened: &Opened<'_>, inner: Inner, mut context: Context) -> Entered {
         let handle = self.record(recorder, opened);
@@ -491,7 +532,7 @@ impl<'a> Adapter<'a> {
             let shown = self.tree.filter.filtered(&shown);
             let piece = recorder.keep(&shown);
             recorder.text(handle, piece);
-            self.inline.add_object();
+            self.inline.add_object(recorder);
         }
         match field {
             Field::Button if context.hides_texts() => Some(Entered::new(handle, context)),
@@ -524,7 +565,7 @@ impl<'a> Adapter<'a> {
         let space = record::space(&opened.element.space);
         let drawing = recorder.element(handle, space, name);
         for title in drawings::titles(self.tree, opened.node) {
-            self.inline.add_object();
+            self.inline.add_object(recorder);
             let title_handle = recorder.element(drawing, space, &local_name!("title"));
             for piece in self.tree.children(title).filter_map(|child| self.tree.piece(child)) {
                 recorder.text(title_handle, piece);
@@ -606,7 +647,7 @@ impl<'a> Adapter<'a> {
         } else if value(local_name!("alt")).is_empty() {
             self.inline.add_image(handle, opened.node);
         } else {
-            self.inline.add_object();
+            self.inline.add_object(recorder);
         }
         Entered::new(handle, context)
     }
@@ -627,14 +668,31 @@ impl<'a> Adapter<'a> {
             Part::Row => around.part == Some(Part::Section),
             Part::Cell => around.part == Some(Part::Row),
         };
+        context.is_in_table = true;
         if !is_drawn {
-            return self.open_division(recorder, opened, part, around.line, context);
+            let mut entered = self.open_division(recorder, opened, part, around.line, context);
+            if part == Part::Table && !around.is_in_table {
+                self.inline.gaps.part(recorder, entered.handle);
+                entered.end = End::Table { parent: entered.handle, is_drawn };
+            }
+            return entered;
         }
         context.part = Some(part);
         if part == Part::Cell {
             context.margins.enter_cell();
         }
-        Entered::new(self.record(recorder, opened), context)
+        let entered = Entered::new(self.record(recorder, opened), context);
+        match part {
+            Part::Table => {
+                self.inline.gaps.begin_drawn();
+                Entered { end: End::Table { parent: opened.parent, is_drawn }, ..entered }
+            }
+            Part::Caption | Part::Cell => {
+                self.inline.gaps.begin_place();
+                entered
+            }
+            Part::Section | Part::Row => entered,
+        }
     }
 
     /// Records a division with a line as wide as there is room for.
@@ -642,6 +700,7 @@ impl<'a> Adapter<'a> {
         let handle = self.record_as(recorder, opened, &local_name!("div"), RULE_CLASS);
         let columns = context.margins.rule(self.adaptation.columns);
         if columns > 0 && !context.is_invisible {
+            self.inline.gaps.add_contents(recorder);
             let line = recorder.rule(columns);
             recorder.text(handle, line);
         }

@@ -224,7 +224,7 @@ mod tests {
     use crate::records::Step;
     use std::mem;
 
-    /// Returns what is recorded in the body of a page: elements with their classes, and texts.
+    /// Returns what is recorded in the body of a page: elements with their classes, and texts; without the place of a blank line at its end.
     fn recorded(page: &str, by: Adaptation) -> String {
         let mut tree = tree_of(page);
         let text = mem::take(&mut tree.text);
@@ -251,7 +251,11 @@ mod tests {
         }
         let all = children[0].concat();
         let body = all.split_once("<body>").unwrap().1;
-        body.strip_suffix("</></>").unwrap().to_owned()
+        let body = body.strip_suffix("</></>").unwrap();
+        match body.rsplit_once("<span></>") {
+            Some((before, after)) if after.bytes().all(|byte| b"</>".contains(&byte)) => [before, after].concat(),
+            _ => body.to_owned(),
+        }
     }
 
     const BLANK: &str = "<span class=~0>  </>";
@@ -280,8 +284,8 @@ mod tests {
     #[test]
     fn room_is_what_prefixes_leave() {
         let row = "<table><tr><td>abcdefghi<td>abcdefghi</table>";
-        assert!(recorded(row, adaptation()).contains("<span>"));
-        assert!(!recorded(&format!("<blockquote>{row}"), adaptation()).contains("<span>"));
+        assert!(recorded(row, adaptation()).contains(BLANK));
+        assert!(!recorded(&format!("<blockquote>{row}"), adaptation()).contains(BLANK));
     }
 
     #[test]
