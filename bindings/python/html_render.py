@@ -202,6 +202,8 @@ class _Recording:
             inline.gaps.part(parent)
         elif found.kind in ("term", "layout"):
             (inline.gaps.part_term if found.kind == "term" else inline.gaps.part)(parent)
+        elif found.kind == "rule":
+            inline.gaps.add_contents()
         elif found.kind == "descriptions":
             inline.gaps.begin_descriptions()
         elif found.kind in ("drawn", "part"):

@@ -128,8 +128,8 @@ class Items:
 class Shown:
     """How an element is recorded: names and attributes, the outermost one first; texts before and after its children. `run` is what it
     is to the text around it: inline, a line break, apart or a block; `kind` is that of a signed element, a link, an image, a link with
-    its text in `before`, an object, which is shown without texts of the tree, a label, a `dl`, a
-    term, a spacer, which parts what is around it, a layout or a drawn table, or a part of one that is rendered apart; `titles` are those of a drawing that is
+    its text in `before`, an object, which is shown without texts of the tree, a label, a rule, a
+    `dl`, a term, a spacer, which parts what is around it, a layout or a drawn table, or a part of one that is rendered apart; `titles` are those of a drawing that is
     recorded before the children; `gap` are spaces before the element, which are kept; `outer` is the node that it
     was recorded in."""
 
@@ -603,7 +603,7 @@ def _changed_element(recorded, element, attributes, around, tables):
         width = max(tables.columns - inside.margin, 0)
         recorded.elements[0] = ("div", HTML, attributes)
         recorded.before = "" if inside.is_invisible else _RULE * (min(width, _RULE_IN_CELL) if inside.is_in_cell else width)
-        recorded.kind, recorded.has_children = "object" if recorded.before else "", False
+        recorded.kind, recorded.has_children = "rule" if recorded.before else "", False
     elif tag == "dt":
         recorded.kind = "term"
     elif tag == "q" and not inside.hides_texts:
