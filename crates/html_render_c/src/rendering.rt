@@ -25,7 +25,7 @@ pub struct Given<'a> {
     pub settings: &'a [Setting],
 }
 
-/// Returns a configuration after the calls of records, in order.
+/// Applies the settings to a configuration, in order.
 ///
 /// # Errors
 ///
@@ -172,7 +172,14 @@ fn rich_lines(alloc: Global, given: Given<'_>, width: usize) -> Result<Vec<u8>, 
     lines_with(alloc, given, rich(alloc), width)
 }
 
-/// Returns the text of the document with the decorator of this number, with a zero byte after it.
+/// Returns the text of the document in `width` columns, with a zero byte after it. `decorator` is 0 for that of plain text, 1
+/// for that of rich text.
+///
+/// # Errors
+///
+/// - `Decorator` for any other number.
+/// - `Setting` or `Step` with the number, from 0, of the first faulty record.
+/// - `Refused` with `Fail`, `TooNarrow` or `OutOfMemory`.
 pub fn text(alloc: Global, given: Given<'_>, decorator: u32, width: usize) -> Result<Vec<u8>, Fault>
     ensures plain { decorator ≡ 0 → Ends (IsPlainText given.entry.text.now given.entry.steps.now given.entry.settings.now width) result }
     ensures rich { decorator ≡ 1 → Ends (IsRichText given.entry.text.now given.entry.steps.now given.entry.settings.now width) result }
@@ -185,7 +192,14 @@ pub fn text(alloc: Global, given: Given<'_>, decorator: u32, width: usize) -> Re
     }
 }
 
-/// Returns the records of the document's lines with the decorator of this number, with a zero byte after them.
+/// Returns the records of the document's lines in `width` columns, with a zero byte after them. `decorator` is 0 for that of
+/// plain text, 1 for that of rich text.
+///
+/// # Errors
+///
+/// - `Decorator` for any other number.
+/// - `Setting` or `Step` with the number, from 0, of the first faulty record.
+/// - `Refused` with `Fail`, `TooNarrow` or `OutOfMemory`.
 pub fn lines(
     alloc: Global,
     given: Given<'_>,

@@ -69,7 +69,7 @@ pub struct Block<T, M> {
     lines: Lines<T, M>,
     /// Open paragraph; `None` once a character was too wide for it.
     paragraph: Option<Paragraph<T, M>>,
-    /// Whether a block has ended here.
+    /// Whether a block-level part has just ended in this block, so that the next text that isn't blank starts another one.
     at_block_end: bool,
     /// Open table; `None` if no table is open.
     table: Option<Box<OpenTable<Picture<T, M>, T, M>>>,
@@ -358,14 +358,14 @@ impl<T: Tag, M: Copy> Block<T, M> {
         self.add_empty_line()
     }
 
-    /// Sets whether a block has ended here.
+    /// Sets whether a block-level part has just ended.
     fn set_at_block_end(&mut self, at_block_end: bool)
         ensures { self.new ≡ record self.old { at_block_end = at_block_end } }
     {
         self.at_block_end = at_block_end;
     }
 
-    /// Starts a block: flushes, and appends an empty line with the waiting marks, unless there is no line yet.
+    /// Starts a block-level part: flushes, and appends an empty line with the waiting marks, unless there is no line yet.
     ///
     /// # Errors
     ///
@@ -382,7 +382,7 @@ impl<T: Tag, M: Copy> Block<T, M> {
         Ok(())
     }
 
-    /// Ends a block: the next text that isn't blank starts another one. See
+    /// Ends a block-level part: the next text that isn't blank starts another one. See
     /// [`add_inline_text`](Block::add_inline_text).
     #[tactic(auto, unfolding(crate::specs::Machine::operations))]
     pub fn end_block(&mut self)
@@ -405,8 +405,8 @@ impl<T: Tag, M: Copy> Block<T, M> {
         self.flush()
     }
 
-    /// Begins a new line: flushes, and appends an empty line with the waiting marks if the paragraph had no line. The
-    /// next text starts no block then, even if a block had ended here.
+    /// Begins a new line: flushes, and appends an empty line with the waiting marks if the paragraph had no line.
+    /// Afterwards the next text starts no block-level part, even if one had ended before.
     ///
     /// # Errors
     ///
@@ -451,8 +451,9 @@ impl<T: Tag, M: Copy> Block<T, M> {
         self.feed(text, style)
     }
 
-    /// Adds a mark to the open paragraph. It directly precedes the next character that is placed there. If none
-    /// follows, the mark waits for the next paragraph, or for a line that is added otherwise.
+    /// Adds a mark to the open paragraph. It directly precedes the next character that is placed there; a pending space
+    /// is placed before the mark. If no character follows, the mark waits for the next paragraph, or for a line that is
+    /// added otherwise.
     ///
     /// # Errors
     ///
@@ -479,8 +480,8 @@ impl<T: Tag, M: Copy> Block<T, M> {
         add_each_mark(paragraph, marks)
     }
 
-    /// Moves lines to the end of this block's, each after its prefix, and the first one also after the waiting marks.
-    /// Returns `TooNarrow`, with overflow off, if a line passes the width then.
+    /// Appends lines to those of this block, the first after `first`, the others after `later`; the waiting marks precede
+    /// `first`. Returns `TooNarrow`, with overflow off, if a line passes the width then.
     #[tactic(auto, using(html_render_dom_values::specs::laws::Outcome::refusals, crate::proofs::Behind::moved_behind))]
     fn move_lines(
         &mut self,
@@ -505,8 +506,8 @@ impl<T: Tag, M: Copy> Block<T, M> {
         )
     }
 
-    /// Appends the lines of a flushed block to this flushed block, each after its prefix. The marks `end` follow the
-    /// last line. Without lines they are fed to this block.
+    /// Appends the lines of a flushed block to this flushed block, each after its prefix. The marks `end` are put at the
+    /// end of the last line. Without lines they are fed to this block.
     #[tactic(auto, using(html_render_dom_values::specs::laws::Outcome::refusals, crate::proofs::Appending::none_put))]
     fn append_lines(
         &mut self,

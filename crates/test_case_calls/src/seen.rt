@@ -37,6 +37,10 @@ fn push_tree(
 /// - the number of nodes, from which the next node's handle follows, and the quirks mode;
 /// - the messages of parse errors;
 /// - the tree of each named node, and of the node that was created last, if it has no parent.
+///
+/// # Errors
+///
+/// `Refused(OutOfMemory)`.
 pub fn seen(alloc: Global, page: &Page) -> Result<String, Fault> {
     let dom = &page.dom;
     let mut shown = dom.as_dom_string(alloc)?;

@@ -132,7 +132,7 @@ module _ {S A K T B : Type 0} (m : Means S A K T B) where
             (behind-same (places number s) n children s front.0 (λ below q. run-same children below 0 q rest.0)),
       )
 
-  -- the most nodes open at once are equal
+  -- the greatest numbers of nodes open at once are equal
   opens-same : (t : Forest RenderNode) (places : Places State) (number : ℕ) (s : State) → has_table t ≡ false →
       open_at (layout_of m) places number (without_sizes t) s ≡ open_at (layout_of m) places number t s
   opens-same none places number s plain = refl
@@ -148,7 +148,7 @@ module _ {S A K T B : Type 0} (m : Means S A K T B) where
   run-needed : (t : Forest RenderNode) (s : State) → run (layout_of m) (with_needed_sizes t) s ≡ run (layout_of m) t s
   run-needed t s = if_cases (λ x. run (layout_of m) x s ≡ run (layout_of m) t s) (has_table t) _ _ (λ _. refl) (λ e. run-same t bare 0 s e)
 
-  -- THE LAW: trees with and without unused preferred widths show the same
+  -- THE LAW: leaving out unused preferred widths doesn't change the view after the layout
   pub shown-needed : {L : Type 0} (end : DocumentEnd B T) (shown : State → L) (t : Forest RenderNode) (s : State) →
       shown_after m end shown (with_needed_sizes t) s ≡ shown_after m end shown t s
   shown-needed end shown t s = ap (option_and_then _) (run-needed t s)

@@ -1,4 +1,4 @@
-//! Decorated parts of a text: emphasis, struck-out parts and superscripts.
+//! Decorated parts of a text: emphasis, struck-out parts and superscripts; and [`begin`], which links and images use too.
 
 ghost use Rattle.std.specs.Prelude.{◌≡◌, Some, OnOk, IfOk, IfErr, string_bytes};
 ghost use Rattle.std.specs.Str.{chars};
@@ -51,8 +51,7 @@ pub fn end_of<D: TextDecorator>(
     }
 }
 
-/// Begins a decorated part: adds its annotation to the texts that follow, and then the decorator's text before the part as
-/// the first of these.
+/// Begins a decorated part: pushes its annotation, then adds the decorator's opening text under it.
 ///
 /// # Errors
 ///

@@ -140,7 +140,7 @@ meant s (Stop c ∷ ps) q = with-stop s c ps q (meant s ps q)
 meant s (SoftStop c ∷ ps) q = with-soft_stop s c ps q (meant s ps q)
 meant s (Marked m ∷ ps) q = with-marked s m ps q (meant s ps q)
 
--- placed lines are the paragraph's
+-- the lines that `paragraph` places satisfy `IsParagraph`
 pub placed_paragraph : {T M : Type 0} (s : Setting) (marks : List M) (xs : List (Item T M)) (q : Page T M) →
     paragraph s marks xs ≡ Some q → IsParagraph s marks xs (all_lines q) q.waiting
 placed_paragraph s marks xs q e =

@@ -34,7 +34,8 @@ a_node kind style estimate = record { kind = kind; style = style; estimate = est
 abbrev pub IsPlain : NodeKind → Type 0
 IsPlain kind = around Anywhere kind ≡ Some (record { below = Anywhere; beside = Anywhere })
 
--- whether the trees below a result are good, by its role
+-- whether a result is good in the place of its role: its node over the trees below it; of a caption a plain node and the trees, of
+-- `Rows` the trees alone
 abbrev pub IsGood : Role → RenderNode → Nodes → Type 0
 IsGood Contents n t = are_good Anywhere (node n t none) ≡ true
 IsGood Caption n t = IsPlain n.kind × (are_good Anywhere t ≡ true)
@@ -59,7 +60,7 @@ AllGoodOf is = AllByRecursion (λ r. IsGoodResult r × (is r.role ≡ true))
 abbrev pub AreGoodIn : Place → Option Nodes → Type 0
 AreGoodIn place o = IfSome o (λ t. are_good place t ≡ true)
 
--- results that pass a test are good and pass it
+-- those of good results that pass a test are good, and pass it
 picked-good : (test : Result → Bool) (rs : List Result) → AllGood rs → AllByRecursion (λ r. IsGoodResult r × (test r ≡ true)) (filter test rs)
 picked-good test [] g = tt
 picked-good test (r ∷ rs) g =
@@ -183,7 +184,7 @@ joined-good (r ∷ rs) g = by r.role r.below (joined rs) g.0.1 g.0.0 (joined-goo
 
 -- ---- insertions
 
--- trees that are good in a place are good below a result, if that follows for its role
+-- if trees that are good in `place` are good for a role, so are optional trees
 pub below-good : (place : Place) (role : Role) (n : RenderNode) → ((t : Nodes) → are_good place t ≡ true → IsGood role n t) →
     (o : Option Nodes) → AreGoodIn place o → IsGoodIn role n o
 below-good place role n is o h = IfSome_then o h is
