@@ -137,12 +137,14 @@ class Steps(list):
 
 @dataclass
 class _Signed:
-    """A recorded element with signs: its node and the one that it is in, the steps that made it and gave it its classes."""
+    """A recorded element with signs: its node and the one that it is in, the steps that made it and gave it its classes, and whether
+    its signs are stars."""
 
     node: int
     parent: int
     step: int
     class_step: int
+    is_starred: bool
     is_signed: bool = True
     is_filled: bool = False
     has_space_before: bool = False
@@ -268,6 +270,8 @@ class Inline:
             is_direct = not start and not (waiting and waiting[0].has_space_before)
             if is_direct and self._last and _is_word(self._last) and _is_word(middle[0]):
                 self._drop_signs(self._ended + waiting)
+            if middle.startswith("*"):
+                self._drop_signs([it for it in waiting if it.is_starred])
             self._fill()
         self._ended = []
         if text:
@@ -316,11 +320,11 @@ class Inline:
             link.image, link.is_line_open = (node, element), True
             self._interrupt()
 
-    def open_signed(self, node, parent, step, is_signed):
+    def open_signed(self, node, parent, step, is_starred, is_signed):
         """Opens a recorded element with signs. It has none in the signs of another."""
         if self._has_signs:
             is_in_signs = any(it.is_signed for it in self._emphasis)
-            self._emphasis.append(_Signed(node, parent, step, self._steps.class_step(step)))
+            self._emphasis.append(_Signed(node, parent, step, self._steps.class_step(step), is_starred))
             if not is_signed or is_in_signs:
                 self._drop_signs(self._emphasis[-1:])
 

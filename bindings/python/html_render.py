@@ -192,7 +192,7 @@ class _Recording:
                     self._add_attribute(parent, key, value)
         self._add_drawing(parent, found.titles)
         if found.kind == "signed":
-            inline.open_signed(parent, outer, step, found.is_signed)
+            inline.open_signed(parent, outer, step, element.tagName != "code", found.is_signed)
         elif found.kind == "image":
             inline.add_image(parent, element)
         elif found.kind == "object":

@@ -25,6 +25,8 @@ pub(crate) struct Signed {
     pub step: usize,
     /// Number of the step that gave it its classes; `UNSIGNED_SUFFIX` follows their text.
     pub class_step: Option<usize>,
+    /// Whether its signs are stars.
+    pub is_starred: bool,
     /// Whether its signs are kept so far.
     pub is_signed: bool,
 }
@@ -79,6 +81,9 @@ impl Emphasis {
         if is_direct && flow.ends_in_word(&recorder.text) && flow::begins_in_word(flow::bytes(&recorder.text, piece)) {
             self.drop_of_ended(recorder);
             self.drop_of_open(recorder, self.filled);
+        }
+        if is_waiting && recorder.text[(start + blank) as usize] == b'*' {
+            self.drop_stars(recorder);
         }
         self.fill();
         if is_waiting {
@@ -175,11 +180,24 @@ impl Emphasis {
     /// Drops the signs of the open elements from a number on.
     fn drop_of_open(&mut self, recorder: &mut Recorder, from: usize) {
         for number in from..self.open.len() {
-            let mut signed = self.open[number];
-            self.signed -= usize::from(signed.is_signed);
-            self.drop_signs(recorder, &mut signed);
-            self.open[number] = signed;
+            self.drop_at(recorder, number);
         }
+    }
+
+    /// Drops the stars of the open elements in which nothing is shown: a star that is shown would join them.
+    fn drop_stars(&mut self, recorder: &mut Recorder) {
+        for number in self.filled..self.open.len() {
+            if self.open[number].is_starred {
+                self.drop_at(recorder, number);
+            }
+        }
+    }
+
+    fn drop_at(&mut self, recorder: &mut Recorder, number: usize) {
+        let mut signed = self.open[number];
+        self.signed -= usize::from(signed.is_signed);
+        self.drop_signs(recorder, &mut signed);
+        self.open[number] = signed;
     }
 
     /// Gives an element the class of those without signs.

@@ -606,7 +606,8 @@ impl<'a> Adapter<'a> {
         opened.may_be_unsigned = self.inline.has_signs();
         let step = recorder.steps.len();
         let handle = self.record(recorder, opened);
-        let signed = Signed { handle, parent: opened.parent, step, class_step: recorder.class_step(step), is_signed: true };
+        let is_starred = opened.element.name != local_name!("code");
+        let signed = Signed { handle, parent: opened.parent, step, class_step: recorder.class_step(step), is_starred, is_signed: true };
         self.inline.open_signed(recorder, signed, !context.hides_texts() && !context.is_in_pre);
         Entered { end: End::Signed, ..Entered::new(handle, context) }
     }
