@@ -3,7 +3,7 @@
 //! A row of the cells `a` and `b` above a row of one cell `cd`, three columns wide, is drawn as the lines `─┬─`, `a│b`,
 //! `─┴─`, `cd ` and `───`.
 
-/// Characters that draw the borders of tables. Each takes one column.
+/// Characters that draw the borders of tables and separate their cells. In `BORDERS`, each takes one column.
 #[derive(Clone, Copy)]
 pub struct Borders {
     /// Border character with a separator above and below it.

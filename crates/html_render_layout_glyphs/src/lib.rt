@@ -1,4 +1,4 @@
-//! Characters that draw tables, and their widths in columns.
+//! Characters of table borders. By the tables of Unicode, each takes one column.
 #![tactic(auto)]
 
 pub mod borders;

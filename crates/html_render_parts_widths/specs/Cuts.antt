@@ -38,8 +38,7 @@ module _ (minimums shares : List ℕ) where
     pub upper : (k : ℕ) → k < length minimums → slice_index widths k ≤ slice_index shares k
     pub total : 0 < length minimums → sum widths ≡ total_width shares width
 
-  -- whether a cut took its last unit, whichever it was, from the right column: with that unit put back, its column gives
-  -- before each other one
+  -- whether widths are a cut, and each column below its share, with one unit put back, gives before each other column
   pub record IsFairestCut (width : ℕ) (widths : List ℕ) : Type 0 where
     pub is_cut : IsCut width widths
     pub last_unit : (i j : ℕ) → i < length minimums → j < length minimums → i ≢ j → slice_index widths i < slice_index shares i →

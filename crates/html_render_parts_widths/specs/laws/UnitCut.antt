@@ -9,7 +9,8 @@ use Rattle.html_render_parts_widths.specs.laws.Cuts.{minimums-fit, sum-le}
 use Rattle.html_render_parts_widths.specs.laws.GivingOrder.{gives-transitive}
 use Rattle.html_render_parts_widths.specs.Cuts.{GivesBefore, CutFits, IsFairestCut, slack, total_width, giver, without_units, cut_by_units}
 
--- whether widths during the loop are within their bounds, and each unit was taken from the right column
+-- whether each width is from its minimum to its share, and each column below its share, with one unit put back, gives before
+-- each other column
 pub record IsFairSoFar (minimums shares widths : List ℕ) : Type 0 where
   pub lengths : length widths ≡ length minimums
   pub lower : (k : ℕ) → k < length minimums → get_or minimums k 0 ≤ get_or widths k 0
