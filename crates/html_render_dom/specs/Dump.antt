@@ -1,4 +1,4 @@
--- The dump of a forest: a line for each doctype, text, and start and end of an element.
+-- The dump of a forest: lines for doctypes, for texts, and for starts and ends of elements.
 use Rattle.std.specs.Prelude.{ℕ, ◌+◌, ◌==◌, Bool, if◌then◌else◌, List, [], ◌∷◌, ◌++◌, length, codes, replicate}
 use Rattle.std.specs.Str.{trim}
 use Rattle.html_render_dom_nodes.specs.Content.{Content, document, doctype, text, comment, element, instruction}
@@ -8,7 +8,7 @@ use Rattle.html_render_dom_values.specs.Forest.{Forest, none, node}
 abbrev pub line : (indent : ℕ) → List ℕ → List ℕ
 line indent piece = replicate indent 32 ++ (piece ++ 10 ∷ [])
 
--- whether a text is white space alone
+-- whether a text is empty or white space alone
 abbrev pub is_blank : List ℕ → Bool
 is_blank contents = length (trim contents) == 0
 
@@ -21,8 +21,9 @@ end_line indent name = line indent (codes "</" ++ (name ++ codes ">"))
 abbrev pub text_line : (indent : ℕ) → (contents : List ℕ) → List ℕ
 text_line indent contents = if is_blank contents then [] else line indent (codes "Text:" ++ contents)
 
--- the dump of a forest, its trees in order: children of an element are one space deeper than it, children of a document as
--- deep as it; other nodes are written without their children
+-- The dump of a forest, its trees in order. Children of an element are indented one space further than it, children of a
+-- document like the document. Blank texts, comments, processing instructions, contents of templates, and children of other
+-- nodes are left out.
 abbrev pub dump : (indent : ℕ) → Forest Content → List ℕ
 dump indent none = []
 dump indent (node document children beside) = dump indent children ++ dump indent beside

@@ -87,6 +87,6 @@ impl NodeData {
 pub enum NodeOrText {
     /// A node of the document.
     AppendNode(Handle),
-    /// A text, which is joined to a text node directly before its place.
+    /// A text. It is appended to the text node directly before its place, if there is one.
     AppendText(String),
 }

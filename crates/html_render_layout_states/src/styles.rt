@@ -28,9 +28,10 @@ fn annotate<D: TextDecorator, G: Tagging<D::Annotation>>(
     Ok(())
 }
 
-/// Applies a node's style to the texts that follow. In order: the annotation of its colour, that of its background, its
-/// white space unless that is `Normal`, and whether texts are preformatted. Returns the treatment of texts before the node,
-/// to be restored after it.
+/// Applies a node's style to the texts that follow. Returns the treatment of texts before the node, to be restored after it.
+///
+/// Adds the decorator's annotations for the style's colour and for its background, in this order, if there are any. Sets the
+/// treatment of white space unless the style's is `Normal`, and makes texts preformatted if the style is.
 ///
 /// # Errors
 ///

@@ -7,7 +7,7 @@ use Rattle.html_render_layout_tagged.specs.declared.stacks.Pushed.{Pushed}
 abbrev pub stack_at : {A : Type 0} → List (List A) → ℕ → List A
 stack_at stacks tag = get_or stacks tag []
 
--- a table of stacks after these were pushed, each on an earlier one
+-- table of stacks after more are pushed in order, each on an earlier one
 abbrev pub stacks_after : {A : Type 0} → List (List A) → List (Pushed A) → List (List A)
 stacks_after stacks [] = stacks
 stacks_after stacks (p ∷ ps) = stacks_after (stacks ++ (stack_at stacks p.below ++ p.annotation ∷ []) ∷ []) ps
@@ -22,7 +22,7 @@ pub record IsPushed {A : Type 0} (stacks : List (List A)) (tag : ℕ) (p : Pushe
   pub depth : p.depth ≡ length (stack_at stacks p.below) + 1
   pub within : p.depth ≤ tag
 
--- whether each of these may be pushed in turn
+-- whether stacks may be pushed in this order
 abbrev pub ArePushed : {A : Type 0} → List (List A) → List (Pushed A) → Type 0
 ArePushed stacks [] = Unit {0}
 ArePushed stacks (p ∷ ps) = IsPushed stacks (length stacks) p × ArePushed (stacks ++ (stack_at stacks p.below ++ p.annotation ∷ []) ∷ []) ps

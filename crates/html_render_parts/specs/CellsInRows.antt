@@ -6,7 +6,7 @@ use Rattle.html_render_parts.specs.declared.table.PlacedCell.{PlacedCell}
 use Rattle.html_render_parts.specs.declared.table.cells.GridCell.{GridCell}
 use Rattle.html_render_parts.specs.Grid.{rank}
 
--- whether a place has a cell of the row itself
+-- whether a place holds an own cell of its row
 abbrev pub is_cell : CellKind → Bool
 is_cell Cell = true
 is_cell Placeholder = false

@@ -97,11 +97,12 @@ row_told cursor hs (s ∷ ss) = let next = due_end cursor hs + s.colspan in due_
 
 -- ---- one row after another
 
--- whether each cell's own column is at least `n`, and whether cells are in order of own column
+-- whether each cell's own column is at least `n`
 abbrev pub AllFrom : ℕ → List Standing → Type 0
 AllFrom n [] = Unit {0}
 AllFrom n (c ∷ cs) = (n ≤ c.column) × AllFrom n cs
 
+-- whether cells are in order of own column
 abbrev pub IsByColumn : List Standing → Type 0
 IsByColumn [] = Unit {0}
 IsByColumn (c ∷ cs) = AllFrom c.column cs × IsByColumn cs
@@ -133,8 +134,8 @@ with_next row cells done =
       hanging = hanging (row + 1) (hung ++ own);
     }) else None
 
--- whether `next` places the next row below the last one: the cells that hang there, except for those that end first, hang
--- into the row after it
+-- whether `next` places the next row below the table's own rows: all hanging cells are in it, and those that don't end first
+-- hang into the row after it
 pub record IsNextBottom (done next : Placing) : Type 0 where
   pub row_end : ℕ
   pub rows : bottom_rows done.hanging ≡ next.places ∷ bottom_rows next.hanging
@@ -150,15 +151,15 @@ fitting rows = if positions_fit rows then Some rows else None
 
 -- ---- the rows of a table from `row` on, where `hung` are the cells that hang into `row`
 
--- places of these rows, without numbers of columns
+-- places of the rows from `row` on, without numbers of columns
 abbrev pub places_ahead : CellGrid → ℕ → List Standing → List (List Place)
 places_ahead g row hung = rows_from row hung (drop row (spans_on g))
 
--- places of these rows, with numbers of columns
+-- places of the rows from `row` on, with numbers of columns
 abbrev pub rows_ahead : CellGrid → ℕ → List Standing → List (List PlacedCell)
 rows_ahead g row hung = map (map (numbered g.edges)) (places_ahead g row hung)
 
--- whether these rows fit, and no place in them begins after its end
+-- whether the rows from `row` on fit, and no place in them begins after its end
 pub record AreAhead (g : CellGrid) (row : ℕ) (hung : List Standing) : Type 0 where
   pub within : row ≤ length g.rows
   pub fits : positions_fit (places_ahead g row hung) ≡ true

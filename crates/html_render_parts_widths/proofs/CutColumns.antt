@@ -81,7 +81,7 @@ sorted-in-order ms ss level cs ds at widths moves sorted =
           (λ same. differ (at_place k in_k ∙ same ∙ sym (at_place (k + 1) in_next)))));
     }
 
--- the state of the loop over the first `count` columns in order: `index` of them are lowered
+-- whether the loop over the first `count` columns in order has lowered `index` of them
 pub record IsLowering (ms ss : List ℕ) (level count : ℕ) (items : List AtLevel) (index : ℕ) (old ws : List ℕ) : Type 0 where
   pub columns : List AtLevel
   pub order : AreInOrder ms ss level (map (λ c. c.place) columns)

@@ -4,7 +4,7 @@ use Rattle.html_render_parts_widths.specs.Cuts.{largest_slack, cut_by_units, IsC
 
 -- whether widths, level and number of lowered columns are those of the cut of columns
 pub record IsColumnCut (minimums shares : List ℕ) (width : ℕ) (widths : List ℕ) (level lowered : ℕ) : Type 0 where
-  -- they are the level form
+  -- widths, level and number are the level form
   pub form : IsLevelForm minimums shares width widths level lowered
   -- the level form is unique
   pub only_form : (others : List ℕ) (l d : ℕ) → IsLevelForm minimums shares width others l d → (others ≡ widths) × (l ≡ level) × (d ≡ lowered)
@@ -12,16 +12,16 @@ pub record IsColumnCut (minimums shares : List ℕ) (width : ℕ) (widths : List
   pub fairest : IsFairestCut minimums shares width widths
   -- the fairest cut is unique
   pub only_fairest : (other : List ℕ) → IsFairestCut minimums shares width other → other ≡ widths
-  -- the loop of single units gives the same widths
+  -- the loop of single units gives these widths
   pub by_units : widths ≡ cut_by_units minimums shares width
-  -- the widths and the separators between them are at most the width
+  -- the widths and the separators between columns add up to at most the width
   pub within : sum widths + (length widths - 1) ≤ width
   -- no cut has a smaller largest slack
   pub least_slack : (other : List ℕ) → IsCut minimums shares width other → largest_slack minimums widths ≤ largest_slack minimums other
   -- if the sum of shares passes that of minimums by at most the width, at most `width` units are taken
   pub units_taken : sum shares ≤ sum minimums + width → sum shares - sum widths ≤ width
-  -- if each of `count` neighbouring minimums is at least its part of `size`, their widths and the separators between them
-  -- add up to at least `size`
+  -- if the minimum of each of `count` neighbouring columns is at least `size / count`, rounded down, the widths of these
+  -- columns and the separators between them add up to at least `size`
   pub neighbours : (from count size : ℕ) → 0 < count → from + count ≤ length minimums →
       ((k : ℕ) → from ≤ k → k < from + count → size / count ≤ slice_index minimums k) →
       size ≤ sum (slice_range widths from (from + count)) + (count - 1)

@@ -51,7 +51,8 @@ fn total(widths: &[usize]) -> u128
     all
 }
 
-/// Reports whether `level` is the least level whose capped ranges add up to `needed`. `full` is their sum at `level`.
+/// Reports whether `level` is the least level whose capped ranges add up to at least `needed`. `full` is their sum at
+/// `level`.
 fn is_least_level(
     minimums: &[usize],
     shares: &[usize],

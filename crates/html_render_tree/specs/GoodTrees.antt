@@ -29,11 +29,12 @@ is_leaf (Svg title) = true
 is_leaf (FragmentStart name) = true
 is_leaf _ = false
 
--- places around a node: of its children, and of its later siblings; none where a node of its kind isn't allowed
+-- places around a node: of its children, and of its later siblings
 pub record Around : Type 0 where
   pub below : Place
   pub beside : Place
 
+-- places around a node of a kind that is at a place; none if the kind isn't allowed there
 abbrev pub around : Place → NodeKind → Option Around
 around Anywhere (Table grid) = Some (record { below = InTable grid.cells.rows; beside = Anywhere })
 around Anywhere TableRow = None

@@ -29,7 +29,7 @@ fn is_within(text: &str, width: usize) -> bool {
     true
 }
 
-/// Reports whether a character is visible: it has a width, and isn't white space or U+200B.
+/// Reports whether a character is visible: it has a width, which may be 0, and isn't white space or U+200B.
 fn is_visible(c: char) -> bool {
     !c.is_whitespace() && c != '\u{200b}' && c.width().is_some()
 }

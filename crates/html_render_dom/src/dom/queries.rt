@@ -1,4 +1,5 @@
-//! Queries of handles and single nodes: identity, the number of nodes, names of elements, contents of templates.
+//! Queries of handles and single nodes: identity, the number of nodes, names of elements, contents of templates, and
+//! integration points.
 
 ghost use Rattle.std.specs.Prelude.{◌≡◌, ◌↔◌, IsTrue, IsSome, IfOk, IfErr, Some, string_bytes};
 ghost use Rattle.std.specs.Option.{option_map};
@@ -19,7 +20,7 @@ impl RcDom {
         x == y
     }
 
-    /// Returns the number of nodes, those without a parent included. It is the number of the next node.
+    /// Returns the number of nodes, those without a parent included. The next node that is created gets this number.
     pub fn node_count(&self) -> usize
         ensures { result ≡ node_count self.now }
     {

@@ -55,7 +55,8 @@ with_other s v =
     }
 
 -- m and n are the means of the two sides, with one decoration. Tags relates tags and Blocks relates blocks, with the stacks
--- of both sides. Later relates stacks to later ones, with which tags and blocks stay related.
+-- of both sides; each block has an index in I. Later relates stacks to later ones, with which tags and blocks stay related.
+-- N holds if both sides refuse, M if only the first does.
 module _ {S A K T B L U C I : Type 0} (m : Means S A K T B) (pull : L → U → A → L × U) (p : Operations C U ℕ) (N M : Type 0) (weak : M → N)
     (Later : K × L → K × L → Type 0) (stays : (w : K × L) → Later w w)
     (goes : (w v u : K × L) → Later w v → Later v u → Later w u)
@@ -107,7 +108,7 @@ module _ {S A K T B L U C I : Type 0} (m : Means S A K T B) (pull : L → U → 
   since i w q u r e l z =
       record { other = z.other; is = z.is; later = goes w (stacks_of q u) (stacks_of r z.other) l z.later; holds = z.holds }
 
-  -- one operation after another
+  -- two operations in sequence keep states related if each does
   then_reached : (i j : I) (w : K × L) (a : Option State) (b : Option OtherState) (f : State → Option State) (g : OtherState → Option OtherState) →
       Both N M (Reached j w) a b →
       ((q : State) (u : Different) → Later w (stacks_of q u) → Holds j q u → Both N M (Reached i (stacks_of q u)) (f q) (g (with_other q u))) →
@@ -127,7 +128,7 @@ module _ {S A K T B L U C I : Type 0} (m : Means S A K T B) (pull : L → U → 
 
   -- ---- steps
 
-  -- adding an annotation, if there is one
+  -- adding an annotation, if there is one, keeps states related
   annotated-related : (a : Option A) (i : I) (s : State) (v : Different) → Holds i s v →
       Reached i (stacks_of s v) (annotated m a s) (annotated n a (with_other s v))
   annotated-related None i s v k = here i s v k
@@ -182,7 +183,7 @@ module _ {S A K T B L U C I : Type 0} (m : Means S A K T B) (pull : L → U → 
           (tags_later (x.0, y.0) (x'.0, y'.0) x.1 y.1 (tag_pushed s.stacks v.stacks s.text.tag v.tag a k.0) second)
           (tag_pushed x.0 y.0 s.text.tag v.tag b tag) s.block v.block z.1.1)) (λ r e f. since i (stacks_of s v) q u r e both f)
 
-  -- a step that is done or not
+  -- a step under a condition keeps states related
   if-related : (z : Bool) (a : Option State) (b : Option OtherState) (i : I) (s : State) (v : Different) → Holds i s v →
       Both N M (Reached i (stacks_of s v)) a b →
       Both N M (Reached i (stacks_of s v)) (if z then a else Some s) (if z then b else Some (with_other s v))
@@ -198,7 +199,7 @@ module _ {S A K T B L U C I : Type 0} (m : Means S A K T B) (pull : L → U → 
       (h.add_inline_text i (stacks_of s v) Normal s.blank s.blank v.blank v.blank (codes "```") k.1.0 k.1.0 s.block v.block k.1.1))
       (λ q u l z. on_block-related m.operations.new_line p.new_line i q u z (h.new_line i (stacks_of q u) q.block u.block z.1.1))
 
-  -- each step, at nodes whose steps began in related states
+  -- each step keeps states related, at nodes whose steps began in related states
   step-related : (x : Step S A) (b : State) (e : Different) (i : I) (s : State) (v : Different) → Tags (stacks_of s v) b.text.tag e.tag →
       Holds i s v → Both N M (Reached i (stacks_of s v)) (perform m b x s) (perform n (with_other b e) x (with_other s v))
   step-related (Write text) b e i s v t k = write-related (text s.decorator) i s v k
@@ -254,7 +255,7 @@ module _ {S A K T B L U C I : Type 0} (m : Means S A K T B) (pull : L → U → 
       (p.sub_block v.block prefix least) (h.sub_block i (stacks_of s v) prefix least s.block v.block k.1.1) (λ b c z.
       (z.0, here z.0 (within m b s) (record v { block = c }) (k.0, (k.1.0, z.1))))
 
-  -- whether f and g keep blocks related, as they make them of outer blocks and sub-blocks
+  -- whether f and g, which make a block of an outer block and a sub-block, keep blocks related
   abbrev JoinRelated : I → State → Different → (B → B → Option B) → (C → C → Option C) → Type 0
   JoinRelated i s v f g = (j : I) (w : K × L) → Later (stacks_of s v) w → Blocks i w s.block v.block → (b : B) (c : C) → Blocks j w b c →
       Both N M (Blocks i w) (f s.block b) (g v.block c)
@@ -283,7 +284,7 @@ module _ {S A K T B L U C I : Type 0} (m : Means S A K T B) (pull : L → U → 
 
   -- ---- visits
 
-  -- whether states are related inside a node, and states after its children lead to related states after the node
+  -- whether states inside a node are related, and related states after its children lead to related states after the node
   abbrev After : I → K × L → State → OtherState → (State → Option State) → (OtherState → Option OtherState) → Type 0
   After i w q e f g =
       (j : I) × ((z : Reached j w q e) × ((r : State) (u : Different) → Later (stacks_of q z.other) (stacks_of r u) → Holds j r u →
@@ -306,7 +307,7 @@ module _ {S A K T B L U C I : Type 0} (m : Means S A K T B) (pull : L → U → 
   Related i w (Inner a x f) (Leaf b) = ⊥
   Related i w (Inner a x f) (Inner b y g) = Both N M (λ q e. After i w q e f g) a b × PlacesRelated x y
 
-  -- none is related to whatever the other side has
+  -- with M, none is related to any result of the other side
   none-both : (i : I) (w : K × L) (b : Option OtherState) → M → Both N M (Reached i w) None b
   none-both i w None x = weak x
   none-both i w (Some e) x = x
@@ -363,7 +364,7 @@ module _ {S A K T B L U C I : Type 0} (m : Means S A K T B) (pull : L → U → 
     k.1,
   )
 
-  -- a visit that is related in all related states is so in related places
+  -- a visit that is related in all related states is related in related places
   placed-related : (f : State → Visit State) (g : OtherState → Visit OtherState) →
       ((j : I) (q : State) (u : Different) → Holds j q u → Related j (stacks_of q u) (f q) (g (with_other q u))) →
       (x : Place State) (y : Place OtherState) (i : I) (s : State) (v : Different) → Holds i s v → PlaceRelated i (stacks_of s v) x y →
@@ -382,7 +383,7 @@ module _ {S A K T B L U C I : Type 0} (m : Means S A K T B) (pull : L → U → 
 
   -- ---- shapes
 
-  -- actions before and after children in the same block, and in a sub-block
+  -- actions before and after a node's children, in the block of the node's siblings
   around-related : (i : I) (w : K × L) (a : Option State) (b : Option OtherState) (f : State → Option State)
       (g : OtherState → Option OtherState) → Both N M (Reached i w) a b →
       ((r : State) (u : Different) → Later w (stacks_of r u) → Holds i r u →
@@ -391,6 +392,7 @@ module _ {S A K T B L U C I : Type 0} (m : Means S A K T B) (pull : L → U → 
       Both-weaken N M (Reached i w) (λ q e. After i w q e f g) a b k (λ q e z.
       (i, (z, λ r u l d. next r u (goes w (stacks_of q z.other) (stacks_of r u) z.later l) d)))
 
+  -- actions before and after a node's children, which are in a sub-block
   deeper-related : (i : I) (w : K × L) (a : Option State) (b : Option OtherState) (f : State → Option State)
       (g : OtherState → Option OtherState) → Both N M (Deeper w) a b →
       ((j : I) (r : State) (u : Different) → Later w (stacks_of r u) → Holds j r u →
@@ -542,7 +544,7 @@ module _ {S A K T B L U C I : Type 0} (m : Means S A K T B) (pull : L → U → 
     made-related R f g otherwise (Some x) None k same = absurd k
     made-related R f g otherwise (Some x) (Some y) k same = same x y k
 
-    -- whether states inside related visits are related, with their places
+    -- whether the places and the states inside two visits are related
     abbrev InnerRelated : K × L → Places State × State → Places OtherState × OtherState → Type 0
     InnerRelated w x y = PlacesRelated x.0 y.0 × Deeper w x.1 y.1
 
@@ -593,7 +595,7 @@ module _ {S A K T B L U C I : Type 0} (m : Means S A K T B) (pull : L → U → 
         (behind-related x children a b same number i s v k) (λ q e z.
         at-related next other_next i w q e z (λ u d. nodes-related beside a b same (number + 1) i q u d)))
 
-    -- the most nodes open at once are equal
+    -- the greatest numbers of nodes open at once are equal
     open-related : (t : Forest RenderNode) (a : Places State) (b : Places OtherState) → PlacesRelated a b → (number : ℕ) (i : I) (s : State)
         (v : Different) → Holds i s v → open_at (layout_of m) a number t s ≡ open_at (layout_of n) b number t (with_other s v)
     open-related none a b same number i s v k = refl

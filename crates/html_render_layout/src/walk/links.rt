@@ -32,7 +32,7 @@ pub fn add_mark<D: TextDecorator, G: Tagging<D::Annotation>>(
     state.names.push(name)
 }
 
-/// Begins a link: adds its target, which gives it the next number, its annotation, and the decorator's text before it.
+/// Begins a link: adds its target to the list that numbers links, then its annotation and the decorator's text before it.
 ///
 /// # Errors
 ///

@@ -1,4 +1,5 @@
--- The counts of a walk hold of all visits that reach equal nodes. The counts of a walk that failed.
+-- The counts of a walk hold of any visits with the same visited nodes and the same greatest number of open nodes. For a
+-- walk that fails, they follow from their bounds.
 use Rattle.std.specs.Prelude.{◌≡◌, ◌≤◌, List, length, Result, Ok, Err, OnOk}
 use Rattle.std.specs.Result.{IsErrAnd}
 use Rattle.std.proofs.Common.{arith, subst, ◌∙◌}
@@ -39,7 +40,7 @@ failed-counted (Err e) Q h visits t s old new entered left frames probes = recor
   probes = probes;
 }
 
--- a walk that fails before its first visit has the counts 0
+-- counts of 0 are those of a walk that fails before its first visit
 pub none-counted : {X E K S : Type 0} (r : Result X E) (Q : E → Type 0) → IsErrAnd r Q → (visits : Visits K S)
     (t : Forest K) (s : S) (old new : Meter) → new.entered ≡ 0 → new.left ≡ 0 → new.frames ≡ 0 →
     new.probes ≡ old.probes → CountsNodes r visits t s old new

@@ -3,7 +3,7 @@ use Rattle.html_render_c.specs.Records.{line_records}
 use Rattle.html_render_layout_tagged.specs.Grouping.{lines_of}
 use Rattle.html_render_c.proofs.lines.write_lines.Given as goal
 
--- the written records and those that remain are all
+-- the bytes so far, followed by the records of the remaining lines, are the initial bytes and the records of all lines
 abbrev pub invariant-loop-line : goal.invariant-loop-line
 invariant-loop-line g l =
     l.bytes.items ++ line_records g.A.Written.annotation_record (lines_of l.left) ≡ l.initial.bytes.items ++ line_records g.A.Written.annotation_record (lines_of l.lines)

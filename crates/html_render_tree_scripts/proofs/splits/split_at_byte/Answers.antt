@@ -1,4 +1,4 @@
--- A text may be cut before a byte of ASCII and after it.
+-- A text may be cut before and after an ASCII byte.
 use Rattle.std.proofs.Common.{◌≡◌, ◌-◌, ◌==◌, ℕ, List, length, get_or, take, arith, Some, None, ap, ◌∙◌}
 use Rattle.std.specs.List.{position_or_len}
 use Rattle.std.proofs.lemmas.Bool.{eqb-true, false_from_ne_true}

@@ -1,4 +1,4 @@
--- Each turn of the loop applies the declarations of the next rule if it selects the element.
+-- Each iteration of the loop applies the declarations of the next rule if it selects the element.
 use Rattle.std.proofs.Common.{ℕ, List, [], Option, sym, ap, ◌∙◌, arith, codes, filter, map, option_copied}
 use Rattle.std.specs.List.{flat_map}
 use Rattle.std.proofs.lemmas.List.{take_all}

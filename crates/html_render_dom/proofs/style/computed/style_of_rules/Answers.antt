@@ -1,4 +1,4 @@
--- Each turn of the loop applies the declarations of a rule if it hasn't been applied yet and selects the element.
+-- Each iteration of the loop applies the declarations of a rule if it hasn't been applied yet and selects the element.
 use Rattle.std.proofs.Common.{◌≡◌, true, length, refl, ◌+◌, ◌<◌, [], sym, ap, ◌∙◌, arith, get_or, take, subst, option_copied}
 use Rattle.std.specs.List.{flat_map}
 use Rattle.html_render_dom_rules.specs.declared.rules.StyleRule.{StyleRule}

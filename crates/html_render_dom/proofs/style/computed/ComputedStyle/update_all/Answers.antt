@@ -1,4 +1,4 @@
--- Each turn of the loop applies the next declaration.
+-- Each iteration of the loop applies the next declaration.
 use Rattle.std.proofs.Common.{ap, ◌∙◌, arith}
 use Rattle.std.specs.List.{flat_map}
 use Rattle.std.proofs.lemmas.List.{take_all}

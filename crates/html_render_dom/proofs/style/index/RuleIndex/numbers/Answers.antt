@@ -1,4 +1,4 @@
--- Each turn of the loop adds the numbers under the next text, unless it equals the text before.
+-- Each iteration of the loop adds the numbers under the next text, unless it equals the text before.
 use Rattle.std.proofs.Common.{◌≡◌, ℕ, ◌-◌, [], List, get_or, Bor, length, ap, sym, subst, ◌∙◌, arith}
 use Rattle.std.proofs.lemmas.List.Elements.{Contains-append_left, Contains-append_right}
 use Rattle.std.proofs.lemmas.List.Sorted.{Contains-permutation, IsNonDecreasingBy-from_sort}

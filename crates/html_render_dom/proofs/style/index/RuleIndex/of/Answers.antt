@@ -1,4 +1,4 @@
--- Each turn of the loop adds the next rule to the index.
+-- Each iteration of the loop adds the next rule to the index.
 use Rattle.std.proofs.Common.{◌≡◌, ℕ, true, ◌||◌, ◌+◌, [], ◌∷◌, ◌++◌, List, length, Some, None, map, option_map, take, string_bytes, refl, sym, ap, subst, ◌∙◌, arith}
 use Rattle.std.proofs.lemmas.List.{length-map, length-set, length-take-le, map-append, take_all, take_more}
 use Rattle.std.proofs.lemmas.List.Elements.{Contains-push}

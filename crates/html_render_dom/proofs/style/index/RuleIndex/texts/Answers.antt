@@ -1,4 +1,4 @@
--- Each turn of the loop adds the next word of the classes.
+-- Each iteration of the loop adds the next word of the classes.
 use Rattle.std.proofs.Common.{◌≡◌, [], ◌∷◌, ◌++◌, append_assoc, ap, sym, ◌∙◌, filter, map, Bor, List, ℕ, option_copied, option_to_list}
 use Rattle.std.proofs.lemmas.List.{append-nil}
 use Rattle.std.proofs.lemmas.List.Elements.{filter-append}
