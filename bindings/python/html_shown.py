@@ -13,7 +13,7 @@ from html_inline import columns_of, file_name, is_visible, leads_out, written
 HTML = "http://www.w3.org/1999/xhtml"
 SVG = "http://www.w3.org/2000/svg"
 
-# classes that no page has: control characters aren't recorded
+# private classes; a page has none of them unless its control characters are kept
 WHITE_SPACE = {"pre": "\x01pre", "pre-wrap": "\x01pre-wrap", "break-spaces": "\x01pre-wrap"}
 
 ASKED = frozenset("alt class colspan href id name rowspan src start".split())

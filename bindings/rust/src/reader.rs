@@ -1,9 +1,10 @@
 //! Reads HTML into a tree builder: html5ever's tokenizer, but for texts and tags that are written in the plainest way.
 //!
-//! html5ever's tokenizer goes over the name of a tag character by character, at some 300 instructions each. Most of a page is text
-//! without character references, and tags as `<td>`, `</td>` and `<a href="x">`; these become the same tokens here. All else goes
-//! through html5ever's tokenizer, up to the end of a tag, a comment or a doctype that doesn't begin raw text: there it is back in the
-//! state in which texts and tags are read, which HTML calls the data state.
+//! html5ever's tokenizer goes over the name of a tag character by character, at some 300 instructions each. Most of a page is
+//! text without character references, tags as `<td>`, `</td>` and `<a href="x">`, and comments. These become the same tokens
+//! here, comments without their contents. All else goes through html5ever's tokenizer, up to the end of a tag, a comment or a
+//! doctype that doesn't begin raw text: there it is back in the state in which texts and tags are read, which HTML calls the
+//! data state.
 
 use crate::limits::{self, OpenElements, Refusal, Room, FEW_ATTRIBUTES};
 use crate::names::{is_asked_by_builder, Names};

@@ -7,20 +7,14 @@
 
 ghost use Rattle.std.specs.Prelude.{◌≡◌, ◌≤◌, ◌-◌, IfOk, IfErr, length};
 ghost use Rattle.std.specs.Vec.{vec_ptr};
-ghost use Rattle.html_render_c.specs.Faults.{code_of, record_of};
-ghost use Rattle.html_render_c.specs.Pages.{IsPlainLines, IsPlainText, IsReturned, IsRichLines, IsRichText};
+ghost use Rattle.html_render_tree_records.specs.Faults.{code_of, record_of};
+ghost use Rattle.html_render_tree_records.specs.Pages.{IsPlainLines, IsPlainText, IsReturned, IsRichLines, IsRichText};
 
-mod faults;
-mod lines;
-mod rendering;
-mod rules;
-mod settings;
-
-use faults::Fault;
 use html_render_tree::decorate::RichAnnotation;
-use html_render_tree_steps::step::Step;
-use rendering::{Given, lines, text};
-use settings::Setting;
+use html_render_tree_records::faults::Fault;
+use html_render_tree_records::rendering::{self, Given};
+use html_render_tree_records::settings::Setting;
+use html_render_tree_records::step::Step;
 use std::alloc::Global;
 
 /// Hands the memory of bytes over to the caller: sets `out` to their address, where they stay until the caller frees them.

@@ -6,24 +6,24 @@ use Rattle.std.proofs.lemmas.List.Elements.{filter_map-append}
 use Rattle.std.proofs.lemmas.Bool.{cases_Bool}
 use Rattle.std.proofs.lemmas.Grind.{flat_map-append}
 use Rattle.std.specs.List.{flat_map}
-use Rattle.html_render_dom_cascade.specs.declared.updates.Update.{Update}
-use Rattle.html_render_dom_cascade.specs.Cascade.{key_of, winner}
-use Rattle.html_render_dom_cascade.specs.Keeping.{yields_to}
-use Rattle.html_render_dom_rules.specs.declared.rules.PseudoElement.{PseudoElement}
-use Rattle.html_render_dom_rules.specs.declared.rules.PseudoElement.TheVariants.{Before, After}
-use Rattle.html_render_dom_cascade.specs.declared.origins.StyleOrigin.{StyleOrigin}
-use Rattle.html_render_dom_cascade.specs.declared.specificities.Specificity.{Specificity}
-use Rattle.html_render_dom_rules.specs.declared.rules.Style.{Style}
-use Rattle.html_render_dom_rules.specs.declared.rules.Style.TheVariants.{Colour as ColourSet, BgColour, Display as DisplaySet}
-use Rattle.html_render_dom_rules.specs.declared.rules.Style.TheVariants.{WhiteSpace as WhiteSpaceSet, Content}
-use Rattle.html_render_dom_rules.specs.declared.rules.Declaration.{Declaration}
-use Rattle.html_render_dom_rules.specs.declared.rules.StyleRule.{StyleRule}
-use Rattle.html_render_dom_rules.specs.Selectors.{specificity_of}
-use Rattle.html_render_dom_rules.specs.Rules.{Rule, StyleValue, declared_of, rule_of, style_value_of}
+use Rattle.html_render_dom_styles.specs.declared.updates.Update.{Update}
+use Rattle.html_render_dom_styles.specs.Cascade.{key_of, winner}
+use Rattle.html_render_dom_styles.specs.Keeping.{yields_to}
+use Rattle.html_render_dom_styles.specs.declared.rules.PseudoElement.{PseudoElement}
+use Rattle.html_render_dom_styles.specs.declared.rules.PseudoElement.TheVariants.{Before, After}
+use Rattle.html_render_dom_styles.specs.declared.origins.StyleOrigin.{StyleOrigin}
+use Rattle.html_render_dom_styles.specs.declared.specificities.Specificity.{Specificity}
+use Rattle.html_render_dom_styles.specs.declared.rules.Style.{Style}
+use Rattle.html_render_dom_styles.specs.declared.rules.Style.TheVariants.{Colour as ColourSet, BgColour, Display as DisplaySet}
+use Rattle.html_render_dom_styles.specs.declared.rules.Style.TheVariants.{WhiteSpace as WhiteSpaceSet, Content}
+use Rattle.html_render_dom_styles.specs.declared.rules.Declaration.{Declaration}
+use Rattle.html_render_dom_styles.specs.declared.rules.StyleRule.{StyleRule}
+use Rattle.html_render_dom_styles.specs.Selectors.{specificity_of}
+use Rattle.html_render_dom_styles.specs.Rules.{Rule, StyleValue, declared_of, rule_of, style_value_of}
 use Rattle.html_render_dom.specs.ElementStyle.{Applied, applied, ElementStyle, updates, with_more, with_declarations, colour_in, bg_colour_in}
-use Rattle.html_render_dom.specs.ElementStyle.{display_in, white_space_in, content_in}
-use Rattle.html_render_dom_cascade.specs.laws.Winners.{winner-one, winner-front}
-use Rattle.html_render_dom_cascade.specs.laws.Keeps.{winner-left}
+use Rattle.html_render_dom.specs.ElementStyle.{display_in, white_space_value, content_in}
+use Rattle.html_render_dom_styles.specs.laws.Winners.{winner-one, winner-front}
+use Rattle.html_render_dom_styles.specs.laws.Keeps.{winner-left}
 
 -- the clause of `maybe_update`
 abbrev Takes : {T : Type 0} → Option (Update T) → Update T → Option (Update T) → Type 0
@@ -54,7 +54,7 @@ with_declarations-append s front behind = λ i. record {
   colour = with_more-append colour_in s.colour front behind i;
   bg_colour = with_more-append bg_colour_in s.bg_colour front behind i;
   display = with_more-append display_in s.display front behind i;
-  white_space = with_more-append white_space_in s.white_space front behind i;
+  white_space = with_more-append white_space_value s.white_space front behind i;
   content = with_more-append (content_in None) s.content front behind i;
   content_before = with_more-append (content_in (Some Before)) s.content_before front behind i;
   content_after = with_more-append (content_in (Some After)) s.content_after front behind i;

@@ -10,7 +10,7 @@ use Rattle.html_render_dom_values.specs.Forest.{Forest, none, node, count, depth
 use Rattle.html_render_dom.specs.Dom.{Dom, node_count, IsNode, content_at, children_at, trees_of, tree_of, IsForest}
 use Rattle.html_render_dom.specs.laws.Trees.{trees_of-cons}
 use Rattle.html_render_dom.specs.Dump.{dump, start_line, end_line}
-use Rattle.html_render_dom.specs.Frames.{left_of, end_of, rest_of, rest, FrameFits, steps_of, steps}
+use Rattle.html_render_dom.specs.Frames.{left_of, closing_line, rest_of, rest, FrameFits, steps_of, steps}
 
 pub on_ok : {T E P Q : Type 0} (r : Result T E) → OnOk r P → (P → Q) → OnOk r Q
 on_ok (Ok x) p f = f p
@@ -51,7 +51,7 @@ rest-child dom g f x lt e at =
     let kids = trees_of dom (children_at dom x) in
     let c = content_at dom x in
     let later = left_of dom (after_child f) in
-    let ending = end_of f.indent (content_at dom f.node) in
+    let ending = closing_line f.indent (content_at dom f.node) in
     ap (λ t. dump f.indent t ++ ending) (left-child dom g f x lt e at) ∙ ap (λ d. d ++ ending) (dump-beside f.indent c kids later)
     ∙ append_assoc (dump f.indent (node c kids none)) (dump f.indent later) ending
     ∙ ap (λ t. dump f.indent t ++ (dump f.indent later ++ ending)) (sym (tree-node dom g x at))
@@ -76,7 +76,7 @@ by_content dom f h indent c at e = ap (dump indent) (tree-node dom f h at)
 pub dump-document : (dom : Dom) → IsForest dom → (h indent : ℕ) → IsNode dom h → content_at dom h ≡ document →
     dump indent (tree_of dom h) ≡ rest_of dom (fresh_frame h indent)
 dump-document dom f h indent at e = by_content dom f h indent document at e
-    ∙ ap (λ c. dump indent (trees_of dom (children_at dom h)) ++ end_of indent c) (sym e)
+    ∙ ap (λ c. dump indent (trees_of dom (children_at dom h)) ++ closing_line indent c) (sym e)
 
 pub dump-element : (dom : Dom) → IsForest dom →
     (h indent : ℕ) (name : Name) (properties : List Property) (template_contents : Option ℕ) (point : Bool) → IsNode dom h →
@@ -88,7 +88,7 @@ dump-element dom f h indent name properties template_contents point at e =
     let less : indent + 1 - 1 ≡ indent = omega arith in
     by_content dom f h indent c at e ∙ append-nil (start_line indent name.local ++ (kids ++ end_line indent name.local))
     ∙ ap (λ i. start_line indent name.local ++ (kids ++ end_line i name.local)) (sym less)
-    ∙ ap (λ x. start_line indent name.local ++ (kids ++ end_of (indent + 1) x)) (sym e)
+    ∙ ap (λ x. start_line indent name.local ++ (kids ++ closing_line (indent + 1) x)) (sym e)
 
 -- the next child of an open node is a node
 pub child-facts : (dom : Dom) → IsForest dom → (f : Frame) (xs : List ℕ) (x : ℕ) → xs ≡ children_at dom f.node → f.passed < length xs →

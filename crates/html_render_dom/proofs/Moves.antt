@@ -12,7 +12,7 @@ use Rattle.html_render_dom.specs.Dom.{Dom, node_count, IsNode, children_at, pare
 use Rattle.html_render_dom.specs.laws.Changes.{created-shape, Rewrites, rewritten, Reparents, reparented-facts}
 use Rattle.html_render_dom.specs.laws.Forests.{IsDistinct-nil, IsNode-above}
 use Rattle.html_render_dom_nodes.specs.Edits.{created, joined}
-use Rattle.html_render_dom_nodes.specs.Moves.{without, taken_out, placed, text_placed, reparented}
+use Rattle.html_render_dom_nodes.specs.Moves.{without, taken_out, inserted_before, text_placed, reparented}
 use Rattle.html_render_dom.specs.laws.Members.{Contains-nil, Contains-from_any, any-from_Contains}
 use Rattle.html_render_dom.proofs.Changed.{descend, Moves, IsForest-same_contents, IsForest-taken, IsForest-put}
 use Rattle.html_render_dom.proofs.Lists.{Contains-from_without, Contains-without, IsDistinct-without, Contains-from_before, Contains-before}
@@ -74,7 +74,7 @@ freed dom f c (Some p) e =
     record { forest = IsForest-out dom f p c (sym e); count = a.count; lone_c = a.parent_there; others = a.parents_elsewhere }
 
 pub IsForest-placed : (dom : Dom) → IsForest dom → (p s c : ℕ) → parent_at dom s ≡ Some p → IsNode dom c → parent_at dom c ≡ None →
-    (IsInclusiveAncestor dom c p → ⊥) → IsForest (record dom { nodes = placed dom.nodes p s c })
+    (IsInclusiveAncestor dom c p → ⊥) → IsForest (record dom { nodes = inserted_before dom.nodes p s c })
 IsForest-placed dom f p s c named at_c lone_c away =
     let cs = children_at dom p in
     IsForest-put f lone_c (rewritten dom p _ c (Some p) (IsNode-named dom f p s named).0 at_c) (Contains-from_before s c cs)
@@ -82,7 +82,7 @@ IsForest-placed dom f p s c named at_c lone_c away =
 
 pub IsForest-move_before : (dom now : Dom) → dom ≡ now → IsForest dom → (p s c : ℕ) → parent_at now s ≡ Some p →
     IsNode now c × ¬ IsInclusiveAncestor now c s → (from : Option ℕ) → from ≡ parent_at now c → (nodes : List Node) →
-    nodes ≡ placed (taken_out dom.nodes from c) p s c → IsForest (record dom { nodes = nodes })
+    nodes ≡ inserted_before (taken_out dom.nodes from c) p s c → IsForest (record dom { nodes = nodes })
 IsForest-move_before dom now same f p s c named can from is_from nodes e =
     let named' : parent_at dom s ≡ Some p = subst (λ d. parent_at d s ≡ Some p) (sym same) named in
     let can' = subst (λ d. IsNode d c × ¬ IsInclusiveAncestor d c s) (sym same) can in
@@ -96,7 +96,7 @@ IsForest-move_before dom now same f p s c named can from is_from nodes e =
     subst (λ ns. IsForest (record dom { nodes = ns })) (sym e) (IsForest-placed mid g.forest p s c in_p at g.lone_c out)
 
 IsForest-place_new : (dom : Dom) → IsForest dom → (p s : ℕ) → parent_at dom s ≡ Some p → (c : Content) → contents_in c ≡ None →
-    IsForest (record dom { nodes = placed (created dom.nodes c) p s (length dom.nodes) })
+    IsForest (record dom { nodes = inserted_before (created dom.nodes c) p s (length dom.nodes) })
 IsForest-place_new dom f p s named c no_contents =
     let mid = record dom { nodes = created dom.nodes c } in
     let shape = created-shape dom c in

@@ -15,14 +15,14 @@ use Rattle.std.specs.BTreeMap.{get_by_text}
 use Rattle.std.specs.Option.{option_map_or, unwrap_or}
 use Rattle.std.specs.Str.{bytes_eq}
 use Rattle.html_render_dom.specs.declared.style.index.RuleIndex.{RuleIndex}
-use Rattle.html_render_dom_rules.specs.declared.rules.StyleRule.{StyleRule}
+use Rattle.html_render_dom_styles.specs.declared.rules.StyleRule.{StyleRule}
 use Rattle.html_render_dom.proofs.Applies.{said_to}
 use Rattle.html_render_dom.specs.ElementStyle.{Applied, applied, element_style, style_by}
-use Rattle.html_render_dom.specs.RuleIndex.{asks_attributes, Finds, HasSelected, IsFound, is_told, key_of, numbers_under, stated_text, text_stated, texts_of}
+use Rattle.html_render_dom.specs.RuleIndex.{asks_attributes, Finds, HasSelected, IsFound, is_told, text_key, numbers_under, stated_text, text_stated, texts_of}
 use Rattle.html_render_dom_nodes.specs.Content.{Property}
-use Rattle.html_render_dom_rules.specs.Rules.{Rule, rule_of}
+use Rattle.html_render_dom_styles.specs.Rules.{Rule, rule_of}
 use Rattle.html_render_dom.specs.Attributes.{first_value}
-use Rattle.html_render_dom_rules.specs.Selectors.{has_class, is_filled, matches_part, selects, words}
+use Rattle.html_render_dom_styles.specs.Selectors.{has_class, is_filled, matches_part, selects, words}
 
 -- ---- adding rules
 
@@ -65,17 +65,17 @@ Finds-more old new rules rule finds long keeps found asks = (
         ]
 
 -- adding a number under a text keeps the others, and the number is found
-pub put-keeps : (old new : RuleIndex) (text : List ℕ) (number : ℕ) → length old.keys.items ≡ 64 → key_of text < 64 →
-    new.keys.items ≡ set old.keys.items (key_of text) true →
+pub put-keeps : (old new : RuleIndex) (text : List ℕ) (number : ℕ) → length old.keys.items ≡ 64 → text_key text < 64 →
+    new.keys.items ≡ set old.keys.items (text_key text) true →
     ((t : List ℕ) → numbers_under new t ≡ (if bytes_eq t text then numbers_under old t ++ number ∷ [] else numbers_under old t)) →
     new.general.items ≡ old.general.items → Keeps old new
 put-keeps old new text number long small keys numbers general n None found = subst (λ ns. Contains ns n) (sym general) found
 put-keeps old new text number long small keys numbers general n (Some t) (told, found) = (still_told, still_found (bytes_eq t text) refl)
   where
     still_told : is_told new.keys.items t ≡ true
-    still_told = ap (λ ks. get_or ks (key_of t) true) keys ∙ kept
+    still_told = ap (λ ks. get_or ks (text_key t) true) keys ∙ kept
       where
-        kept : get_or (set old.keys.items (key_of text) true) (key_of t) true ≡ true
+        kept : get_or (set old.keys.items (text_key text) true) (text_key t) true ≡ true
         kept = grind (arith, common_steps)
 
     still_found : (b : Bool) → bytes_eq t text ≡ b → Contains (numbers_under new t) n
@@ -85,12 +85,12 @@ put-keeps old new text number long small keys numbers general n (Some t) (told, 
         in_it true = Contains-append_left (numbers_under old t) (number ∷ []) n found
         in_it false = found
 
-pub put-found : (old new : RuleIndex) (text : List ℕ) (number : ℕ) → length old.keys.items ≡ 64 → key_of text < 64 →
-    new.keys.items ≡ set old.keys.items (key_of text) true →
+pub put-found : (old new : RuleIndex) (text : List ℕ) (number : ℕ) → length old.keys.items ≡ 64 → text_key text < 64 →
+    new.keys.items ≡ set old.keys.items (text_key text) true →
     ((t : List ℕ) → numbers_under new t ≡ (if bytes_eq t text then numbers_under old t ++ number ∷ [] else numbers_under old t)) →
     IsFound new number (Some text)
 put-found old new text number long small keys numbers = (
-  ap (λ ks. get_or ks (key_of text) true) keys ∙ get_or-set_same old.keys.items (key_of text) true true (omega (arith, long)),
+  ap (λ ks. get_or ks (text_key text) true) keys ∙ get_or-set_same old.keys.items (text_key text) true true (omega (arith, long)),
   subst (λ ns. Contains ns number)
       (sym (numbers text ∙ ap (λ c. if c then numbers_under old text ++ number ∷ [] else numbers_under old text) ((bytes_eq-Decides text text).1 refl)))
       (Contains-push (numbers_under old text) number),
@@ -106,7 +106,7 @@ general-keeps old new number keys texts general n (Some t) (told, found) = (
   subst (λ m. Contains (option_map_or (λ numbers. numbers.items) (get_by_text m t) []) n) (sym texts) found,
 )
 
-pub key_small : (text : List ℕ) → key_of text < 64
+pub key_small : (text : List ℕ) → text_key text < 64
 key_small text = omega arith
 
 -- ---- lookup for an element

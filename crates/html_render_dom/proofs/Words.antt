@@ -9,7 +9,7 @@ use Rattle.std.specs.Str.Iter.{IsAsciiSeparator}
 use Rattle.std.proofs.lemmas.Bool.{cases_Bool}
 use Rattle.std.proofs.lemmas.Bool.Decides.{nat_tests}
 use Rattle.std.specs.Char.{is_ascii_whitespace}
-use Rattle.html_render_dom_rules.specs.Selectors.{is_filled, words}
+use Rattle.html_render_dom_styles.specs.Selectors.{is_filled, words}
 use Rattle.std.specs.List.{slice_split, onto_first}
 
 -- whether no byte of a text passes a test

@@ -2,19 +2,19 @@
 use Rattle.std.specs.Prelude.{ℕ, Bool, false, List, ◌++◌, codes, Option, Some, None, map, filter, option_map, option_to_list}
 use Rattle.std.specs.List.{filter_map, flat_map}
 use Rattle.html_render_dom_values.specs.declared.colours.Colour.{Colour}
-use Rattle.html_render_dom_cascade.specs.declared.origins.StyleOrigin.{StyleOrigin}
-use Rattle.html_render_dom_cascade.specs.declared.specificities.Specificity.{Specificity}
+use Rattle.html_render_dom_styles.specs.declared.origins.StyleOrigin.{StyleOrigin}
+use Rattle.html_render_dom_styles.specs.declared.specificities.Specificity.{Specificity}
 use Rattle.html_render_dom_values.specs.declared.white_space.WhiteSpace.{WhiteSpace}
-use Rattle.html_render_dom_rules.specs.declared.rules.Display.{Display}
-use Rattle.html_render_dom_rules.specs.declared.rules.PseudoElement.{PseudoElement}
-use Rattle.html_render_dom_rules.specs.declared.rules.PseudoElement.TheVariants.{Before, After}
-use Rattle.html_render_dom_cascade.specs.declared.updates.Update.{Update}
+use Rattle.html_render_dom_styles.specs.declared.rules.Display.{Display}
+use Rattle.html_render_dom_styles.specs.declared.rules.PseudoElement.{PseudoElement}
+use Rattle.html_render_dom_styles.specs.declared.rules.PseudoElement.TheVariants.{Before, After}
+use Rattle.html_render_dom_styles.specs.declared.updates.Update.{Update}
 use Rattle.html_render_dom.specs.declared.style.computed.ComputedStyle.{ComputedStyle}
-use Rattle.html_render_dom_cascade.specs.Cascade.{winner}
+use Rattle.html_render_dom_styles.specs.Cascade.{winner}
 use Rattle.html_render_dom_nodes.specs.Content.{Property}
-use Rattle.html_render_dom_rules.specs.Rules.{StyleValue, colour, bg_colour, display, white_space, content, Declared, Rule}
+use Rattle.html_render_dom_styles.specs.Rules.{StyleValue, colour, bg_colour, display, white_space, content, Declared, Rule}
 use Rattle.html_render_dom.specs.Attributes.{first_value}
-use Rattle.html_render_dom_rules.specs.Selectors.{selects, specificity_of}
+use Rattle.html_render_dom_styles.specs.Selectors.{selects, specificity_of}
 
 -- a declaration with the origin, specificity and pseudo-element of its rule
 pub record Applied : Type 0 where
@@ -40,9 +40,9 @@ abbrev pub display_in : Option PseudoElement → StyleValue → Option Display
 display_in None (display d) = Some d
 display_in _ _ = None
 
-abbrev pub white_space_in : Option PseudoElement → StyleValue → Option WhiteSpace
-white_space_in None (white_space w) = Some w
-white_space_in _ _ = None
+abbrev pub white_space_value : Option PseudoElement → StyleValue → Option WhiteSpace
+white_space_value None (white_space w) = Some w
+white_space_value _ _ = None
 
 -- the content that a declaration gives a place: the element itself, before its contents, or after them
 abbrev pub content_in : (place : Option PseudoElement) → Option PseudoElement → StyleValue → Option (List ℕ)
@@ -74,7 +74,7 @@ style_by declarations = record {
   colour = winner (updates colour_in declarations);
   bg_colour = winner (updates bg_colour_in declarations);
   display = winner (updates display_in declarations);
-  white_space = winner (updates white_space_in declarations);
+  white_space = winner (updates white_space_value declarations);
   content = winner (updates (content_in None) declarations);
   content_before = winner (updates (content_in (Some Before)) declarations);
   content_after = winner (updates (content_in (Some After)) declarations);
@@ -109,7 +109,7 @@ with_declarations s declarations = record {
   colour = with_more colour_in s.colour declarations;
   bg_colour = with_more bg_colour_in s.bg_colour declarations;
   display = with_more display_in s.display declarations;
-  white_space = with_more white_space_in s.white_space declarations;
+  white_space = with_more white_space_value s.white_space declarations;
   content = with_more (content_in None) s.content declarations;
   content_before = with_more (content_in (Some Before)) s.content_before declarations;
   content_after = with_more (content_in (Some After)) s.content_after declarations;

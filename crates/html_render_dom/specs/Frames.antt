@@ -11,17 +11,17 @@ abbrev pub left_of : Dom → Frame → Forest Content
 left_of dom f = trees_of dom (drop f.passed (children_at dom f.node))
 
 -- the end of a node whose children have this indent: a line for an element, one space less deep; nothing for others
-abbrev pub end_of : (indent : ℕ) → Content → List ℕ
-end_of indent document = []
-end_of indent (doctype name public_id system_id) = []
-end_of indent (text contents) = []
-end_of indent (comment contents) = []
-end_of indent (element name properties template_contents integration_point) = end_line (indent - 1) name.local
-end_of indent (instruction target contents) = []
+abbrev pub closing_line : (indent : ℕ) → Content → List ℕ
+closing_line indent document = []
+closing_line indent (doctype name public_id system_id) = []
+closing_line indent (text contents) = []
+closing_line indent (comment contents) = []
+closing_line indent (element name properties template_contents integration_point) = end_line (indent - 1) name.local
+closing_line indent (instruction target contents) = []
 
 -- the rest of the dump of one open node
 abbrev pub rest_of : Dom → Frame → List ℕ
-rest_of dom f = dump f.indent (left_of dom f) ++ end_of f.indent (content_at dom f.node)
+rest_of dom f = dump f.indent (left_of dom f) ++ closing_line f.indent (content_at dom f.node)
 
 -- the rest of the dump, from the open nodes; the innermost is the last of the list, and is written first
 abbrev pub rest : Dom → List Frame → List ℕ

@@ -4,7 +4,7 @@ use Rattle.html_render_dom_nodes.specs.declared.contents.NodeOrText.{NodeOrText}
 use Rattle.html_render_dom_nodes.specs.declared.contents.NodeOrText.TheVariants.{AppendNode, AppendText}
 use Rattle.html_render_dom.specs.Dom.{Dom, IsNode, parent_at, IsInclusiveAncestor}
 use Rattle.html_render_dom.specs.Edits.{appended, CanAppend}
-use Rattle.html_render_dom_nodes.specs.Moves.{placed, taken_out, text_before, text_placed}
+use Rattle.html_render_dom_nodes.specs.Moves.{inserted_before, taken_out, text_before, text_placed}
 
 -- the condition of `append_before_sibling`: a node isn't an inclusive ancestor of the sibling; a text has no condition
 abbrev pub CanAppendBefore : Dom → (sibling : ℕ) → NodeOrText → Type 0
@@ -15,7 +15,7 @@ CanAppendBefore dom sibling (AppendText more) = Unit {0}
 abbrev pub put_before : Dom → (parent : Option ℕ) → (sibling : ℕ) → NodeOrText → Dom
 put_before dom None sibling child = dom
 put_before dom (Some parent) sibling (AppendNode child) =
-    record dom { nodes = placed (taken_out dom.nodes (parent_at dom child) child) parent sibling child }
+    record dom { nodes = inserted_before (taken_out dom.nodes (parent_at dom child) child) parent sibling child }
 put_before dom (Some parent) sibling (AppendText more) =
     record dom { nodes = text_placed dom.nodes parent sibling (text_before dom.nodes parent sibling) (string_bytes more) }
 

@@ -4,16 +4,16 @@ use Rattle.std.specs.BTreeMap.{get_by_text}
 use Rattle.std.specs.List.{Contains, list_any}
 use Rattle.std.specs.Option.{option_map_or, unwrap_or}
 use Rattle.html_render_dom.specs.declared.style.index.RuleIndex.{RuleIndex}
-use Rattle.html_render_dom_rules.specs.Rules.{Rule}
-use Rattle.html_render_dom_rules.specs.Selectors.{is_filled, words}
+use Rattle.html_render_dom_styles.specs.Rules.{Rule}
+use Rattle.html_render_dom_styles.specs.Selectors.{is_filled, words}
 
 -- the key of a text, a hash of its length and its first byte that is less than 64
-abbrev pub key_of : (text : List ℕ) → ℕ
-key_of text = (length text % 64 * 3 + slice_index_or text 0 0) % 64
+abbrev pub text_key : (text : List ℕ) → ℕ
+text_key text = (length text % 64 * 3 + slice_index_or text 0 0) % 64
 
 -- whether a rule may be indexed under a text: whether its key is marked
 abbrev pub is_told : (keys : List Bool) → (text : List ℕ) → Bool
-is_told keys text = slice_index_or keys (key_of text) true
+is_told keys text = slice_index_or keys (text_key text) true
 
 -- the text under which a rule is indexed: its first class, else its id, else its element name
 abbrev pub text_stated : (classes : List (List ℕ)) → (id element : Option (List ℕ)) → Option (List ℕ)

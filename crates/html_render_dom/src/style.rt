@@ -11,8 +11,9 @@ mod computed;
 mod index;
 
 pub use computed::{ComputedStyle, ContentText, computed_style};
-pub use html_render_dom_cascade::{Specificity, StyleOrigin, WithSpec};
-pub use html_render_dom_rules::{Declaration, Display, PseudoElement, Style, StyleRule};
+pub use html_render_dom_styles::{
+    Declaration, Display, PseudoElement, Specificity, Style, StyleOrigin, StyleRule, WithSpec,
+};
 pub use html_render_dom_values::colours::Colour;
 pub use html_render_dom_values::white_space::WhiteSpace;
 pub use index::RuleIndex;

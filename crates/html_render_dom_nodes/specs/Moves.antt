@@ -24,14 +24,14 @@ taken_out nodes None child = nodes
 taken_out nodes (Some parent) child = with_parent (with_children nodes parent (without child (node_in nodes parent).children)) child None
 
 -- the nodes with the child inserted directly before the sibling in the parent's list, and that parent set
-abbrev pub placed : List Node → (parent sibling child : ℕ) → List Node
-placed nodes parent sibling child =
+abbrev pub inserted_before : List Node → (parent sibling child : ℕ) → List Node
+inserted_before nodes parent sibling child =
     with_parent (with_children nodes parent (before sibling child (node_in nodes parent).children)) child (Some parent)
 
 -- the nodes with a text joined to the text node `last`, or without one in a new text node directly before the sibling
 abbrev pub text_placed : List Node → (parent sibling : ℕ) → (last : Option ℕ) → List ℕ → List Node
 text_placed nodes parent sibling (Some last) more = with_content nodes last (joined (node_in nodes last).content more)
-text_placed nodes parent sibling None more = placed (created nodes (text more)) parent sibling (length nodes)
+text_placed nodes parent sibling None more = inserted_before (created nodes (text more)) parent sibling (length nodes)
 
 -- the node directly before the sibling in the parent's list if it is a text node, otherwise none
 abbrev pub text_before : List Node → (parent sibling : ℕ) → Option ℕ

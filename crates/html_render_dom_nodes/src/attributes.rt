@@ -14,7 +14,7 @@ use std::marker::Model;
 use std::mem;
 
 /// Maximum number of attributes that are searched one by one, without an index.
-const FEW: usize = 16;
+const LINEAR_SCAN_MAX: usize = 16;
 
 /// The attributes of an element, in the order in which they were given.
 ///
@@ -123,7 +123,7 @@ impl Attributes {
     fn index(&mut self) -> Result<(), AllocError>
         ensures { self.new ≡ self.old }
     {
-        if self.places.is_none() && self.list.len() > FEW {
+        if self.places.is_none() && self.list.len() > LINEAR_SCAN_MAX {
             let alloc = *self.list.allocator();
             let places = places_of(alloc, self.list.as_slice())?;
             self.places = Some(Box::new(alloc, places)?);

@@ -5,8 +5,8 @@ ghost use Rattle.std.specs.Option.{ForSome};
 ghost use Rattle.html_render_dom_nodes.specs.Content.{content_of};
 ghost use Rattle.html_render_dom_nodes.specs.Nodes.{node_in, nodes_of};
 ghost use Rattle.html_render_dom_nodes.specs.Edits.{created, with_children};
-ghost use Rattle.html_render_dom_nodes.specs.Moves.{before, placed, previous, reparented, taken_out, text_placed, with_parents, without};
-ghost use Rattle.html_render_dom_nodes.specs.Room.{HasRoom, KeepsRoom};
+ghost use Rattle.html_render_dom_nodes.specs.Moves.{before, inserted_before, previous, reparented, taken_out, text_placed, with_parents, without};
+ghost use Rattle.html_render_dom_nodes.specs.Room.{HasRoomForMore, KeepsRoom};
 ghost use Rattle.smallvec.specs.SmallVec.{HasRoomFor, small_vec_len};
 
 use crate::contents::NodeData;
@@ -67,7 +67,7 @@ pub fn move_before(
     requires child { child < vec_len nodes.old }
     ensures len { vec_len nodes.new ≡ vec_len nodes.old }
     ensures ok { OnOk result (nodes_of nodes.new.items
-        ≡ placed (taken_out (nodes_of nodes.old.items) from child) parent sibling child) }
+        ≡ inserted_before (taken_out (nodes_of nodes.old.items) from child) parent sibling child) }
     ensures err { OnErr result (nodes_of nodes.new.items ≡ nodes_of nodes.old.items) }
 {
     reserve_children(nodes, parent, 1)?;
@@ -115,7 +115,7 @@ fn place_new(
     requires { parent < vec_len nodes.old }
     ensures len { OnOk result (vec_len nodes.new ≡ vec_len nodes.old + 1) }
     ensures ok { let old = nodes_of nodes.old.items in OnOk result (nodes_of nodes.new.items
-        ≡ placed (created old (content_of contents)) parent sibling (length old)) }
+        ≡ inserted_before (created old (content_of contents)) parent sibling (length old)) }
     ensures err { OnErr result (nodes_of nodes.new.items ≡ nodes_of nodes.old.items) }
 {
     let made = Node::lone(alloc, contents);
@@ -131,9 +131,9 @@ fn place_new(
 fn place(nodes: &mut Vec<Node>, parent: Handle, sibling: Handle, child: Handle)
     requires parent { parent < vec_len nodes.old }
     requires child { child < vec_len nodes.old }
-    requires room { HasRoom nodes.old.items parent 1 }
+    requires room { HasRoomForMore nodes.old.items parent 1 }
     ensures len { vec_len nodes.new ≡ vec_len nodes.old }
-    ensures placed { nodes_of nodes.new.items ≡ placed (nodes_of nodes.old.items) parent sibling child }
+    ensures placed { nodes_of nodes.new.items ≡ inserted_before (nodes_of nodes.old.items) parent sibling child }
 {
     insert_child(nodes, parent, sibling, child);
     nodes::set_parent(nodes, child, Some(parent));
@@ -142,7 +142,7 @@ fn place(nodes: &mut Vec<Node>, parent: Handle, sibling: Handle, child: Handle)
 /// Inserts the child directly before the sibling in the parent's list.
 fn insert_child(nodes: &mut Vec<Node>, parent: Handle, sibling: Handle, child: Handle)
     requires parent { parent < vec_len nodes.old }
-    requires room { HasRoom nodes.old.items parent 1 }
+    requires room { HasRoomForMore nodes.old.items parent 1 }
     ensures len { vec_len nodes.new ≡ vec_len nodes.old }
     ensures list { let old = nodes_of nodes.old.items in
         nodes_of nodes.new.items ≡ with_children old parent (before sibling child (node_in old parent).children) }
@@ -166,7 +166,7 @@ fn reserve_children(nodes: &mut Vec<Node>, parent: Handle, more: usize) -> Resul
     ensures len { vec_len nodes.new ≡ vec_len nodes.old }
     ensures capacity { vec_capacity nodes.new ≡ vec_capacity nodes.old }
     ensures same { nodes_of nodes.new.items ≡ nodes_of nodes.old.items }
-    ensures room { OnOk result (HasRoom nodes.new.items parent more) }
+    ensures room { OnOk result (HasRoomForMore nodes.new.items parent more) }
 {
     nodes[parent.number()].children.reserve(more)
 }
@@ -204,7 +204,7 @@ fn take_children(alloc: Global, nodes: &mut Vec<Node>, parent: Handle) -> SmallV
     ensures list { result.items ≡ (node_in (nodes_of nodes.old.items) parent).children }
     ensures len { vec_len nodes.new ≡ vec_len nodes.old }
     ensures cleared { nodes_of nodes.new.items ≡ with_children (nodes_of nodes.old.items) parent [] }
-    ensures room { (node more : ℕ) → node ≢ parent → HasRoom nodes.old.items node more → HasRoom nodes.new.items node more }
+    ensures room { (node more : ℕ) → node ≢ parent → HasRoomForMore nodes.old.items node more → HasRoomForMore nodes.new.items node more }
 {
     mem::replace(&mut nodes[parent.number()].children, SmallVec::new(alloc))
 }
@@ -212,7 +212,7 @@ fn take_children(alloc: Global, nodes: &mut Vec<Node>, parent: Handle) -> SmallV
 /// Appends the children to the parent's list, which has capacity for them.
 fn push_children(nodes: &mut Vec<Node>, parent: Handle, children: &[Handle])
     requires parent { parent < vec_len nodes.old }
-    requires room { HasRoom nodes.old.items parent (length children.now) }
+    requires room { HasRoomForMore nodes.old.items parent (length children.now) }
     ensures len { vec_len nodes.new ≡ vec_len nodes.old }
     ensures list { let old = nodes_of nodes.old.items in
         nodes_of nodes.new.items ≡ with_children old parent ((node_in old parent).children ++ children.now) }

@@ -1,5 +1,5 @@
 -- Errors: their messages and numbers, and their relation to a definition that may refuse, an `Option`.
-use Rattle.std.specs.Prelude.{◌≡◌, ℕ, List, Option, None, codes, option_and_then}
+use Rattle.std.specs.Prelude.{◌≡◌, ℕ, List, Option, None, Result, IfErr, codes, option_and_then}
 use Rattle.html_render_dom_values.specs.declared.errors.Error.{Error}
 use Rattle.html_render_dom_values.specs.declared.errors.Error.TheVariants.{TooNarrow, Fail, OutOfMemory}
 
@@ -20,6 +20,10 @@ abbrev pub Refuses : {X : Type 0} → Error → Option X → Type 0
 Refuses TooNarrow wanted = wanted ≡ None
 Refuses Fail wanted = ⊥
 Refuses OutOfMemory wanted = Unit {0}
+
+-- whether a result has no error but `OutOfMemory`
+abbrev pub OnlyOutOfMemory : {A : Type 0} → Result A Error → Type 0
+OnlyOutOfMemory result = IfErr result (λ e. e ≡ OutOfMemory)
 
 -- `f` of the value of `o`; `None` if `o` is `None`
 infixl 10 ◌>>=◌

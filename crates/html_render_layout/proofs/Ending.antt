@@ -8,10 +8,10 @@ use Rattle.std.specs.Str.{chars}
 use Rattle.html_render_dom_values.specs.declared.errors.Error.{Error}
 use Rattle.html_render_dom_values.specs.declared.errors.Error.TheVariants.{TooNarrow, Fail, OutOfMemory}
 use Rattle.html_render_dom_values.specs.Outcome.{Refuses}
-use Rattle.html_render_parts_decorators.specs.Decoration.{Decoration}
+use Rattle.html_render_parts.specs.Decoration.{Decoration}
 use Rattle.html_render_layout_blocks.specs.Operations.{DocumentEnd}
-use Rattle.html_render_layout_states.specs.declared.state.LayoutState.{LayoutState}
-use Rattle.html_render_layout_states.specs.Ending.{footnotes, closing_texts, ended}
+use Rattle.html_render_layout.specs.declared.state.LayoutState.{LayoutState}
+use Rattle.html_render_layout.specs.Ending.{footnotes, closing_texts, ended}
 
 pub ruleset joined = (append_assoc)
 

@@ -2,7 +2,7 @@
 use Rattle.std.proofs.Common.{◌≡◌, ℕ, ◌-◌, ◌<◌, ◌≤◌, ◌==◌, List, [], ◌∷◌, Bool, false, cond, length, drop, get_or, zero, suc, refl, ap, ◌∙◌, arith}
 use Rattle.std.specs.List.{list_any}
 use Rattle.std.proofs.lemmas.List.Folds.{list_any_at}
-use Rattle.html_render_layout_states.specs.Images.{file_name}
+use Rattle.html_render_layout.specs.Images.{file_name}
 
 -- whether there is a slash among these bytes
 abbrev pub has_slash : List ℕ → Bool

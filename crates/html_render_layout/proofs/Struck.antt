@@ -2,7 +2,7 @@
 use Rattle.std.proofs.Common.{◌≡◌, ℕ, List, [], ◌∷◌, ◌++◌, Bool, true, false, cond, refl, sym, ap, ◌∙◌}
 use Rattle.std.proofs.lemmas.Str.{encodes-append}
 use Rattle.html_render_layout_lines.specs.Character.{is_collapsible}
-use Rattle.html_render_layout_states.specs.Layout.{struck}
+use Rattle.html_render_layout.specs.Layout.{struck}
 use lib.Utf8.{encodes}
 
 both-ways : (b : Bool) (c : ℕ) (all front back : List ℕ) → all ≡ front ++ back →

@@ -2,18 +2,18 @@
 use Rattle.std.specs.Prelude.{ℕ, ◌≤◌, false, List, [], flat_map}
 use Rattle.std.specs.Str.{chars}
 use Rattle.html_render_dom_values.specs.Forest.{Forest}
-use Rattle.html_render_parts_decorators.specs.Decoration.{Decoration}
+use Rattle.html_render_parts.specs.Decoration.{Decoration}
 use Rattle.html_render_layout_lines.specs.Line.{Line}
 use Rattle.html_render_layout_lines.specs.Visible.{visible_in_lines}
 use Rattle.html_render_layout_nodes.specs.declared.tree.NodeKind.{NodeKind}
 use Rattle.html_render_layout_nodes.specs.declared.tree.NodeKind.TheVariants.{Text}
 use Rattle.html_render_layout_nodes.specs.declared.tree.RenderNode.{RenderNode}
-use Rattle.html_render_layout_nodes.specs.Pass.{bare, nodes_at}
+use Rattle.html_render_layout_nodes.specs.Visitor.{bare, nodes_at}
 use Rattle.html_render_layout_blocks.specs.declared.block.BlockSetting.{BlockSetting}
 use Rattle.html_render_layout_blocks.specs.Visible.{visible_in_text}
 use Rattle.html_render_layout_pictures.specs.Visible.{count}
 use Rattle.html_render_layout_estimates.specs.declared.settings.LayoutSettings.{LayoutSettings}
-use Rattle.html_render_layout_states.specs.Layout.{defined, estimated, empty_state}
+use Rattle.html_render_layout.specs.Layout.{defined, estimated, empty_state}
 
 -- nodes that a layout visits, in order, without skipped cells and the nodes in them
 abbrev pub visited_nodes : {S A : Type 0} → Decoration S A → LayoutSettings → Forest RenderNode → S → BlockSetting → List RenderNode

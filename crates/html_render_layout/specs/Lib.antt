@@ -1,3 +1,9 @@
+-- definitions of the layout, and of the code's machine
+pub mod Images
+pub mod Ending
+pub mod Layout
+pub mod Opening
+pub mod Working
 -- the texts of a document that its lines show
 pub mod Kept
 -- laws of the definitions

@@ -1,14 +1,14 @@
 -- Promises of the calls that lay out or render a tree, about their lines.
 use Rattle.std.specs.Prelude.{◌≡◌, ◌≤◌, ℕ, true, false, List, Some, IfSome, IsSome}
 use Rattle.html_render_dom_values.specs.Forest.{Forest}
-use Rattle.html_render_parts_decorators.specs.Decoration.{Decoration}
+use Rattle.html_render_parts.specs.Decoration.{Decoration}
 use Rattle.html_render_layout_lines.specs.Line.{Line, AllWithinWidth}
 use Rattle.html_render_layout_nodes.specs.declared.tree.RenderNode.{RenderNode}
-use Rattle.html_render_layout_nodes.specs.Pass.{run}
+use Rattle.html_render_layout_nodes.specs.Visitor.{run}
 use Rattle.html_render_layout_estimates.specs.declared.settings.LayoutSettings.{LayoutSettings}
 use Rattle.html_render_layout_blocks.specs.declared.block.BlockSetting.{BlockSetting}
 use Rattle.html_render_layout.specs.Kept.{visited_nodes, KeepsTexts}
-use Rattle.html_render_layout_states.specs.Layout.{layout_lines, Defined, defined}
+use Rattle.html_render_layout.specs.Layout.{layout_lines, Defined, defined}
 
 -- Promises about the lines of a result. They are the definition's lines of the tree in a block. With overflow off and
 -- closing lines cut, none passes the width. Where overflow off gives lines, these are the same. Each visible character of

@@ -1,7 +1,14 @@
 //! Layout of a render tree: the effect of each node on the block that it is laid out into.
 #![tactic(auto)]
 
+mod items;
+mod nesting;
+mod spaces;
+mod state;
+mod styles;
+mod tagging;
 pub mod walk;
+mod working;
 
 pub use html_render_layout_estimates::estimate;
 

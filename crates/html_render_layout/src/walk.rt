@@ -4,36 +4,36 @@
 //! of a block.
 
 ghost use Rattle.std.specs.Prelude.{◌≡◌, ◌≢◌, ◌≤◌, ◌<◌, Some, ℕ, true, Err, OnOk, OnErr, IfOk, IfErr};
-ghost use Rattle.html_render_dom_values.specs.Outcome.{Refuses};
+ghost use Rattle.html_render_dom_values.specs.Outcome.{OnlyOutOfMemory, Refuses};
 ghost use Rattle.html_render_layout_blocks.specs.Block.{empty_block};
 ghost use Rattle.html_render_layout_blocks.specs.Machine as machine;
 ghost use Rattle.html_render_layout_blocks.specs.Machine.{machine};
 ghost use Rattle.html_render_layout_nodes.specs.Counts.{CountsNodes};
 ghost use Rattle.html_render_layout_estimates.specs.Passes.{with_needed_sizes};
-ghost use Rattle.html_render_layout_states.specs.Layout.{layout_of, begin_with, shown_after, defined, empty_state};
-ghost use Rattle.html_render_layout_states.specs.Layout.{estimated, layout_lines, mark_names, unannotated};
+ghost use Rattle.html_render_layout.specs.Layout.{layout_of, begin_with, shown_after, defined, empty_state};
+ghost use Rattle.html_render_layout.specs.Layout.{estimated, layout_lines, mark_names, unannotated};
 ghost use Rattle.html_render_layout.specs.Promises.{AreLines, Lines, HasLines, LeavesTexts};
-ghost use Rattle.html_render_layout_states.specs.Opening.{below, opened, closed};
+ghost use Rattle.html_render_layout.specs.Opening.{below, opened, closed};
 ghost use Rattle.html_render_layout.specs.laws.Opening.{layout-opened};
-ghost use Rattle.html_render_layout_states.specs.Working.{padding, by_tags, tabled, work_lines, work_names, untagged_work};
+ghost use Rattle.html_render_layout.specs.Working.{padding, by_tags, tabled, work_lines, work_names, untagged_work};
 ghost use Rattle.html_render_layout_tagged.specs.LaidOut.{laid_out};
 
+use crate::state::{LayoutState, TextContext};
+use crate::tagging::{Tagging, Untagged};
+use crate::working::{Kept, State};
 use html_render_dom_values::Error;
 use html_render_dom_values::white_space::WhiteSpace;
 use html_render_layout_blocks::block::{Block, BlockSetting};
-use html_render_layout_blocks::held::OpenBlock;
+use html_render_layout_blocks::held::CurrentBlock;
 use html_render_layout_estimates::estimate::measure;
 use html_render_layout_estimates::settings::LayoutSettings;
 use html_render_layout_lines::line::Line;
 use html_render_layout_lines::tag::Tag;
-use html_render_layout_nodes::pass::{Pass, walk};
-use html_render_layout_nodes::tree::{Entry, Flat, RenderNode, RenderTree};
-use html_render_layout_states::state::{LayoutState, TextContext};
-use html_render_layout_states::tagging::{Tagging, Untagged};
-use html_render_layout_states::working::{Kept, State};
+use html_render_layout_nodes::tree::{Entry, PreorderForest, RenderNode, RenderTree};
+use html_render_layout_nodes::visitor::{Visitor, walk};
 use html_render_layout_tagged::laid_out::{LaidOut, TextList};
 use html_render_layout_tagged::stacks::Stacks;
-use html_render_parts_decorators::decorate::TextDecorator;
+use html_render_parts::decorate::TextDecorator;
 use html_render_parts_widths::Meter;
 use std::alloc::Global;
 use std::marker::PhantomData;
@@ -47,13 +47,13 @@ mod superscripts;
 mod tables;
 mod texts;
 
-/// The pass that lays out a tree.
+/// The visitor that lays out a tree.
 struct Layout<D, G> {
     /// Decorator and tagging of the layout.
     of: PhantomData<(D, G)>,
 }
 
-impl<D: TextDecorator, G: Tagging<D::Annotation>> Pass for Layout<D, G> {
+impl<D: TextDecorator, G: Tagging<D::Annotation>> Visitor for Layout<D, G> {
     type Node = RenderNode;
 
     type State = State<D, G>;
@@ -95,7 +95,7 @@ fn begin_with<D: TextDecorator, G: Tagging<D::Annotation>>(
     decorator: D,
     stacks: G,
     tag: G::Tag,
-    block: OpenBlock<G::Tag, usize>,
+    block: CurrentBlock<G::Tag, usize>,
 ) -> State<D, G>
     ensures { result ≡ begin_with settings decorator stacks tag block }
 {
@@ -121,7 +121,7 @@ fn begin_with<D: TextDecorator, G: Tagging<D::Annotation>>(
 #[tactic(auto, using(html_render_dom_values::specs::laws::Outcome::refusals))]
 fn lay_out_into<D: TextDecorator, G: Tagging<D::Annotation>>(
     alloc: Global,
-    tree: &Flat<RenderNode>,
+    tree: &PreorderForest<RenderNode>,
     state: &mut State<D, G>,
     meter: &mut Meter,
 ) -> Result<(), Error>
@@ -141,7 +141,7 @@ fn lay_out_into<D: TextDecorator, G: Tagging<D::Annotation>>(
 /// Returns the state after a tree is laid out and the document is closed.
 fn laid_out_from<D: TextDecorator, G: Tagging<D::Annotation>>(
     alloc: Global,
-    tree: &Flat<RenderNode>,
+    tree: &PreorderForest<RenderNode>,
     state: State<D, G>,
     meter: &mut Meter,
 ) -> Result<State<D, G>, Error>
@@ -160,8 +160,8 @@ fn laid_out_from<D: TextDecorator, G: Tagging<D::Annotation>>(
 /// Returns the lines of a tree from a state, with the annotation stacks of their tags and the names of their marks.
 fn lines_from<D: TextDecorator>(
     alloc: Global,
-    tree: &Flat<RenderNode>,
-    state: LayoutState<D, Stacks<D::Annotation>, usize, OpenBlock<usize, usize>>,
+    tree: &PreorderForest<RenderNode>,
+    state: LayoutState<D, Stacks<D::Annotation>, usize, CurrentBlock<usize, usize>>,
     meter: &mut Meter,
 ) -> Result<LaidOut<D::Annotation>, Error>
     ensures ok { IfOk result (λ lines. work_lines D.decoration tree.now state ≡ Some (laid_out lines)) }
@@ -186,7 +186,7 @@ struct Prepared<D> {
     decorator: D,
     /// Tree with the estimate of each node, whose prefixes are those of a sub-block of the document's block. Without a table
     /// in the tree, preferred widths are left out.
-    tree: Flat<RenderNode>,
+    tree: PreorderForest<RenderNode>,
 }
 
 /// Copies the settings, makes the decorator of the document's block, and measures the tree.
@@ -199,7 +199,7 @@ fn prepare<D: TextDecorator>(
     ensures settings { IfOk result (λ own. own.settings ≡ settings.now) }
     ensures decorator { IfOk result (λ own. own.decorator ≡ D.decoration.subblock decorator.now) }
     ensures tree { IfOk result (λ own. own.tree ≡ with_needed_sizes (estimated D.decoration settings.now decorator.now tree)) }
-    ensures err { IfErr result (λ e. e ≡ Error.OutOfMemory) }
+    ensures err { OnlyOutOfMemory result }
 {
     let inner = decorator.make_subblock_decorator(alloc)?;
     let innermost = inner.make_subblock_decorator(alloc)?;
@@ -226,11 +226,11 @@ fn document_block<T: Tag>(
     alloc: Global,
     setting: BlockSetting,
     padding: Option<T>,
-) -> Result<OpenBlock<T, usize>, Error>
+) -> Result<CurrentBlock<T, usize>, Error>
     ensures ok { IfOk result (λ held. held ≡ empty_block machine setting padding) }
-    ensures err { IfErr result (λ e. e ≡ Error.OutOfMemory) }
+    ensures err { OnlyOutOfMemory result }
 {
-    OpenBlock::new(alloc, Block::new(alloc, setting, padding))
+    CurrentBlock::new(alloc, Block::new(alloc, setting, padding))
 }
 
 /// Lays out a tree in a block. Returns its lines with their annotation stacks and the names of their marks.
@@ -262,12 +262,12 @@ pub fn lay_out<D: TextDecorator>(
     ensures err { IfErr result (λ e. Refuses e (layout_lines D.decoration settings.now tree decorator.now block)) }
 
     // with overflow on, only width 0 is too narrow, and it is refused before anything is allocated
-    ensures wide { 0 < block.width → block.overflow ≡ true → result ≢ Err Error.TooNarrow }
+    ensures never_too_narrow { 0 < block.width → block.overflow ≡ true → result ≢ Err Error.TooNarrow }
     ensures no_width { block.width ≡ 0 → result ≡ Err Error.TooNarrow }
 
     // laws of every tree: with overflow on there are lines, and after a tree texts are treated as before it
-    ensures there { HasLines D.decoration settings.now tree decorator.now block }
-    ensures stacks { LeavesTexts D.decoration }
+    ensures always_renders { HasLines D.decoration settings.now tree decorator.now block }
+    ensures restores_context { LeavesTexts D.decoration }
 
     // counts of visited nodes and of nodes open at once, exact with lines and at most these without
     ensures counts { CountsNodes result (defined D.decoration)
@@ -295,8 +295,8 @@ pub fn lay_out<D: TextDecorator>(
 /// Returns the lines of a tree from a state without annotations.
 fn untagged_lines_from<D: TextDecorator>(
     alloc: Global,
-    tree: &Flat<RenderNode>,
-    state: LayoutState<D, Untagged, (), OpenBlock<(), usize>>,
+    tree: &PreorderForest<RenderNode>,
+    state: LayoutState<D, Untagged, (), CurrentBlock<(), usize>>,
 ) -> Result<Vec<Line<(), usize>>, Error>
     ensures ok { IfOk result (λ lines. untagged_work D.decoration tree.now state ≡ Some lines.items) }
     ensures err { IfErr result (λ e. Refuses e (untagged_work D.decoration tree.now state)) }
@@ -324,10 +324,10 @@ pub fn lay_out_untagged<D: TextDecorator>(
     // the lines are the definition's without annotations; the clauses are those of `lay_out` without a meter
     ensures ok { IfOk result (λ answer. Lines D.decoration settings.now tree decorator.now block (λ lines. answer.items ≡ unannotated lines)) }
     ensures err { IfErr result (λ e. Refuses e (layout_lines D.decoration settings.now tree decorator.now block)) }
-    ensures wide { 0 < block.width → block.overflow ≡ true → result ≢ Err Error.TooNarrow }
+    ensures never_too_narrow { 0 < block.width → block.overflow ≡ true → result ≢ Err Error.TooNarrow }
     ensures no_width { block.width ≡ 0 → result ≡ Err Error.TooNarrow }
-    ensures there { HasLines D.decoration settings.now tree decorator.now block }
-    ensures stacks { LeavesTexts D.decoration }
+    ensures always_renders { HasLines D.decoration settings.now tree decorator.now block }
+    ensures restores_context { LeavesTexts D.decoration }
 {
     if block.width == 0 {
         return Err(Error::TooNarrow);

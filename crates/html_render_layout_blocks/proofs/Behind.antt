@@ -2,7 +2,7 @@
 use Rattle.std.proofs.Common.{◌≡◌, ℕ, ◌+◌, Bool, List, ◌++◌, Option, Some, None, option_map, length, ap, sym, refl, ◌∙◌, append_assoc, length-append}
 use Rattle.html_render_layout_lines.specs.Line.{Line, marks_line}
 use Rattle.html_render_layout_blocks.specs.Joined.{prefixed, fitting, moved}
-use Rattle.html_render_layout_paragraphs.specs.Paragraph.{Page, all_lines}
+use Rattle.html_render_layout_paragraphs.specs.Paragraph.{LineBuffer, all_lines}
 use Rattle.html_render_layout_paragraphs.specs.Stream.{State, start, finished}
 use Rattle.html_render_layout_pictures.specs.Padding.{filled}
 use Rattle.html_render_layout_blocks.specs.Block.{flush}
@@ -27,16 +27,16 @@ moved_behind width overflow waiting first later front done lines =
 -- The lines of a paragraph appended to the last lines of a block, with the lines before these.
 pub padded_flush : {T M : Type 0} (b c : MachineBlock T M) (p : Option (State T M)) (q r : State T M) (front last new : List (Line T M)) →
     record c { lines = front ++ last; paragraph = p } ≡ b → p ≡ Some q → option_map {U = List (Line T M) × State T M}
-    (λ (g : Page T M). (last ++ filled c.padding c.setting.width (all_lines g), start q.setting g.waiting)) (finished q) ≡ Some (new, r) →
+    (λ (g : LineBuffer T M). (last ++ filled c.padding c.setting.width (all_lines g), start q.setting g.waiting)) (finished q) ≡ Some (new, r) →
     flush machine b ≡ Some (record c { lines = front ++ new; paragraph = Some r })
 padded_flush {T} {M} b c p q r front last new same is_some h =
     sym (ap (flush machine) same)
     ∙ ap (λ (o : Option (State T M)). flush machine (record c { lines = front ++ last; paragraph = o })) is_some
     ∙ by (finished q) h
   where
-    by : (o : Option (Page T M)) → option_map {U = List (Line T M) × State T M}
-        (λ (g : Page T M). (last ++ filled c.padding c.setting.width (all_lines g), start q.setting g.waiting)) o ≡ Some (new, r) →
-        option_map (λ (g : Page T M). record c {
+    by : (o : Option (LineBuffer T M)) → option_map {U = List (Line T M) × State T M}
+        (λ (g : LineBuffer T M). (last ++ filled c.padding c.setting.width (all_lines g), start q.setting g.waiting)) o ≡ Some (new, r) →
+        option_map (λ (g : LineBuffer T M). record c {
           lines = (front ++ last) ++ filled c.padding c.setting.width (all_lines g);
           paragraph = Some (start q.setting g.waiting);
         }) o

@@ -4,7 +4,7 @@
 use Rattle.std.specs.Prelude.{ℕ, ◌-◌, max, min, nat_le, Bool, true, false, not, ◌||◌, ◌&&◌, List, [], ◌∷◌, ◌++◌, map, length, ◌==◌}
 use Rattle.std.specs.Prelude.{Option, Some, None, option_map, unwrap_or, if◌then◌else◌}
 use Rattle.std.specs.List.{list_all}
-use Rattle.html_render_layout_glyphs.specs.declared.borders.TheConstants.{BORDERS}
+use Rattle.html_render_layout_pictures.specs.declared.borders.TheConstants.{BORDERS}
 use Rattle.html_render_dom_values.specs.Outcome.{◌>>=◌}
 use Rattle.html_render_dom_values.specs.declared.white_space.WhiteSpace.{WhiteSpace}
 use Rattle.html_render_dom_values.specs.declared.white_space.WhiteSpace.TheVariants.{Normal}
@@ -13,7 +13,7 @@ use Rattle.html_render_layout_lines.specs.declared.character.Item.TheVariants.{M
 use Rattle.html_render_layout_lines.specs.Character.{is_collapsible}
 use Rattle.html_render_layout_lines.specs.Line.{Line, is_empty}
 use Rattle.html_render_layout_lines.specs.TaggedText.{under}
-use Rattle.html_render_layout_paragraphs.specs.Paragraph.{Setting, Page, all_lines}
+use Rattle.html_render_layout_paragraphs.specs.Paragraph.{Setting, LineBuffer, all_lines}
 use Rattle.html_render_layout_paragraphs.specs.Stream.{styled}
 use Rattle.html_render_parts_widths.specs.Shares.{widths_across}
 use Rattle.html_render_parts.specs.declared.table.PlacedCell.{PlacedCell}
@@ -36,9 +36,9 @@ abbrev pub paragraph_setting : BlockSetting → Setting
 paragraph_setting s = record { width = unwrap_or (option_map (min s.width) s.max_wrap_width) s.width; overflow = s.overflow }
 
 -- Whether a text is dropped at the end of a block: whether it is collapsible white space alone, under `Normal`.
-abbrev pub is_blank : WhiteSpace → List ℕ → Bool
-is_blank Normal cs = list_all is_collapsible cs
-is_blank _ cs = false
+abbrev pub is_collapsible_text : WhiteSpace → List ℕ → Bool
+is_collapsible_text Normal cs = list_all is_collapsible cs
+is_collapsible_text _ cs = false
 
 -- Marks as items that a paragraph is fed.
 abbrev pub mark_items : {T M : Type 0} → List M → List (Item T M)
@@ -69,7 +69,7 @@ module _ {P R T M : Type 0} (parts : Parts P R T M) where
   -- marks that still wait. None if the paragraph is too narrow.
   abbrev pub flush : Block P R T M → Option (Block P R T M)
   flush b = option_map
-      (λ (g : Page T M). record b { lines = b.lines ++ filled b.padding b.setting.width (all_lines g); paragraph = parts.next b.paragraph g.waiting })
+      (λ (g : LineBuffer T M). record b { lines = b.lines ++ filled b.padding b.setting.width (all_lines g); paragraph = parts.next b.paragraph g.waiting })
       (parts.finish b.paragraph)
 
   -- Block with lines added as they are. The waiting marks are at the front of the first one.
@@ -190,7 +190,7 @@ module _ {P R T M : Type 0} (parts : Parts P R T M) where
     add_inline_text = λ b style cs.
         if length cs == 0 then Some b
         else if not b.at_block_end then Some (feed b (styled style cs))
-        else if is_blank style.mode cs then Some b
+        else if is_collapsible_text style.mode cs then Some b
         else option_map (λ (e : Block P R T M). feed e (styled style cs)) (start_block b);
     add_mark = λ b m. feed b (mark_items (m ∷ []));
     new_line = flush;

@@ -7,7 +7,7 @@ use Rattle.html_render_parts.specs.TableCells.{CellGrid}
 use Rattle.html_render_layout_lines.specs.declared.character.TextStyle.{TextStyle}
 use Rattle.html_render_layout_blocks.specs.Operations.{Operations, DocumentEnd}
 
--- A sequence of operations. T are the tags, and marks are numbers. `least` is the minimum width of a sub-block. The
+-- A sequence of operations. T are the tags, and marks are numbers. `min_width` is the minimum width of a sub-block. The
 -- last argument of each operation is the rest of the sequence.
 pub data Edits (T : Type 0) : Type 0 where
   Done : Edits T
@@ -17,7 +17,7 @@ pub data Edits (T : Type 0) : Type 0 where
   NewLineHard : Edits T → Edits T
   StartBlock : Edits T → Edits T
   EndBlock : Edits T → Edits T
-  Nest : (prefix least : ℕ) → (inside : Edits T) → T → (first later : List ℕ) → Edits T → Edits T  -- a sub-block with its operations, appended
+  Nest : (prefix min_width : ℕ) → (inside : Edits T) → T → (first later : List ℕ) → Edits T → Edits T  -- a sub-block with its operations, appended
   BeginTable : T → (borders stacked : Bool) → CellGrid → List ColumnNeed → Edits T → Edits T
   BeginRow : Edits T → Edits T
   AddCell : (inside : Edits T) → Edits T → Edits T  -- the next cell, with its operations, unless it is skipped
@@ -35,8 +35,8 @@ edited o end (NewLine next) b = o.new_line b >>= λ c. edited o end next c
 edited o end (NewLineHard next) b = o.new_line_hard b >>= λ c. edited o end next c
 edited o end (StartBlock next) b = o.start_block b >>= λ c. edited o end next c
 edited o end (EndBlock next) b = edited o end next (o.end_block b)
-edited o end (Nest prefix least inside tag first later next) b =
-    o.sub_block b prefix least >>= λ i. edited o end inside i >>= λ c. o.append b c tag first later >>= λ d. edited o end next d
+edited o end (Nest prefix min_width inside tag first later next) b =
+    o.sub_block b prefix min_width >>= λ i. edited o end inside i >>= λ c. o.append b c tag first later >>= λ d. edited o end next d
 edited o end (BeginTable tag borders stacked grid needs next) b = o.begin_table b tag borders stacked grid needs >>= λ c. edited o end next c
 edited o end (BeginRow next) b = edited o end next (o.begin_row b)
 edited o end (AddCell inside next) b =

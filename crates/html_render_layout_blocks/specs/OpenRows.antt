@@ -14,9 +14,9 @@ abbrev pub cell_width : List ℕ → Option ℕ
 cell_width columns = if sum columns == 0 then None else Some (sum columns + (length columns - 1))
 
 -- Whether a place has a cell of the row itself.
-abbrev pub is_cell : CellKind → Bool
-is_cell Cell = true
-is_cell _ = false
+abbrev pub is_own_cell : CellKind → Bool
+is_own_cell Cell = true
+is_own_cell _ = false
 
 -- Whether a place has a cell of an earlier row.
 abbrev pub is_placeholder : CellKind → Bool
@@ -26,7 +26,7 @@ is_placeholder _ = false
 -- Places of a row over columns of these widths.
 abbrev pub places : (widths : List ℕ) → List PlacedCell → List RowPlace
 places widths [] = []
-places widths (s ∷ ss) = record { is_cell = is_cell s.kind; width = cell_width (take s.columns widths) } ∷ places (drop s.columns widths) ss
+places widths (s ∷ ss) = record { is_cell = is_own_cell s.kind; width = cell_width (take s.columns widths) } ∷ places (drop s.columns widths) ss
 
 -- Columns of the next cell of a row. None if it is skipped or there is none.
 abbrev pub next_width : List RowPlace → Option ℕ

@@ -2,7 +2,7 @@
 use Rattle.std.specs.Prelude.{List, Option}
 use Rattle.html_render_layout_lines.specs.declared.character.Item.{Item}
 use Rattle.html_render_layout_lines.specs.Line.{Line}
-use Rattle.html_render_layout_paragraphs.specs.Paragraph.{Setting, Page}
+use Rattle.html_render_layout_paragraphs.specs.Paragraph.{Setting, LineBuffer}
 use Rattle.html_render_layout_pictures.specs.declared.picture.Frame.{Frame}
 use Rattle.html_render_layout_pictures.specs.Picture.{TableRow}
 
@@ -10,7 +10,7 @@ use Rattle.html_render_layout_pictures.specs.Picture.{TableRow}
 pub record Parts (P R T M : Type 0) : Type 0 where
   pub start : Setting → (waiting : List M) → P
   pub feed : P → List (Item T M) → P
-  pub finish : P → Option (Page T M)  -- None if it is too narrow
+  pub finish : P → Option (LineBuffer T M)  -- None if it is too narrow
   pub next : P → (waiting : List M) → P  -- an empty paragraph of the same setting
   pub waiting : P → List M
   pub without_waiting : P → P

@@ -7,13 +7,13 @@ ghost use Rattle.std.specs.Prelude.{◌≡◌, ◌==◌, ◌||◌, cond, not, le
 ghost use Rattle.std.specs.Prelude.{OnOk, IfOk, IfErr, IsTrue};
 ghost use Rattle.std.specs.List.{list_all};
 ghost use Rattle.std.specs.Str.{chars};
-ghost use Rattle.html_render_dom_values.specs.Outcome.{Refuses};
+ghost use Rattle.html_render_dom_values.specs.Outcome.{OnlyOutOfMemory, Refuses};
 ghost use Rattle.html_render_layout_lines.specs.Character.{is_collapsible};
 ghost use Rattle.html_render_layout_lines.specs.Line.{columns, marks_line};
 ghost use Rattle.html_render_layout_paragraphs.specs.Stream.{after, styled};
 ghost use Rattle.html_render_layout_lines.specs.TaggedText.{counted, text_columns, under};
 ghost use Rattle.html_render_layout_blocks.specs.Joined.{prefixed, fitting, moved};
-ghost use Rattle.html_render_layout_blocks.specs.Block.{is_blank, mark_items, inner_width};
+ghost use Rattle.html_render_layout_blocks.specs.Block.{is_collapsible_text, mark_items, inner_width};
 ghost use Rattle.html_render_layout_lines.specs.Line.{is_empty};
 ghost use Rattle.html_render_layout_blocks.specs.Block as block;
 ghost use Rattle.html_render_layout_blocks.specs.Machine as machine;
@@ -100,8 +100,8 @@ fn has_no_character(text: &str) -> bool
 
 /// Reports whether a text is dropped at the end of a block: whether it is collapsible white space alone, under
 /// `Normal`.
-fn is_blank(mode: WhiteSpace, text: &str) -> bool
-    ensures { result ≡ is_blank mode (chars text.now) }
+fn is_collapsible_text(mode: WhiteSpace, text: &str) -> bool
+    ensures { result ≡ is_collapsible_text mode (chars text.now) }
 {
     match mode {
         WhiteSpace::Normal => is_collapsible_alone(text),
@@ -265,7 +265,7 @@ impl<T: Tag, M: Copy> Block<T, M> {
     /// returns `TooNarrow`.
     fn feed(&mut self, text: &str, style: TextStyle<T>) -> Result<(), Error>
         ensures ok { OnOk result (self.new ≡ block.feed machine self.old (styled style (chars text.now))) }
-        ensures err { IfErr result (λ e. e ≡ Error.OutOfMemory) }
+        ensures err { OnlyOutOfMemory result }
     {
         let Some(paragraph) = &mut self.paragraph else {
             return Ok(());
@@ -444,7 +444,7 @@ impl<T: Tag, M: Copy> Block<T, M> {
         if !self.at_block_end {
             return self.feed(text, style);
         }
-        if is_blank(style.mode, text) {
+        if is_collapsible_text(style.mode, text) {
             return Ok(());
         }
         self.start_block()?;
@@ -461,7 +461,7 @@ impl<T: Tag, M: Copy> Block<T, M> {
     #[tactic(auto, unfolding(crate::specs::Machine::operations))]
     pub fn add_mark(&mut self, mark: M) -> Result<(), Error>
         ensures ok { OnOk result (self.new ≡ machine.operations.add_mark self.old mark) }
-        ensures err { IfErr result (λ e. e ≡ Error.OutOfMemory) }
+        ensures err { OnlyOutOfMemory result }
     {
         let Some(paragraph) = &mut self.paragraph else {
             return Ok(());
@@ -472,7 +472,7 @@ impl<T: Tag, M: Copy> Block<T, M> {
     /// Adds marks to the open paragraph.
     fn add_marks(&mut self, marks: &[M]) -> Result<(), Error>
         ensures ok { OnOk result (self.new ≡ block.feed machine self.old (mark_items marks.now)) }
-        ensures err { IfErr result (λ e. e ≡ Error.OutOfMemory) }
+        ensures err { OnlyOutOfMemory result }
     {
         let Some(paragraph) = &mut self.paragraph else {
             return Ok(());
@@ -571,7 +571,7 @@ impl<T: Tag, M: Copy> Block<T, M> {
 /// Adds marks to a paragraph.
 fn add_each_mark<T: Tag, M: Copy>(paragraph: &mut Paragraph<T, M>, marks: &[M]) -> Result<(), Error>
     ensures ok { OnOk result (after paragraph.old (mark_items marks.now) ≡ Some paragraph.new) }
-    ensures err { IfErr result (λ e. e ≡ Error.OutOfMemory) }
+    ensures err { OnlyOutOfMemory result }
 {
     for mark in marks {
         paragraph.add_mark(*mark)?;

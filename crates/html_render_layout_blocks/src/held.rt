@@ -2,7 +2,7 @@
 
 ghost use Rattle.std.specs.Prelude.{◌≡◌, Some, OnOk, IfOk, IfErr, map, string_bytes};
 ghost use Rattle.std.specs.Str.{chars};
-ghost use Rattle.html_render_dom_values.specs.Outcome.{Refuses};
+ghost use Rattle.html_render_dom_values.specs.Outcome.{OnlyOutOfMemory, Refuses};
 ghost use Rattle.html_render_layout_blocks.specs.Block as block;
 ghost use Rattle.html_render_layout_blocks.specs.Machine as machine;
 ghost use Rattle.html_render_layout_blocks.specs.Machine.{machine};
@@ -17,11 +17,11 @@ use std::mem;
 
 /// A boxed block. Moving it moves one pointer.
 #[derive(Drop)]
-pub struct HeldBlock<T, M> {
+pub struct BoxedBlock<T, M> {
     block: Box<Block<T, M>>,
 }
 
-impl<T, M> Model for HeldBlock<T, M> {
+impl<T, M> Model for BoxedBlock<T, M> {
     ghost use Rattle.html_render_layout_blocks.specs.Machine.{MachineBlock};
 
     ghost Value = { MachineBlock T M };
@@ -29,30 +29,30 @@ impl<T, M> Model for HeldBlock<T, M> {
     ghost view = { λ h. h.block.value };
 }
 
-impl<T: Tag, M: Copy> HeldBlock<T, M> {
+impl<T: Tag, M: Copy> BoxedBlock<T, M> {
     /// Boxes a block.
-    fn new(alloc: Global, block: Block<T, M>) -> Result<HeldBlock<T, M>, Error>
+    fn new(alloc: Global, block: Block<T, M>) -> Result<BoxedBlock<T, M>, Error>
         ensures ok { IfOk result (λ held. held ≡ block) }
-        ensures err { IfErr result (λ e. e ≡ Error.OutOfMemory) }
+        ensures err { OnlyOutOfMemory result }
     {
         let block = Box::new(alloc, block)?;
-        Ok(HeldBlock { block })
+        Ok(BoxedBlock { block })
     }
 }
 
 /// Maximum number of finished blocks pooled for reuse.
-const KEPT: usize = 16;
+const POOL_MAX: usize = 16;
 
 /// The current block, which receives contents, and a pool of finished blocks.
 #[derive(Drop)]
-pub struct OpenBlock<T, M> {
+pub struct CurrentBlock<T, M> {
     /// Current block.
     pub held: Box<Block<T, M>>,
     /// Finished blocks, pooled for reuse.
     spare: Vec<Box<Block<T, M>>>,
 }
 
-impl<T, M> Model for OpenBlock<T, M> {
+impl<T, M> Model for CurrentBlock<T, M> {
     ghost use Rattle.html_render_layout_blocks.specs.Machine.{MachineBlock};
 
     ghost Value = { MachineBlock T M };
@@ -60,29 +60,29 @@ impl<T, M> Model for OpenBlock<T, M> {
     ghost view = { λ h. h.held.value };
 }
 
-impl<T: Tag, M: Copy> OpenBlock<T, M> {
+impl<T: Tag, M: Copy> CurrentBlock<T, M> {
     /// Makes a block the current one, with an empty pool.
     ///
     /// # Errors
     ///
     /// `OutOfMemory`.
-    pub fn new(alloc: Global, block: Block<T, M>) -> Result<OpenBlock<T, M>, Error>
+    pub fn new(alloc: Global, block: Block<T, M>) -> Result<CurrentBlock<T, M>, Error>
         ensures ok { IfOk result (λ b. b ≡ block) }
-        ensures err { IfErr result (λ e. e ≡ Error.OutOfMemory) }
+        ensures err { OnlyOutOfMemory result }
     {
         let held = Box::new(alloc, block)?;
-        Ok(OpenBlock {
+        Ok(CurrentBlock {
             held,
             spare: Vec::new(alloc),
         })
     }
 
     /// Makes `block` the current one. Returns the previous one.
-    pub fn replace(&mut self, block: HeldBlock<T, M>) -> HeldBlock<T, M>
+    pub fn replace(&mut self, block: BoxedBlock<T, M>) -> BoxedBlock<T, M>
         ensures before { result ≡ self.old }
         ensures after { self.new ≡ block }
     {
-        HeldBlock {
+        BoxedBlock {
             block: mem::replace(&mut self.held, block.block),
         }
     }
@@ -98,31 +98,31 @@ impl<T: Tag, M: Copy> OpenBlock<T, M> {
     fn keep(&mut self, over: Box<Block<T, M>>) -> Result<(), AllocError>
         ensures { OnOk result (self.new ≡ self.old) }
     {
-        if self.spare.len() < KEPT {
+        if self.spare.len() < POOL_MAX {
             self.spare.push(over)?;
         }
         Ok(())
     }
 
     /// Resets a pooled block to an empty block of `width` columns in the current one.
-    fn renewed(&self, spare: Box<Block<T, M>>, width: usize) -> HeldBlock<T, M>
+    fn renewed(&self, spare: Box<Block<T, M>>, width: usize) -> BoxedBlock<T, M>
         ensures { result ≡ block.inner_block machine self.now width }
     {
         let mut block = spare;
         block.become_inner(&self.held, width);
-        HeldBlock { block }
+        BoxedBlock { block }
     }
 
     /// Returns an empty block of `width` columns in the current one, from the pool if possible.
-    fn inner_block(&mut self, width: usize) -> Result<HeldBlock<T, M>, Error>
+    fn inner_block(&mut self, width: usize) -> Result<BoxedBlock<T, M>, Error>
         ensures same { OnOk result (self.new ≡ self.old) }
         ensures ok { IfOk result (λ inner. inner ≡ block.inner_block machine self.old width) }
-        ensures err { IfErr result (λ e. e ≡ Error.OutOfMemory) }
+        ensures err { OnlyOutOfMemory result }
     {
         if let Some(spare) = self.take_spare() {
             return Ok(self.renewed(spare, width));
         }
-        HeldBlock::new(self.held.alloc(), self.held.inner_block(width))
+        BoxedBlock::new(self.held.alloc(), self.held.inner_block(width))
     }
 
     /// Returns an empty sub-block for the columns after a prefix of `prefix` columns. It has at least `inner` columns.
@@ -132,7 +132,7 @@ impl<T: Tag, M: Copy> OpenBlock<T, M> {
     /// - `OutOfMemory`.
     /// - `TooNarrow`, with overflow off, if fewer than `inner` columns are free.
     #[tactic(auto, using(html_render_dom_values::specs::laws::Outcome::refusals), unfolding(crate::specs::Machine::operations))]
-    pub fn sub_block(&mut self, prefix: usize, inner: usize) -> Result<HeldBlock<T, M>, Error>
+    pub fn sub_block(&mut self, prefix: usize, inner: usize) -> Result<BoxedBlock<T, M>, Error>
         ensures same { OnOk result (self.new ≡ self.old) }
         ensures ok { IfOk result (λ sub. machine.operations.sub_block self.old prefix inner ≡ Some sub) }
         ensures err { IfErr result (λ e. Refuses e (machine.operations.sub_block self.old prefix inner)) }
@@ -151,10 +151,10 @@ impl<T: Tag, M: Copy> OpenBlock<T, M> {
     ///
     /// `OutOfMemory`.
     #[tactic(auto, unfolding(crate::specs::Machine::operations))]
-    pub fn cell_block(&mut self) -> Result<Option<HeldBlock<T, M>>, Error>
+    pub fn cell_block(&mut self) -> Result<Option<BoxedBlock<T, M>>, Error>
         ensures same { OnOk result (self.new ≡ self.old) }
         ensures ok { IfOk result (λ cell. cell ≡ machine.operations.cell_block self.old) }
-        ensures err { IfErr result (λ e. e ≡ Error.OutOfMemory) }
+        ensures err { OnlyOutOfMemory result }
     {
         match self.held.next_cell_width() {
             Some(width) => Ok(Some(self.inner_block(width)?)),
@@ -168,7 +168,7 @@ impl<T: Tag, M: Copy> OpenBlock<T, M> {
     ///
     /// As for [`Block::add_cell`].
     #[tactic(auto, using(html_render_dom_values::specs::laws::Outcome::refusals))]
-    pub fn add_cell(&mut self, cell: HeldBlock<T, M>) -> Result<(), Error>
+    pub fn add_cell(&mut self, cell: BoxedBlock<T, M>) -> Result<(), Error>
         ensures ok { OnOk result (machine.operations.add_cell self.old cell ≡ Some self.new) }
         ensures err { IfErr result (λ e. Refuses e (machine.operations.add_cell self.old cell)) }
     {
@@ -186,7 +186,7 @@ impl<T: Tag, M: Copy> OpenBlock<T, M> {
     #[tactic(auto, using(html_render_dom_values::specs::laws::Outcome::refusals))]
     pub fn append(
         &mut self,
-        sub: HeldBlock<T, M>,
+        sub: BoxedBlock<T, M>,
         tag: T,
         first: &str,
         later: &str,

@@ -5,7 +5,7 @@ use Rattle.std.proofs.lemmas.List.{take-append-drop}
 use Rattle.std.proofs.lemmas.List.Folds.{list_any-append}
 use Rattle.std.specs.List.{list_any}
 use Rattle.html_render_dom_values.specs.Forest.{Forest, none, node}
-use Rattle.html_render_parts_decorators.specs.Decoration.{Decoration}
+use Rattle.html_render_parts.specs.Decoration.{Decoration}
 use Rattle.html_render_parts_widths.specs.declared.shares.ColumnNeed.{ColumnNeed}
 use Rattle.html_render_layout_nodes.specs.declared.tree.Entry.{Entry}
 use Rattle.html_render_layout_nodes.specs.declared.tree.Estimate.{Estimate}
@@ -13,7 +13,7 @@ use Rattle.html_render_layout_nodes.specs.declared.tree.NodeKind.{NodeKind}
 use Rattle.html_render_layout_nodes.specs.declared.tree.NodeKind.TheVariants.{Text, Break, Image, Svg, FragmentStart, Table}
 use Rattle.html_render_layout_nodes.specs.declared.tree.RenderNode.{RenderNode}
 use Rattle.html_render_layout_nodes.specs.Preorder.{flatten, forest_of}
-use Rattle.html_render_layout_nodes.specs.laws.Preorder.{forest_of-flatten, IsForest, IsForest-flatten}
+use Rattle.html_render_layout_nodes.specs.laws.Preorder.{forest_of-flatten, IsPreorderOf, IsPreorderOf-flatten}
 use Rattle.html_render_layout_estimates.specs.declared.settings.LayoutSettings.{LayoutSettings}
 use Rattle.html_render_layout_estimates.specs.Estimates.{trees, greatest_least, measured_kind, estimate_of, measured}
 use Rattle.html_render_layout_estimates.specs.Passes.{is_table, has_table, with_needs, sized_if, without_sizes, with_needed_sizes}
@@ -70,7 +70,7 @@ module _ {D A : Type 0} (decoration : Decoration D A) (decorator : D) (settings 
   -- without a table, measuring without preferred widths gives the measured trees without them
   leasts-same : (t : Forest RenderNode) → greatest_least (without_sizes t) ≡ greatest_least t
   leasts-same none = refl
-  leasts-same (node n children beside) = ap (max n.estimate.least) (leasts-same beside)
+  leasts-same (node n children beside) = ap (max n.estimate.min_width) (leasts-same beside)
 
   trees-same : (t : Forest RenderNode) → trees (without_sizes t) ≡ trees t
   trees-same none = refl
@@ -113,6 +113,6 @@ module _ {D A : Type 0} (decoration : Decoration D A) (decorator : D) (settings 
       needed b is = ap (λ c. if c then all_sized t else without_sizes (all_sized t)) is
 
   pub done : (t : Forest RenderNode) (old es : List (Entry RenderNode)) → old ≡ flatten t → es ≡ flatten (all_measured (forest_of old)) →
-      IsForest es (all_measured t)
+      IsPreorderOf es (all_measured t)
   done t old es same is =
-      IsForest-flatten es (all_measured t) (is ∙ ap (λ u. flatten (all_measured u)) (ap forest_of same ∙ forest_of-flatten t))
+      IsPreorderOf-flatten es (all_measured t) (is ∙ ap (λ u. flatten (all_measured u)) (ap forest_of same ∙ forest_of-flatten t))

@@ -8,7 +8,7 @@ use Rattle.html_render_dom_values.specs.Forest.{Forest, none, node, followed_by}
 use Rattle.html_render_layout_nodes.specs.declared.tree.Entry.{Entry}
 use Rattle.html_render_layout_nodes.specs.declared.tree.RenderNode.{RenderNode}
 use Rattle.html_render_layout_nodes.specs.Preorder.{flatten, forest_of}
-use Rattle.html_render_layout_nodes.specs.laws.Preorder.{forest_of-flatten, flatten-followed_by, IsForest, IsForest-flatten}
+use Rattle.html_render_layout_nodes.specs.laws.Preorder.{forest_of-flatten, flatten-followed_by, IsPreorderOf, IsPreorderOf-flatten}
 
 -- ---- the tree at a place
 
@@ -17,7 +17,7 @@ pub record IsNodeOver {K : Type 0} (es : List (Entry K)) : Type 0 where
   pub top : K
   pub children : Forest K
   pub beside : Forest K
-  pub is : es ≡ record { node = top; size = length (flatten children) + 1 } ∷ (flatten children ++ flatten beside)
+  pub is : es ≡ record { node = top; subtree_len = length (flatten children) + 1 } ∷ (flatten children ++ flatten beside)
 
 pub node_at : {K : Type 0} (t : Forest K) (i : ℕ) → i < length (flatten t) → IsNodeOver (drop i (flatten t))
 node_at none i h = absurd (omega arith)
@@ -31,7 +31,7 @@ node_at (node k children beside) (suc i) h =
             children = s.children;
             beside = followed_by s.beside beside;
             is = drop-append-le i (flatten children) more (omega arith) ∙ ap (λ l. l ++ more) s.is
-                ∙ ap (λ l. record { node = s.top; size = length (flatten s.children) + 1 } ∷ l)
+                ∙ ap (λ l. record { node = s.top; subtree_len = length (flatten s.children) + 1 } ∷ l)
                 (append_assoc (flatten s.children) (flatten s.beside) more
                 ∙ ap (λ l. flatten s.children ++ l) (sym (flatten-followed_by s.beside beside)));
           })
@@ -73,10 +73,10 @@ module _ (measured_by : RenderNode → (children : Forest RenderNode) → Render
   -- whether the node at `at` is the next one to measure: its children are measured
   pub record Found (t : Forest RenderNode) (now : List (Entry RenderNode)) (at : ℕ) (e : Entry RenderNode) : Type 0 where
     pub children : Forest RenderNode
-    pub size : e.size ≡ length (flatten (after children)) + 1
-    pub end : at + e.size ≤ length now
+    pub subtree_len : e.subtree_len ≡ length (flatten (after children)) + 1
+    pub end : at + e.subtree_len ≤ length now
     pub entry : drop at (flatten t) ≡ e ∷ drop (at + 1) (flatten t)
-    pub under : take (e.size - 1) (drop (at + 1) now) ≡ flatten (after children)
+    pub under : take (e.subtree_len - 1) (drop (at + 1) now) ≡ flatten (after children)
     pub next : (m : RenderNode) → m ≡ measured_by e.node (after children) → Measuring t (set now at (record e { node = m })) at
 
   pub Measuring-start : (t : Forest RenderNode) (now : List (Entry RenderNode)) (at : ℕ) → now ≡ flatten t →
@@ -105,7 +105,7 @@ module _ (measured_by : RenderNode → (children : Forest RenderNode) → Render
   Measuring-find t now at before e w one is =
       let old : List (Entry RenderNode) = flatten t in
       let s = node_at t before (omega (arith, w.within)) in
-      let first : Entry RenderNode = record { node = s.top; size = length (flatten s.children) + 1 } in
+      let first : Entry RenderNode = record { node = s.top; subtree_len = length (flatten s.children) + 1 } in
       let heads : get_or old before first ∷ drop (before + 1) old ≡ first ∷ (flatten s.children ++ flatten s.beside) =
       sym (drop_more old before first (omega (arith, w.within))) ∙ s.is in
       let behind : drop (before + 1) old ≡ flatten s.children ++ flatten s.beside = cc heads in
@@ -122,19 +122,19 @@ module _ (measured_by : RenderNode → (children : Forest RenderNode) → Render
       let filled : drop (before + 1) now ≡ flatten (after s.children) ++ flatten (after s.beside) =
       ap (λ n. drop n now) one ∙ w.filled ∙ ap (λ u. flatten (after u)) rest ∙ ap flatten (after-followed_by s.children s.beside)
       ∙ flatten-followed_by (after s.children) (after s.beside) in
-      let size : e.size ≡ length (flatten (after s.children)) + 1 =
-      omega (arith, ap (λ (x : Entry RenderNode). x.size) same, length-after s.children) in
-      let less : e.size - 1 ≡ length (flatten (after s.children)) = omega (arith, size) in
+      let size : e.subtree_len ≡ length (flatten (after s.children)) + 1 =
+      omega (arith, ap (λ (x : Entry RenderNode). x.subtree_len) same, length-after s.children) in
+      let less : e.subtree_len - 1 ≡ length (flatten (after s.children)) = omega (arith, size) in
       record {
         children = s.children;
-        size = size;
+        subtree_len = size;
         end = omega (arith, w.within, w.many, size, ap length filled, length-drop (before + 1) now, length-append {A = Entry RenderNode});
         entry = drop_more old before e (omega (arith, w.within, one)) ∙ ap (λ x. x ∷ drop (before + 1) old) (sym (is ∙ there));
         under = ap (λ n. take n (drop (before + 1) now)) less ∙ ap (take (length (flatten (after s.children)))) filled
             ∙ take-append_seam (flatten (after s.children)) (flatten (after s.beside));
         next = λ m is_measured. (let x : Entry RenderNode = record e { node = m } in
             let its : RenderNode = measured_by s.top (after s.children) in
-            let node_is : x ≡ record { node = its; size = length (flatten (after s.children)) + 1 } = cc (is_measured, same, size) in
+            let node_is : x ≡ record { node = its; subtree_len = length (flatten (after s.children)) + 1 } = cc (is_measured, same, size) in
             record {
               rest = node s.top s.children s.beside;
               within = omega (arith, w.within);
@@ -154,17 +154,17 @@ module _ (measured_by : RenderNode → (children : Forest RenderNode) → Render
 
   -- the nodes of the children, as a part of all nodes, are their measured forest
   pub Found-part : (t : Forest RenderNode) (now all : List (Entry RenderNode)) (at n : ℕ) (e : Entry RenderNode) (f : Found t now at e) →
-      all ≡ now → n ≡ e.size - 1 → IsForest (take n (drop (at + 1) all)) (after f.children)
+      all ≡ now → n ≡ e.subtree_len - 1 → IsPreorderOf (take n (drop (at + 1) all)) (after f.children)
   Found-part t now all at n e f same less =
-      IsForest-flatten _ _ (ap (λ m. take m (drop (at + 1) all)) less ∙ ap (λ l. take (e.size - 1) (drop (at + 1) l)) same ∙ f.under)
+      IsPreorderOf-flatten _ _ (ap (λ m. take m (drop (at + 1) all)) less ∙ ap (λ l. take (e.subtree_len - 1) (drop (at + 1) l)) same ∙ f.under)
 
   -- after the change of the node at `at` to its measured one, the nodes from `at` on are measured
   pub Found-next : (t : Forest RenderNode) (now all : List (Entry RenderNode)) (at n : ℕ) (e x : Entry RenderNode)
-      (change : RenderNode → RenderNode) (f : Found t now at e) → all ≡ now → n ≡ e.size - 1 →
+      (change : RenderNode → RenderNode) (f : Found t now at e) → all ≡ now → n ≡ e.subtree_len - 1 →
       change e.node ≡ measured_by e.node (forest_of (take n (drop (at + 1) all))) →
       e ≡ get_or all at e → x ≡ get_or now at x → Measuring t (set now at (record x { node = change x.node })) at
   Found-next t now all at n e x change f same less is_measured is_e is_x =
       let there : e ≡ x =
-      is_e ∙ ap (λ l. get_or l at e) same ∙ get_or_default now at e x (omega (arith, f.end, f.size)) ∙ sym is_x in
+      is_e ∙ ap (λ l. get_or l at e) same ∙ get_or_default now at e x (omega (arith, f.end, f.subtree_len)) ∙ sym is_x in
       subst (λ (y : Entry RenderNode). Measuring t (set now at (record y { node = change y.node })) at) there
       (f.next (change e.node) (is_measured ∙ ap (measured_by e.node) (Found-part t now all at n e f same less).is))

@@ -22,7 +22,7 @@ OnColumns columns c = (c.first + c.columns ≤ columns) × (0 < c.columns)
 row_is : (columns : ℕ) (cells : List GridCell) (t : Forest RenderNode) → All (OnColumns columns) cells → AreCells columns (row_needs cells t)
 row_is columns (c ∷ cs) (node n children beside) h =
     let first = All-head (OnColumns columns) c cs h in
-    All-cons (IsCell columns) (record { start = c.first; count = c.columns; size = n.estimate.size; least = n.estimate.least })
+    All-cons (IsCell columns) (record { start = c.first; count = c.columns; preferred_width = n.estimate.preferred_width; min_width = n.estimate.min_width })
     (row_needs cs beside) (record { over = first.0; some = first.1 }) (row_is columns cs beside (All-tail (OnColumns columns) c cs h))
 row_is columns cells t h = All-nil (IsCell columns)
 

@@ -8,7 +8,7 @@ use Rattle.std.proofs.lemmas.Grind.{common_steps}
 use Rattle.std.specs.Str.{chars}
 use Rattle.html_render_layout_lines.specs.Character.{is_collapsible, width_of}
 use Rattle.html_render_layout_lines.specs.laws.Characters.{plain_width}
-use Rattle.html_render_layout_estimates.specs.TextSize.{columns_of, inner_columns, size_of}
+use Rattle.html_render_layout_estimates.specs.TextSize.{collapsed_columns, inner_columns, size_of}
 
 -- ---- characters
 
@@ -25,7 +25,7 @@ chars-ascii b (c ∷ bs) h = grind (arith, common_steps)
 abbrev pub size_on : ℕ → Bool → List ℕ → ℕ
 size_on zero false cs = size_of cs
 size_on zero true cs = inner_columns cs + min (inner_columns cs) 1
-size_on (suc k) spaced cs = suc k + columns_of spaced cs
+size_on (suc k) spaced cs = suc k + collapsed_columns spaced cs
 
 pub size_on-none : (k : ℕ) (spaced : Bool) → size_on k spaced [] ≡ k
 size_on-none zero false = refl
@@ -36,13 +36,13 @@ pub size_on-least : (k : ℕ) (spaced : Bool) (cs : List ℕ) → k ≤ size_on 
 size_on-least zero spaced cs = omega arith
 size_on-least (suc k) spaced cs = omega arith
 
-pub size_on-some : (k : ℕ) (spaced : Bool) (cs : List ℕ) → 1 ≤ k → size_on k spaced cs ≡ k + columns_of spaced cs
+pub size_on-some : (k : ℕ) (spaced : Bool) (cs : List ℕ) → 1 ≤ k → size_on k spaced cs ≡ k + collapsed_columns spaced cs
 size_on-some zero spaced cs h = absurd (omega (arith, h))
 size_on-some (suc k) spaced cs h = refl
 
-columns_of-other : (c : ℕ) (cs : List ℕ) (spaced : Bool) → is_collapsible c ≡ false →
-    columns_of spaced (c ∷ cs) ≡ cond spaced 1 0 + width_of c + columns_of false cs
-columns_of-other c cs spaced e = rw e refl
+collapsed_columns-other : (c : ℕ) (cs : List ℕ) (spaced : Bool) → is_collapsible c ≡ false →
+    collapsed_columns spaced (c ∷ cs) ≡ cond spaced 1 0 + width_of c + collapsed_columns false cs
+collapsed_columns-other c cs spaced e = rw e refl
 
 pub size_on-space : (k c : ℕ) (cs : List ℕ) (spaced : Bool) → is_collapsible c ≡ true → size_on k spaced (c ∷ cs) ≡ size_on k true cs
 size_on-space zero c cs false e = rw e refl
@@ -51,10 +51,10 @@ size_on-space (suc k) c cs spaced e = rw e refl
 
 pub size_on-letter : (k c : ℕ) (cs : List ℕ) (spaced : Bool) → is_collapsible c ≡ false → width_of c ≡ 1 →
     size_on k spaced (c ∷ cs) ≡ size_on (k + cond spaced 2 1) false cs
-size_on-letter zero c cs false e w = rw e (omega (arith, w, columns_of-other c cs false e))
-size_on-letter zero c cs true e w = rw e (omega (arith, w, columns_of-other c cs false e))
-size_on-letter (suc k) c cs false e w = omega (arith, columns_of-other c cs false e, w, size_on-some (suc k + 1) false cs (omega arith))
-size_on-letter (suc k) c cs true e w = omega (arith, columns_of-other c cs true e, w, size_on-some (suc k + 2) false cs (omega arith))
+size_on-letter zero c cs false e w = rw e (omega (arith, w, collapsed_columns-other c cs false e))
+size_on-letter zero c cs true e w = rw e (omega (arith, w, collapsed_columns-other c cs false e))
+size_on-letter (suc k) c cs false e w = omega (arith, collapsed_columns-other c cs false e, w, size_on-some (suc k + 1) false cs (omega arith))
+size_on-letter (suc k) c cs true e w = omega (arith, collapsed_columns-other c cs true e, w, size_on-some (suc k + 2) false cs (omega arith))
 
 -- ---- a text of ASCII characters, byte by byte
 
@@ -131,39 +131,39 @@ Sized-reached bs at k limit spaced w reached = omega (arith, size_on-least k spa
 
 -- the columns of one letter and the rest
 one-letter : (bs : List ℕ) (at : ℕ) (spaced : Bool) → at < length bs → 33 ≤ get_or bs at 0 → get_or bs at 0 ≤ 126 →
-    columns_of spaced (chars (drop at bs)) ≡ cond spaced 1 0 + 1 + columns_of false (chars (drop (at + 1) bs))
+    collapsed_columns spaced (chars (drop at bs)) ≡ cond spaced 1 0 + 1 + collapsed_columns false (chars (drop (at + 1) bs))
 one-letter bs at spaced within low high =
     let b = get_or bs at 0 in
-    ap (columns_of spaced) (next-chars bs at within (omega (arith, high)))
-    ∙ columns_of-other b (chars (drop (at + 1) bs)) spaced (letter-collapsible b low high)
+    ap (collapsed_columns spaced) (next-chars bs at within (omega (arith, high)))
+    ∙ collapsed_columns-other b (chars (drop (at + 1) bs)) spaced (letter-collapsible b low high)
     ∙ omega (arith, plain_width b low high)
 
 -- the columns of `n + 1` letters and the rest
 more-letters : (bs : List ℕ) (spaced : Bool) (n : ℕ) → n + 1 ≤ length bs → AllWithin (λ b. (33 ≤ b) × (b ≤ 126)) bs 0 (n + 1) →
-    columns_of spaced (chars bs) ≡ cond spaced 1 0 + (n + 1) + columns_of false (chars (drop (n + 1) bs))
+    collapsed_columns spaced (chars bs) ≡ cond spaced 1 0 + (n + 1) + collapsed_columns false (chars (drop (n + 1) bs))
 more-letters bs spaced zero within letters =
     let letter = letters 0 0 (omega arith) (omega arith) in
     one-letter bs 0 spaced (omega (arith, within)) letter.0 letter.1
 more-letters bs spaced (suc n) within letters =
     let letter = letters (n + 1) 0 (omega arith) (omega arith) in
     let before = more-letters bs spaced n (omega (arith, within)) (λ i d low high. letters i d low (omega (arith, high))) in
-    let next : columns_of false (chars (drop (n + 1) bs)) ≡ 1 + columns_of false (chars (drop (suc n + 1) bs)) =
+    let next : collapsed_columns false (chars (drop (n + 1) bs)) ≡ 1 + collapsed_columns false (chars (drop (suc n + 1) bs)) =
     one-letter bs (n + 1) false (omega (arith, within)) letter.0 letter.1
-    ∙ ap (λ k. 0 + 1 + columns_of false (chars (drop k bs))) (omega arith) in
+    ∙ ap (λ k. 0 + 1 + collapsed_columns false (chars (drop k bs))) (omega arith) in
     omega (arith, before, next)
 
 pub letters-columns : (bs : List ℕ) (spaced : Bool) (n : ℕ) → 0 < n → n ≤ length bs → AllWithin (λ b. (33 ≤ b) × (b ≤ 126)) bs 0 n →
-    columns_of spaced (chars bs) ≡ cond spaced 1 0 + n + columns_of false (chars (drop n bs))
+    collapsed_columns spaced (chars bs) ≡ cond spaced 1 0 + n + collapsed_columns false (chars (drop n bs))
 letters-columns bs spaced zero some within letters = absurd (omega (arith, some))
 letters-columns bs spaced (suc n) some within letters =
-    subst (λ k. columns_of spaced (chars bs) ≡ cond spaced 1 0 + k + columns_of false (chars (drop k bs))) (omega arith)
+    subst (λ k. collapsed_columns spaced (chars bs) ≡ cond spaced 1 0 + k + collapsed_columns false (chars (drop k bs))) (omega arith)
     (more-letters bs spaced n (omega (arith, within)) (λ i d low high. letters i d low (omega (arith, high))))
 
 -- ---- a space at the start of a text
 
 pub space-columns : (bs : List ℕ) (spaced : Bool) → 0 < length bs → is_collapsible (get_or bs 0 0) ≡ true → get_or bs 0 0 < 128 →
-    columns_of spaced (chars bs) ≡ columns_of true (chars (drop 1 bs))
-space-columns bs spaced within space small = ap (columns_of spaced) (next-chars bs 0 within small) ∙ behind (get_or bs 0 0) space
+    collapsed_columns spaced (chars bs) ≡ collapsed_columns true (chars (drop 1 bs))
+space-columns bs spaced within space small = ap (collapsed_columns spaced) (next-chars bs 0 within small) ∙ behind (get_or bs 0 0) space
   where
-    behind : (c : ℕ) → is_collapsible c ≡ true → columns_of spaced (c ∷ chars (drop 1 bs)) ≡ columns_of true (chars (drop 1 bs))
+    behind : (c : ℕ) → is_collapsible c ≡ true → collapsed_columns spaced (c ∷ chars (drop 1 bs)) ≡ collapsed_columns true (chars (drop 1 bs))
     behind c e = rw e refl

@@ -8,7 +8,7 @@ use Rattle.html_render_layout_nodes.specs.declared.tree.RenderNode.{RenderNode}
 -- the needs of a row's cells over their columns: each cell is the next of these trees, as far as there are any
 abbrev pub row_needs : List GridCell → (cells : Forest RenderNode) → List CellNeed
 row_needs (c ∷ cs) (node n children beside) =
-    record { start = c.first; count = c.columns; size = n.estimate.size; least = n.estimate.least } ∷ row_needs cs beside
+    record { start = c.first; count = c.columns; preferred_width = n.estimate.preferred_width; min_width = n.estimate.min_width } ∷ row_needs cs beside
 row_needs cells trees = []
 
 -- THE NEEDS OF THE CELLS of a table, row by row

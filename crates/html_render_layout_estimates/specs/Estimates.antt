@@ -3,7 +3,7 @@ use Rattle.std.specs.Prelude.{ℕ, ℤ, pos, ◌+◌, ◌-◌, ◌*◌, ◌/◌,
 use Rattle.std.specs.Int.{saturate_signed, w64}
 use Rattle.std.specs.Str.{chars}
 use Rattle.html_render_dom_values.specs.Forest.{Forest, none, node}
-use Rattle.html_render_parts_decorators.specs.Decoration.{Decoration}
+use Rattle.html_render_parts.specs.Decoration.{Decoration}
 use Rattle.html_render_parts_widths.specs.declared.needs.CellNeed.{CellNeed}
 use Rattle.html_render_parts_widths.specs.Needs.{column_needs}
 use Rattle.html_render_parts.specs.TableCells.{columns_of}
@@ -25,25 +25,25 @@ trees (node k children beside) = trees beside + 1
 -- the greatest minimum width of a tree of a forest; 0 without trees
 abbrev pub greatest_least : Forest RenderNode → ℕ
 greatest_least none = 0
-greatest_least (node n children beside) = max n.estimate.least (greatest_least beside)
+greatest_least (node n children beside) = max n.estimate.min_width (greatest_least beside)
 
 -- the sum of the trees' preferred widths, up to the greatest number
 abbrev pub total_size : Forest RenderNode → ℕ
 total_size none = 0
-total_size (node n children beside) = saturated (n.estimate.size + total_size beside)
+total_size (node n children beside) = saturated (n.estimate.preferred_width + total_size beside)
 
 -- the estimate of a node with these widths after a prefix: the prefix's columns are added to both
-abbrev pub behind : (prefix least size children : ℕ) → Estimate
-behind prefix least size children =
-    record { least = saturated (least + prefix); size = saturated (size + prefix); prefix = prefix; children = children }
+abbrev pub behind : (prefix min_width preferred_width children : ℕ) → Estimate
+behind prefix min_width preferred_width children =
+    record { min_width = saturated (min_width + prefix); preferred_width = saturated (preferred_width + prefix); prefix = prefix; children = children }
 
 -- THE ESTIMATE OF A TABLE. Its minimum width is the sum of its columns' minimum widths. Its preferred width is the sum over
 -- its cells of the part that each of their columns has, times these columns. One column of text for each separator and the
 -- prefix are added.
 abbrev pub table_estimate : (columns : ℕ) → List CellNeed → (prefix children : ℕ) → Estimate
 table_estimate columns cells prefix children =
-    let least = sum_by (λ n. n.least) (column_needs columns cells) + (columns - 1) in
-    behind prefix least (sum_by (λ c. c.size / c.count * c.count) cells + (columns - 1)) children
+    let min_width = sum_by (λ n. n.min_width) (column_needs columns cells) + (columns - 1) in
+    behind prefix min_width (sum_by (λ c. c.preferred_width / c.count * c.count) cells + (columns - 1)) children
 
 -- a kind with the needs of its columns for its measured cells, if it is a table: THE NEEDS that the layout reads
 abbrev pub measured_kind : NodeKind → (children : Forest RenderNode) → NodeKind
@@ -76,19 +76,19 @@ module _ {D A : Type 0} (decoration : Decoration D A) (decorator : D) where
     prefix_of kind children = 0
 
     -- the estimate of a text in one piece, of this preferred width
-    abbrev pub piece : (size : ℕ) → Estimate
-    piece size = record { least = min size settings.min_wrap_width; size = size; prefix = 0; children = 0 }
+    abbrev pub piece : (preferred_width : ℕ) → Estimate
+    piece preferred_width = record { min_width = min preferred_width settings.min_wrap_width; preferred_width = preferred_width; prefix = 0; children = 0 }
 
     -- THE ESTIMATE of a node over its measured children. An image has 2 columns more than its title, and a link 5 more than
     -- its children, for the decorator's texts around them.
     abbrev pub estimate_of : NodeKind → (children : Forest RenderNode) → Estimate
     estimate_of (Text text) children = piece (text_size text)
-    estimate_of Break children = record { least = 1; size = 1; prefix = 0; children = 0 }
+    estimate_of Break children = record { min_width = 1; preferred_width = 1; prefix = 0; children = 0 }
     estimate_of (Image image) children = piece (saturated (text_size image.title + 2))
     estimate_of (Svg title) children = piece (text_size title)
-    estimate_of (FragmentStart name) children = record { least = 0; size = 0; prefix = 0; children = 0 }
+    estimate_of (FragmentStart name) children = record { min_width = 0; preferred_width = 0; prefix = 0; children = 0 }
     estimate_of (Link target) children =
-        record { least = max (greatest_least children) 5; size = saturated (total_size children + 5); prefix = 0; children = trees children }
+        record { min_width = max (greatest_least children) 5; preferred_width = saturated (total_size children + 5); prefix = 0; children = trees children }
     estimate_of (Table grid) children =
         table_estimate (columns_of grid.cells) (cell_needs grid.cells.rows children) (prefix_of (Table grid) (trees children)) (trees children)
     estimate_of kind children = behind (prefix_of kind (trees children)) (greatest_least children) (total_size children) (trees children)

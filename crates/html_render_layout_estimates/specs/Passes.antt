@@ -24,7 +24,7 @@ with_needs needs kind = kind
 
 -- an estimate without its preferred width, and trees without those of their nodes
 abbrev pub without_size : Estimate → Estimate
-without_size e = record e { size = 0 }
+without_size e = record e { preferred_width = 0 }
 
 abbrev pub sized_if : (with_sizes : Bool) → Estimate → Estimate
 sized_if with_sizes e = if with_sizes then e else without_size e

@@ -8,16 +8,16 @@ saturated n = min n (2 ^ 64 - 1)
 
 -- the columns of characters, where a run of white space counts 1 if another character follows it; `spaced` says whether
 -- white space precedes them
-abbrev pub columns_of : (spaced : Bool) → List ℕ → ℕ
-columns_of spaced [] = 0
-columns_of spaced (c ∷ cs) = if is_collapsible c then columns_of true cs else (if spaced then 1 else 0) + width_of c + columns_of false cs
+abbrev pub collapsed_columns : (spaced : Bool) → List ℕ → ℕ
+collapsed_columns spaced [] = 0
+collapsed_columns spaced (c ∷ cs) = if is_collapsible c then collapsed_columns true cs else (if spaced then 1 else 0) + width_of c + collapsed_columns false cs
 
 -- the columns of characters without the white space at their start
 abbrev pub inner_columns : List ℕ → ℕ
 inner_columns [] = 0
-inner_columns (c ∷ cs) = if is_collapsible c then inner_columns cs else columns_of false (c ∷ cs)
+inner_columns (c ∷ cs) = if is_collapsible c then inner_columns cs else collapsed_columns false (c ∷ cs)
 
 -- THE PREFERRED WIDTH OF A TEXT: white space at its start counts 1 if the rest has any column
 abbrev pub size_of : List ℕ → ℕ
 size_of [] = 0
-size_of (c ∷ cs) = if is_collapsible c then inner_columns cs + min (inner_columns cs) 1 else columns_of false (c ∷ cs)
+size_of (c ∷ cs) = if is_collapsible c then inner_columns cs + min (inner_columns cs) 1 else collapsed_columns false (c ∷ cs)

@@ -1,6 +1,7 @@
 //! Cells of a table: their columns on the table's grid, and the widths that they need there.
 
-ghost use Rattle.std.specs.Prelude.{◌≡◌, ◌++◌, IfOk, IfErr, OnOk};
+ghost use Rattle.std.specs.Prelude.{◌≡◌, ◌++◌, IfOk, OnOk};
+ghost use Rattle.html_render_dom_values.specs.Outcome.{OnlyOutOfMemory};
 ghost use Rattle.html_render_layout_nodes.specs.Preorder.{flatten, forest_of};
 ghost use Rattle.html_render_parts_widths.specs.Needs.{AreCells};
 ghost use Rattle.html_render_parts.specs.Placement.{lists};
@@ -31,8 +32,8 @@ fn add_row(
         needs.push(CellNeed {
             start: cell.first,
             count: cell.columns,
-            size: tree.node.estimate.size,
-            least: tree.node.estimate.least,
+            preferred_width: tree.node.estimate.preferred_width,
+            min_width: tree.node.estimate.min_width,
         })?;
         rest = tree.beside;
     }
@@ -74,7 +75,7 @@ pub fn cell_needs(
     requires { flatten (forest_of rows.now) ≡ rows.now }
     ensures ok { IfOk result (λ needs. needs.items ≡ cell_needs grid.now.rows (forest_of rows.now)) }
     ensures cells { IfOk result (λ needs. AreCells (columns_of grid.now) needs.items) }
-    ensures err { IfErr result (λ e. e ≡ Error.OutOfMemory) }
+    ensures err { OnlyOutOfMemory result }
 {
     let mut needs = Vec::new(alloc);
     add_rows(&mut needs, grid.rows(), rows)?;

@@ -4,8 +4,9 @@
 //! columns of the decorator's prefix and the number of children. If the tree has a table, each estimate has the preferred
 //! width, too. docs/BEHAVIOUR.md has the rules for each kind of node under "Minimum and preferred width of a node".
 
-ghost use Rattle.std.specs.Prelude.{◌≡◌, ◌+◌, ◌+ℤ◌, ◌-ℤ◌, pos, max, min, true, false, IfOk, IfErr, OnOk, MatchBool};
+ghost use Rattle.std.specs.Prelude.{◌≡◌, ◌+◌, ◌+ℤ◌, ◌-ℤ◌, pos, max, min, true, false, IfOk, OnOk, MatchBool};
 ghost use Rattle.std.specs.Int.{saturate_signed, w64};
+ghost use Rattle.html_render_dom_values.specs.Outcome.{OnlyOutOfMemory};
 ghost use Rattle.html_render_layout_nodes.specs.Preorder.{flatten, forest_of};
 ghost use Rattle.html_render_layout_estimates.specs.Estimates.{trees, greatest_least, text_size, number_columns, prefix_of};
 ghost use Rattle.html_render_layout_estimates.specs.TextSize.{saturated};
@@ -17,8 +18,8 @@ use crate::sized::{Measure, measure_table, total_size};
 use crate::text::{columns, size_within};
 use crate::trees::first_tree;
 use html_render_dom_values::Error;
-use html_render_layout_nodes::tree::{Entry, Estimate, Flat, NodeKind, RenderNode};
-use html_render_parts_decorators::decorate::TextDecorator;
+use html_render_layout_nodes::tree::{Entry, Estimate, NodeKind, PreorderForest, RenderNode};
+use html_render_parts::decorate::TextDecorator;
 use std::alloc::Global;
 
 /// Totals of the trees beside each other in a slice.
@@ -27,7 +28,7 @@ struct Children {
     /// Number of trees.
     count: usize,
     /// Greatest minimum width of a tree; 0 without trees.
-    least: usize,
+    min_width: usize,
 }
 
 /// Counts the trees in a slice of measured nodes, and finds the greatest of their minimum widths.
@@ -35,17 +36,17 @@ struct Children {
 fn children_of(nodes: &[Entry<RenderNode>]) -> Children
     requires { flatten (forest_of nodes.now) ≡ nodes.now }
     ensures count { result.count ≡ trees (forest_of nodes.now) }
-    ensures least { result.least ≡ greatest_least (forest_of nodes.now) }
+    ensures min_width { result.min_width ≡ greatest_least (forest_of nodes.now) }
 {
     let mut count = 0;
-    let mut least: usize = 0;
+    let mut min_width: usize = 0;
     let mut rest = nodes;
     while let Some(first) = first_tree(rest) {
         count += 1;
-        least = least.max(first.node.estimate.least);
+        min_width = min_width.max(first.node.estimate.min_width);
         rest = first.beside;
     }
-    Children { count, least }
+    Children { count, min_width }
 }
 
 /// Returns the number of the last of `items` items that are numbered from `first`, limited to the range of `i64`.
@@ -75,7 +76,7 @@ pub fn number_columns<D: TextDecorator>(
     items: usize,
 ) -> Result<usize, Error>
     ensures ok { IfOk result (λ columns. columns ≡ number_columns D.decoration decorator.now first items) }
-    ensures err { IfErr result (λ e. e ≡ Error.OutOfMemory) }
+    ensures err { OnlyOutOfMemory result }
 {
     let first_prefix = decorator.ordered_item_prefix(alloc, first)?;
     let last_prefix = decorator.ordered_item_prefix(alloc, last_number(first, items))?;
@@ -92,7 +93,7 @@ fn prefix_of<D: TextDecorator>(
     children: usize,
 ) -> Result<usize, Error>
     ensures ok { IfOk result (λ columns. columns ≡ prefix_of D.decoration decorator.now settings.now kind.now children) }
-    ensures err { IfErr result (λ e. e ≡ Error.OutOfMemory) }
+    ensures err { OnlyOutOfMemory result }
 {
     match kind {
         NodeKind::Header(level) => Ok(columns(decorator.header_prefix(alloc, *level)?.as_str())),
@@ -123,12 +124,12 @@ fn prefix_of<D: TextDecorator>(
 
 /// Returns the estimate of a node without children and without a prefix. Its preferred width is left 0.
 #[inline]
-fn piece(least: usize) -> Estimate
-    ensures { result ≡ record { least = least; size = 0; prefix = 0; children = 0 } }
+fn piece(min_width: usize) -> Estimate
+    ensures { result ≡ record { min_width = min_width; preferred_width = 0; prefix = 0; children = 0 } }
 {
     Estimate {
-        least,
-        size: 0,
+        min_width,
+        preferred_width: 0,
         prefix: 0,
         children: 0,
     }
@@ -144,12 +145,12 @@ pub(crate) fn image_size_within(title: &str, limit: usize) -> usize
 /// Returns the estimate of a link over its measured children. Its preferred width is left 0.
 fn link_estimate(below: &[Entry<RenderNode>]) -> Estimate
     requires { flatten (forest_of below.now) ≡ below.now }
-    ensures { result ≡ record { least = max (greatest_least (forest_of below.now)) 5; size = 0; prefix = 0; children = trees (forest_of below.now) } }
+    ensures { result ≡ record { min_width = max (greatest_least (forest_of below.now)) 5; preferred_width = 0; prefix = 0; children = trees (forest_of below.now) } }
 {
     let children = children_of(below);
     Estimate {
-        least: children.least.max(5),
-        size: 0,
+        min_width: children.min_width.max(5),
+        preferred_width: 0,
         prefix: 0,
         children: children.count,
     }
@@ -167,7 +168,7 @@ fn estimate_of<D: TextDecorator>(
     requires { flatten (forest_of below.now) ≡ below.now }
     ensures ok { IfOk result (λ e. is_table kind.now ≡ false →
         e ≡ without_size (estimate_of D.decoration decorator.now settings.now kind.now (forest_of below.now))) }
-    ensures err { IfErr result (λ e. e ≡ Error.OutOfMemory) }
+    ensures err { OnlyOutOfMemory result }
 {
     match kind {
         NodeKind::Text(text) | NodeKind::Svg(text) => Ok(piece(size_within(
@@ -185,8 +186,8 @@ fn estimate_of<D: TextDecorator>(
             let children = children_of(below);
             let prefix = prefix_of(alloc, decorator, settings, kind, children.count)?;
             Ok(Estimate {
-                least: children.least.saturating_add(prefix),
-                size: 0,
+                min_width: children.min_width.saturating_add(prefix),
+                preferred_width: 0,
                 prefix,
                 children: children.count,
             })
@@ -208,13 +209,13 @@ fn sized_estimate_of<D: TextDecorator>(
     requires { flatten (forest_of below.now) ≡ below.now }
     ensures ok { IfOk result (λ e. is_table kind.now ≡ false →
         e ≡ sized_if with_sizes (estimate_of D.decoration decorator.now settings.now kind.now (forest_of below.now))) }
-    ensures err { IfErr result (λ e. e ≡ Error.OutOfMemory) }
+    ensures err { OnlyOutOfMemory result }
 {
     let estimate = estimate_of(alloc, decorator, settings, kind, below)?;
     if !with_sizes {
         return Ok(estimate);
     }
-    let size = match kind {
+    let preferred_width = match kind {
         NodeKind::Text(text) | NodeKind::Svg(text) => size_within(text.as_str(), usize::MAX),
         NodeKind::Break => 1,
         NodeKind::Image(image) => image_size_within(image.title().as_str(), usize::MAX),
@@ -222,7 +223,10 @@ fn sized_estimate_of<D: TextDecorator>(
         NodeKind::Link(_) => total_size(below).saturating_add(5),
         _ => total_size(below).saturating_add(estimate.prefix),
     };
-    Ok(Estimate { size, ..estimate })
+    Ok(Estimate {
+        preferred_width,
+        ..estimate
+    })
 }
 
 /// Measures a node over its measured children.
@@ -243,7 +247,7 @@ fn measure_of<D: TextDecorator>(
     ensures estimate { IfOk result (λ m. m.estimate
         ≡ sized_if with_sizes (estimate_of D.decoration decorator.now settings.now kind.now (forest_of below.now))) }
     ensures needs { IfOk result (λ m. with_needs m.needs.items kind.now ≡ measured_kind kind.now (forest_of below.now)) }
-    ensures err { IfErr result (λ e. e ≡ Error.OutOfMemory) }
+    ensures err { OnlyOutOfMemory result }
 {
     if let NodeKind::Table(grid) = kind {
         let children = children_of(below).count;
@@ -299,7 +303,7 @@ fn measure_nodes<D: TextDecorator>(
     requires { flatten (forest_of entries.old.items) ≡ entries.old.items }
     ensures ok { OnOk result (entries.new.items
         ≡ flatten (with_needed_sizes (measured D.decoration decorator.now settings.now (forest_of entries.old.items)))) }
-    ensures err { IfErr result (λ e. e ≡ Error.OutOfMemory) }
+    ensures err { OnlyOutOfMemory result }
 {
     let with_sizes = any_table(entries);
     let mut at = entries.len();
@@ -307,7 +311,7 @@ fn measure_nodes<D: TextDecorator>(
         at -= 1;
         let all = entries.as_slice();
         let entry = &all[at];
-        let below = &all[at + 1..at + entry.size];
+        let below = &all[at + 1..at + entry.subtree_len];
         let kind = &entry.node.kind;
         let measure = measure_of(alloc, decorator, settings, with_sizes, kind, below)?;
         note(&mut entries[at].node, measure);
@@ -326,12 +330,12 @@ pub fn measure<D: TextDecorator>(
     alloc: Global,
     decorator: &D,
     settings: &LayoutSettings,
-    tree: Flat<RenderNode>,
-) -> Result<Flat<RenderNode>, Error>
+    tree: PreorderForest<RenderNode>,
+) -> Result<PreorderForest<RenderNode>, Error>
     ensures ok { IfOk result (λ t. t ≡ with_needed_sizes (measured D.decoration decorator.now settings.now tree)) }
-    ensures err { IfErr result (λ e. e ≡ Error.OutOfMemory) }
+    ensures err { OnlyOutOfMemory result }
 {
     let mut entries = tree.into_entries();
     measure_nodes(alloc, decorator, settings, &mut entries)?;
-    Ok(Flat::from_entries(entries))
+    Ok(PreorderForest::from_entries(entries))
 }

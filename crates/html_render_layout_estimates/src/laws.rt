@@ -11,7 +11,7 @@ ghost use Rattle.html_render_layout_estimates.specs.Columns.{needs_of_kind};
 ghost use Rattle.html_render_layout_estimates.specs.Estimates.{measured};
 ghost use Rattle.html_render_layout_estimates.specs.Passes.{has_table, with_needed_sizes};
 
-use html_render_parts_decorators::decorate::TextDecorator;
+use html_render_parts::decorate::TextDecorator;
 
 /// States that the minimum width of each measured node is at most its preferred width.
 ///
@@ -19,7 +19,7 @@ use html_render_parts_decorators::decorate::TextDecorator;
 #[tactic(auto, using(crate::specs::laws::Least::each_within))]
 fn each_least_width_is_at_most_its_size<D: TextDecorator>()
     ensures { (decorator : D) (settings : LayoutSettings) (trees : Forest RenderNode) →
-        All (λ e. e.node.estimate.least ≤ e.node.estimate.size) (flatten (measured D.decoration decorator settings trees)) }
+        All (λ e. e.node.estimate.min_width ≤ e.node.estimate.preferred_width) (flatten (measured D.decoration decorator settings trees)) }
 {}
 
 /// States that no column of a measured table has a minimum width above its preferred width.
@@ -33,7 +33,7 @@ fn each_column_is_within_its_size<D: TextDecorator>()
         All (λ e. AreWithinSizes (needs_of_kind e.node.kind)) (flatten (with_needed_sizes (measured D.decoration decorator settings trees))) }
     ensures shares { (decorator : D) (settings : LayoutSettings) (trees : Forest RenderNode) (width : ℕ) →
         All (λ e. shares width (needs_of_kind e.node.kind)
-        ≡ map (share_by_size width (sum_by (λ n. n.size) (needs_of_kind e.node.kind))) (needs_of_kind e.node.kind))
+        ≡ map (share_by_size width (sum_by (λ n. n.preferred_width) (needs_of_kind e.node.kind))) (needs_of_kind e.node.kind))
         (flatten (with_needed_sizes (measured D.decoration decorator settings trees))) }
 {}
 
@@ -41,5 +41,5 @@ fn each_column_is_within_its_size<D: TextDecorator>()
 #[tactic(auto, using(crate::specs::laws::Least::each_unsized))]
 fn sizes_are_of_trees_with_tables<D: TextDecorator>()
     ensures { (decorator : D) (settings : LayoutSettings) (trees : Forest RenderNode) → has_table trees ≡ false →
-        All (λ e. e.node.estimate.size ≡ 0) (flatten (with_needed_sizes (measured D.decoration decorator settings trees))) }
+        All (λ e. e.node.estimate.preferred_width ≡ 0) (flatten (with_needed_sizes (measured D.decoration decorator settings trees))) }
 {}

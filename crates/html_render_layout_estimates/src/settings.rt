@@ -1,6 +1,7 @@
 //! Settings of measuring and layout, besides the width and the decorator.
 
-ghost use Rattle.std.specs.Prelude.{◌≡◌, IfOk, IfErr};
+ghost use Rattle.std.specs.Prelude.{◌≡◌, IfOk};
+ghost use Rattle.html_render_dom_values.specs.Outcome.{OnlyOutOfMemory};
 
 use html_render_dom_values::Error;
 use html_render_dom_values::text::Text;
@@ -28,7 +29,7 @@ impl ImageRenderMode {
     /// `OutOfMemory` if an allocation is refused.
     pub fn try_clone(&self, alloc: Global) -> Result<ImageRenderMode, Error>
         ensures ok { IfOk result (λ mode. mode ≡ self.now) }
-        ensures err { IfErr result (λ e. e ≡ Error.OutOfMemory) }
+        ensures err { OnlyOutOfMemory result }
     {
         Ok(match self {
             ImageRenderMode::IgnoreEmpty => ImageRenderMode::IgnoreEmpty,
@@ -102,7 +103,7 @@ impl LayoutSettings {
     /// `OutOfMemory` if an allocation is refused.
     pub fn try_clone(&self, alloc: Global) -> Result<LayoutSettings, Error>
         ensures ok { IfOk result (λ settings. settings ≡ self.now) }
-        ensures err { IfErr result (λ e. e ≡ Error.OutOfMemory) }
+        ensures err { OnlyOutOfMemory result }
     {
         Ok(LayoutSettings {
             link_footnotes: self.link_footnotes,

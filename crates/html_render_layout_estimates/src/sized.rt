@@ -1,6 +1,7 @@
 //! Preferred widths of trees, and the estimates of tables, which need them.
 
-ghost use Rattle.std.specs.Prelude.{◌≡◌, ◌*◌, ◌/◌, sum_by, IfOk, IfErr};
+ghost use Rattle.std.specs.Prelude.{◌≡◌, ◌*◌, ◌/◌, sum_by, IfOk};
+ghost use Rattle.html_render_dom_values.specs.Outcome.{OnlyOutOfMemory};
 ghost use Rattle.html_render_parts_widths.specs.Needs.{AreSome, column_needs};
 ghost use Rattle.html_render_parts.specs.TableCells.{columns_of};
 ghost use Rattle.html_render_layout_nodes.specs.Preorder.{flatten, forest_of};
@@ -21,37 +22,39 @@ pub(crate) fn total_size(trees: &[Entry<RenderNode>]) -> usize
     requires { flatten (forest_of trees.now) ≡ trees.now }
     ensures { result ≡ total_size (forest_of trees.now) }
 {
-    let mut size: usize = 0;
+    let mut preferred_width: usize = 0;
     let mut rest = trees;
     while let Some(first) = first_tree(rest) {
-        size = size.saturating_add(first.node.estimate.size);
+        preferred_width = preferred_width.saturating_add(first.node.estimate.preferred_width);
         rest = first.beside;
     }
-    size
+    preferred_width
 }
 
 /// Returns the sum of the cells' preferred widths, each rounded down to a multiple of the cell's number of columns; at most
 /// `usize::MAX`.
 fn size_of_cells(cells: &[CellNeed]) -> usize
     requires { AreSome cells.now }
-    ensures { result ≡ saturated (sum_by (λ c. c.size / c.count * c.count) cells.now) }
+    ensures { result ≡ saturated (sum_by (λ c. c.preferred_width / c.count * c.count) cells.now) }
 {
-    let mut size: usize = 0;
+    let mut preferred_width: usize = 0;
     for cell in cells {
-        size = size.saturating_add(cell.size / cell.count * cell.count);
+        preferred_width = preferred_width.saturating_add(
+            cell.preferred_width / cell.count * cell.count,
+        );
     }
-    size
+    preferred_width
 }
 
 /// Returns the sum of the columns' minimum widths, at most `usize::MAX`.
 fn least_of_columns(needs: &[ColumnNeed]) -> usize
-    ensures { result ≡ saturated (sum_by (λ n. n.least) needs.now) }
+    ensures { result ≡ saturated (sum_by (λ n. n.min_width) needs.now) }
 {
-    let mut least: usize = 0;
+    let mut min_width: usize = 0;
     for need in needs {
-        least = least.saturating_add(need.least);
+        min_width = min_width.saturating_add(need.min_width);
     }
-    least
+    min_width
 }
 
 /// Measurement of one node.
@@ -81,15 +84,15 @@ pub fn measure_table(
     ensures estimate { IfOk result (λ m. m.estimate
         ≡ table_estimate (columns_of grid.now) (cell_needs grid.now.rows (forest_of rows.now)) prefix children) }
     ensures needs { IfOk result (λ m. m.needs.items ≡ column_needs (columns_of grid.now) (cell_needs grid.now.rows (forest_of rows.now))) }
-    ensures err { IfErr result (λ e. e ≡ Error.OutOfMemory) }
+    ensures err { OnlyOutOfMemory result }
 {
     let columns = grid.columns();
     let cells = cell_needs(alloc, grid, rows)?;
     let needs = column_needs(alloc, columns, cells.as_slice())?;
     let beside = columns.saturating_sub(1).saturating_add(prefix);
     let estimate = Estimate {
-        least: least_of_columns(needs.as_slice()).saturating_add(beside),
-        size: size_of_cells(cells.as_slice()).saturating_add(beside),
+        min_width: least_of_columns(needs.as_slice()).saturating_add(beside),
+        preferred_width: size_of_cells(cells.as_slice()).saturating_add(beside),
         prefix,
         children,
     };

@@ -8,7 +8,7 @@ ghost use Rattle.std.specs.List.{AllWithin};
 ghost use Rattle.std.specs.Str.{chars, IsUtf8};
 ghost use Rattle.html_render_layout_lines.specs.Character.{is_collapsible, width_of};
 ghost use Rattle.html_render_layout_lines.specs.TaggedText.{text_columns};
-ghost use Rattle.html_render_layout_estimates.specs.TextSize.{size_of, inner_columns, columns_of, saturated};
+ghost use Rattle.html_render_layout_estimates.specs.TextSize.{size_of, inner_columns, collapsed_columns, saturated};
 
 use html_render_layout_lines::character::{is_collapsible, width_of};
 
@@ -72,7 +72,7 @@ impl Counted {
 fn ascii_size_within(text: &[u8], limit: usize) -> Result<usize, Counted>
     ensures ok { IfOk result (λ size. size ≡ min (size_of (chars text.now)) limit) }
     ensures counted { IfErr result (λ c. 1 ≤ c.columns →
-        c.columns + columns_of c.spaced (chars (drop c.at text.now)) ≡ size_of (chars text.now)) }
+        c.columns + collapsed_columns c.spaced (chars (drop c.at text.now)) ≡ size_of (chars text.now)) }
 {
     let mut at = 0;
     let mut columns = 0;
@@ -146,7 +146,7 @@ fn any_size_within(text: &str, limit: usize) -> usize
 
 /// Returns a text from its first character on that isn't collapsible white space.
 fn without_leading_space(text: &str) -> &str
-    ensures columns { columns_of false (chars result.now) ≡ inner_columns (chars text.now) }
+    ensures columns { collapsed_columns false (chars result.now) ≡ inner_columns (chars text.now) }
     ensures text { IsUtf8 result.now }
 {
     let mut rest = text;
@@ -164,7 +164,7 @@ fn without_leading_space(text: &str) -> &str
 /// Each run of collapsible white space counts 1 if another character follows it. `space_before` says whether white space
 /// precedes the text.
 fn columns_within(text: &str, before: usize, space_before: bool, limit: usize) -> usize
-    ensures { result ≡ min (before + columns_of space_before (chars text.now)) limit }
+    ensures { result ≡ min (before + collapsed_columns space_before (chars text.now)) limit }
 {
     let mut rest = text;
     let mut columns = before;
@@ -200,7 +200,7 @@ fn columns_within(text: &str, before: usize, space_before: bool, limit: usize) -
 #[inline]
 fn split_letters(text: &str) -> Option<(usize, &str)>
     ensures columns { IfSome result (λ r. (spaced : Bool) →
-        columns_of spaced (chars text.now) ≡ (if spaced then 1 else 0) + r.0 + columns_of false (chars r.1.now)) }
+        collapsed_columns spaced (chars text.now) ≡ (if spaced then 1 else 0) + r.0 + collapsed_columns false (chars r.1.now)) }
     ensures shorter { IfSome result (λ r. length r.1.now < length text.now) }
     ensures text { IfSome result (λ r. IsUtf8 r.1.now) }
 {
@@ -215,7 +215,7 @@ fn split_letters(text: &str) -> Option<(usize, &str)>
 /// Splits a space or newline off the start of a text. Returns the rest; `None` if it doesn't start with one.
 #[inline]
 fn split_space(text: &str) -> Option<&str>
-    ensures columns { IfSome result (λ rest. (spaced : Bool) → columns_of spaced (chars text.now) ≡ columns_of true (chars rest.now)) }
+    ensures columns { IfSome result (λ rest. (spaced : Bool) → collapsed_columns spaced (chars text.now) ≡ collapsed_columns true (chars rest.now)) }
     ensures shorter { IfSome result (λ rest. length rest.now < length text.now) }
     ensures text { IfSome result (λ rest. IsUtf8 rest.now) }
 {

@@ -28,7 +28,7 @@ pub fn first_tree(trees: &[Entry<RenderNode>]) -> Option<FirstTree<'_>>
     ensures fewer { IfSome result (λ t. length t.beside.now < length trees.now) }
 {
     let (entry, nodes) = trees.split_first()?;
-    let (below, beside) = nodes.split_at(entry.size - 1);
+    let (below, beside) = nodes.split_at(entry.subtree_len - 1);
     Some(FirstTree {
         node: &entry.node,
         below,

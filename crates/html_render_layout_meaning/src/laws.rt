@@ -2,14 +2,14 @@
 
 ghost use Rattle.std.specs.Prelude.{◌≡◌, List, All, Some};
 ghost use Rattle.html_render_layout_lines.specs.Line.{Line};
-ghost use Rattle.html_render_layout_paragraphs.specs.Paragraph.{Page, Setting, paragraph, all_lines};
+ghost use Rattle.html_render_layout_paragraphs.specs.Paragraph.{LineBuffer, Setting, paragraph, all_lines};
 ghost use Rattle.html_render_layout_lines.specs.declared.character.Item.{Item};
 ghost use Rattle.html_render_layout_meaning.specs.Meaning.{IsParagraph, IsWithinOrSingle};
 
 /// States that the placed lines are lines of the paragraph, and the marks that wait at the end are left over.
 #[tactic(auto, using(crate::specs::laws::Meant::placed_paragraph))]
 fn placed_lines_are_the_paragraphs<T, M>()
-    ensures { (setting : Setting) (marks : List M) (items : List (Item T M)) (page : Page T M) →
+    ensures { (setting : Setting) (marks : List M) (items : List (Item T M)) (page : LineBuffer T M) →
         paragraph setting marks items ≡ Some page → IsParagraph setting marks items (all_lines page) page.waiting }
 {}
 
@@ -18,7 +18,7 @@ fn placed_lines_are_the_paragraphs<T, M>()
 fn the_paragraphs_lines_are_placed<T, M>()
     ensures { (setting : Setting) (marks : List M) (items : List (Item T M)) (lines : List (Line T M)) (left : List M) →
         IsParagraph setting marks items lines left →
-        (page : Page T M) × (paragraph setting marks items ≡ Some page) × (all_lines page ≡ lines) × (page.waiting ≡ left) }
+        (page : LineBuffer T M) × (paragraph setting marks items ≡ Some page) × (all_lines page ≡ lines) × (page.waiting ≡ left) }
 {}
 
 /// States that the lines of a paragraph are unique.
@@ -30,7 +30,7 @@ fn a_paragraph_has_one_list_of_lines<T, M>()
 {}
 
 /// States that no line of a paragraph passes the width, except for a single character with overflow on.
-#[tactic(auto, using(crate::specs::laws::Widths::paragraph_within))]
+#[tactic(auto, using(crate::specs::laws::Widths::described_within))]
 fn no_line_passes_the_width_but_a_single_character<T, M>()
     ensures { (setting : Setting) (marks : List M) (items : List (Item T M)) (lines : List (Line T M)) (left : List M) →
         IsParagraph setting marks items lines left → All (IsWithinOrSingle setting) lines }

@@ -6,8 +6,8 @@ use Rattle.std.proofs.lemmas.List.Elements.{All-nil, All-cons, All-head, All-wea
 use Rattle.html_render_dom_values.specs.Forest.{Forest, none, node}
 use Rattle.html_render_layout_nodes.specs.declared.tree.Entry.{Entry}
 use Rattle.html_render_layout_nodes.specs.declared.tree.RenderNode.{RenderNode}
-use Rattle.html_render_layout_nodes.specs.Depths.{depths_of, depths_from, open_at, with_part}
-use Rattle.html_render_layout_nodes.specs.Dump.{dump, line}
+use Rattle.html_render_layout_nodes.specs.Depths.{depths_of, depths_from, ends_open_at, with_part}
+use Rattle.html_render_layout_nodes.specs.Dump.{tree_dump, tree_line}
 use Rattle.html_render_layout_nodes.specs.Kinds.{kind_name}
 use Rattle.html_render_layout_nodes.specs.Preorder.{flatten}
 
@@ -28,25 +28,25 @@ length-depths (node k children beside) depth =
 abbrev pub lines : List (Entry RenderNode) → List ℕ → List ℕ
 lines [] ds = []
 lines (e ∷ es) [] = []
-lines (e ∷ es) (d ∷ ds) = line d (kind_name e.node.kind) ++ lines es ds
+lines (e ∷ es) (d ∷ ds) = tree_line d (kind_name e.node.kind) ++ lines es ds
 
 lines-flatten : (t : Forest RenderNode) (depth : ℕ) (es : List (Entry RenderNode)) (ds : List ℕ) →
-    lines (flatten t ++ es) (depths_of depth t ++ ds) ≡ dump depth t ++ lines es ds
+    lines (flatten t ++ es) (depths_of depth t ++ ds) ≡ tree_dump depth t ++ lines es ds
 lines-flatten none depth es ds = refl
 lines-flatten (node k children beside) depth es ds =
-    let first = line depth (kind_name k.kind) in
-    let below = dump (depth + 1) children in
-    let next = dump depth beside in
+    let first = tree_line depth (kind_name k.kind) in
+    let below = tree_dump (depth + 1) children in
+    let next = tree_dump depth beside in
     rw (append_assoc (flatten children) (flatten beside) es) (rw (append_assoc (depths_of (depth + 1) children) (depths_of depth beside) ds)
     (ap (λ l. first ++ l) (lines-flatten children (depth + 1) (flatten beside ++ es) (depths_of depth beside ++ ds)
     ∙ ap (λ l. below ++ l) (lines-flatten beside depth es ds) ∙ sym (append_assoc below next (lines es ds)))
     ∙ sym (append_assoc first (below ++ next) (lines es ds))))
 
-pub lines-whole : (t : Forest RenderNode) → lines (flatten t) (depths_of 0 t) ≡ dump 0 t
+pub lines-whole : (t : Forest RenderNode) → lines (flatten t) (depths_of 0 t) ≡ tree_dump 0 t
 lines-whole t =
     ap (λ es. lines es (depths_of 0 t)) (sym (append-nil (flatten t)))
     ∙ ap (lines (flatten t ++ [])) (sym (append-nil (depths_of 0 t)))
-    ∙ lines-flatten t 0 [] [] ∙ append-nil (dump 0 t)
+    ∙ lines-flatten t 0 [] [] ∙ append-nil (tree_dump 0 t)
 
 -- ---- the computation node by node
 
@@ -54,7 +54,7 @@ abbrev AllPast : ℕ → List ℕ → Type 0
 AllPast place ends = All (λ e. place ≤ e) ends
 
 -- no subtree is popped before its end
-none-left : (place : ℕ) (ends : List ℕ) → AllPast (place + 1) ends → open_at place ends ≡ ends
+none-left : (place : ℕ) (ends : List ℕ) → AllPast (place + 1) ends → ends_open_at place ends ≡ ends
 none-left place [] past = refl
 none-left place (e ∷ es) past =
     let later = All-head (λ x. place + 1 ≤ x) e es past in
@@ -82,7 +82,7 @@ depths-flatten (node k children beside) place ends es small past =
     let inner = place + 1 + length c in
     let within : AllPast inner ends = All-weaker (λ e. place + length (flatten (node k children beside)) ≤ e) (λ e. inner ≤ e)
     (λ e h. omega (arith, long, h)) ends past in
-    let same : open_at place ends ≡ ends = none-left place ends (All-weaker (λ e. inner ≤ e) (λ e. place + 1 ≤ e) (λ e h. omega (arith, h)) ends within) in
+    let same : ends_open_at place ends ≡ ends = none-left place ends (All-weaker (λ e. inner ≤ e) (λ e. place + 1 ≤ e) (λ e h. omega (arith, h)) ends within) in
     let next = depths-flatten beside inner ends es (omega (arith, long, small))
     (All-weaker (λ e. place + length (flatten (node k children beside)) ≤ e) (λ e. inner + length b ≤ e) (λ e h. omega (arith, long, h)) ends past) in
     let whole : inner + length b ≡ place + length (flatten (node k children beside)) = omega (arith, long) in

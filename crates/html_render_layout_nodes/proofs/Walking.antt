@@ -12,13 +12,13 @@ use Rattle.html_render_dom_values.specs.laws.Outcome.{Refuses-then, Refuses-same
 use Rattle.html_render_parts_widths.specs.declared.Meter.{Meter}
 use Rattle.html_render_layout_nodes.specs.Counts.{CountsNodes}
 use Rattle.html_render_layout_nodes.specs.declared.tree.Entry.{Entry}
-use Rattle.html_render_layout_nodes.specs.declared.pass.Frame.{Frame}
-use Rattle.html_render_layout_nodes.specs.Pass.{Visit, Visits, Places, placed, through_visit, inside, Way, Into, Past, run, run_at, through, into, places_in, IsOpened}
-use Rattle.html_render_layout_nodes.specs.Pass.{nodes_at, visited, open_at, most_open}
+use Rattle.html_render_layout_nodes.specs.declared.visitor.Frame.{Frame}
+use Rattle.html_render_layout_nodes.specs.Visitor.{Visit, Visits, Places, placed, through_visit, inside, Way, Into, Past, run, run_at, through, into, places_in, IsOpened}
+use Rattle.html_render_layout_nodes.specs.Visitor.{nodes_at, visited, open_at, most_open}
 use Rattle.html_render_layout_nodes.specs.Walk.{innermost}
 use Rattle.html_render_layout_nodes.specs.Preorder.{flatten}
 use Rattle.html_render_layout_nodes.specs.laws.Counts.{failed-counted}
-use Rattle.html_render_layout_nodes.specs.laws.Preorder.{IsForest, IsForest-flatten}
+use Rattle.html_render_layout_nodes.specs.laws.Preorder.{IsPreorderOf, IsPreorderOf-flatten}
 use Rattle.html_render_layout_nodes.specs.laws.Visits.{from, count_from, length-from}
 
 -- ---- optional states, and counts from one
@@ -162,7 +162,7 @@ module _ {K S T : Type 0} (d : How K S T) where
       (count_from (onward_open path number beside) (behind children w))
 
 -- The state of a walk at the index `next`. So far `entered` nodes are visited and at most `most` were open at once. The next
--- node has the number `number`, and `s` is the pass's state. The whole walk ends with `wanted`, visits `all` nodes and has
+-- node has the number `number`, and `s` is the visitor's state. The whole walk ends with `wanted`, visits `all` nodes and has
 -- `peak` open at once.
 pub record Walking {K S T : Type 0} (d : How K S T) (nodes : List (Entry K)) (wanted : Option S) (all peak : ℕ) (frames : List (Frame T))
     (entered most next number : ℕ) (s : S) : Type 0 where
@@ -188,8 +188,8 @@ pub record Opening {K S T : Type 0} (d : How K S T) (nodes : List (Entry K)) (wa
   pub path : Path K T
   pub stack : frames ≡ frames_of path
   pub ahead : drop (next + 1) nodes ≡ flatten children ++ (flatten beside ++ tails path)
-  pub size : e.size ≡ length (flatten children) + 1
-  pub ends : Ends (length nodes) (next + e.size + length (flatten beside)) path
+  pub subtree_len : e.subtree_len ≡ length (flatten children) + 1
+  pub ends : Ends (length nodes) (next + e.subtree_len + length (flatten beside)) path
   pub result : beyond d path (number + 1) children beside (d.opened (parent path) number e.node children s) ≡ wanted
   pub counted : entered + (1 + further d path (number + 1) children beside (d.opened (parent path) number e.node children s)) ≡ all
   pub few : length path ≤ most
@@ -392,7 +392,7 @@ module _ {K S T : Type 0} (d : How K S T) where
     opening_at frames entered most next number s e none (x ∷ path) stack not_over in_nodes is ahead ends result counted few peaks =
         absurd (not_over (frames_of path) x.0 stack (omega (arith, ends.0)))
     opening_at frames entered most next number s e (node k children beside) path stack not_over in_nodes is ahead ends result counted few peaks =
-        let first : Entry K = record { node = k; size = length (flatten children) + 1 } in
+        let first : Entry K = record { node = k; subtree_len = length (flatten children) + 1 } in
         let cut = drop-cons nodes next e in_nodes in
         let heads : get_or nodes next e ∷ drop (suc next) nodes ≡ first ∷ ((flatten children ++ flatten beside) ++ tails path) = sym cut
         ∙ ahead in
@@ -403,7 +403,7 @@ module _ {K S T : Type 0} (d : How K S T) where
           path = path;
           stack = stack;
           ahead = rw (add-one, ← append_assoc) (cc heads);
-          size = refl;
+          subtree_len = refl;
           ends = subst (λ m. Ends (length nodes) m path) (omega (arith, length-append (flatten children) (flatten beside))) ends;
           result = regroup path number k children beside s ∙ result;
           counted = omega (arith, counted, recount path number k children beside s);
@@ -430,11 +430,11 @@ module _ {K S T : Type 0} (d : How K S T) where
     pub Opening-into : (frames : List (Frame T)) (entered most next number : ℕ) (s q : S) (l : T) (e : Entry K) →
         (w : Opening d nodes wanted all peak frames entered most next number s e) (trees : Forest K) → trees ≡ w.children → number ≤ next →
         (p : Option T) → p ≡ innermost frames → d.opened p number e.node trees s ≡ Some (Into q l) →
-        Walking d nodes wanted all peak (frames ++ record { end = next + e.size; next = number + 1; kept = l } ∷ []) (entered + 1)
+        Walking d nodes wanted all peak (frames ++ record { end = next + e.subtree_len; next = number + 1; kept = l } ∷ []) (entered + 1)
         (max most (length frames + 1)) (next + 1) 0 q
     Opening-into frames entered most next number s q l e w trees same low p kept at_trees =
         let step = opened_there frames p number e w.path w.children trees s w.stack kept same ∙ at_trees in
-        let f : Frame T = record { end = next + e.size; next = number + 1; kept = l } in
+        let f : Frame T = record { end = next + e.subtree_len; next = number + 1; kept = l } in
         let long : length frames ≡ length w.path = ap length w.stack ∙ length-frames_of w.path in
         let way = ap (further d w.path (number + 1) w.children w.beside) step in
         let top = ap (further_open d w.path (number + 1) w.children w.beside) step in
@@ -443,7 +443,7 @@ module _ {K S T : Type 0} (d : How K S T) where
           path = (f, w.beside) ∷ w.path;
           stack = ap (λ fs. fs ++ f ∷ []) w.stack;
           ahead = w.ahead;
-          ends = (omega (arith, w.size), (omega (arith, w.size, low), w.ends));
+          ends = (omega (arith, w.subtree_len), (omega (arith, w.subtree_len, low), w.ends));
           result = sym (and_then_assoc (run_at d.visits (d.below l) 0 w.children q) (d.closed l)
               (λ t. option_and_then (after d w.path) (behind_trees d w.path (number + 1) w.beside t)))
               ∙ ap (beyond d w.path (number + 1) w.children w.beside) (sym step) ∙ w.result;
@@ -467,12 +467,12 @@ module _ {K S T : Type 0} (d : How K S T) where
     pub Opening-past : (frames : List (Frame T)) (entered most next number : ℕ) (s t : S) (e : Entry K) →
         (w : Opening d nodes wanted all peak frames entered most next number s e) (trees : Forest K) → trees ≡ w.children →
         (p : Option T) → p ≡ innermost frames → d.opened p number e.node trees s ≡ Some (Past t) →
-        Walking d nodes wanted all peak frames (entered + 1) most (next + e.size) (number + 1) t
+        Walking d nodes wanted all peak frames (entered + 1) most (next + e.subtree_len) (number + 1) t
     Opening-past frames entered most next number s t e w trees same p kept at_trees =
         let step = opened_there frames p number e w.path w.children trees s w.stack kept same ∙ at_trees in
         let way = ap (further d w.path (number + 1) w.children w.beside) step in
         let top = ap (further_open d w.path (number + 1) w.children w.beside) step in
-        let at : next + 1 + length (flatten w.children) ≡ next + e.size = omega (arith, w.size) in
+        let at : next + 1 + length (flatten w.children) ≡ next + e.subtree_len = omega (arith, w.subtree_len) in
         record {
           rest = w.beside;
           path = w.path;
@@ -489,16 +489,16 @@ module _ {K S T : Type 0} (d : How K S T) where
 
     -- the end of the node's subtree is within the nodes
     pub Opening-end : (frames : List (Frame T)) (entered most next number : ℕ) (s : S) (e : Entry K) →
-        Opening d nodes wanted all peak frames entered most next number s e → next + e.size ≤ length nodes
+        Opening d nodes wanted all peak frames entered most next number s e → next + e.subtree_len ≤ length nodes
     Opening-end frames entered most next number s e w = omega (arith, Ends-le (length nodes) _ w.path w.ends)
 
     -- the nodes below the node, as a part of all nodes, are its children
     pub Opening-part : (frames : List (Frame T)) (entered most next number : ℕ) (s : S) (e : Entry K) (here : List (Entry K)) (n : ℕ) →
-        here ≡ nodes → n ≡ e.size - 1 → (w : Opening d nodes wanted all peak frames entered most next number s e) →
-        IsForest (take n (drop (next + 1) here)) w.children
+        here ≡ nodes → n ≡ e.subtree_len - 1 → (w : Opening d nodes wanted all peak frames entered most next number s e) →
+        IsPreorderOf (take n (drop (next + 1) here)) w.children
     Opening-part frames entered most next number s e here n same less w =
-        let many : n ≡ length (flatten w.children) = omega (arith, w.size) in
-        IsForest-flatten _ _ (ap (λ m. take m (drop (next + 1) here)) many
+        let many : n ≡ length (flatten w.children) = omega (arith, w.subtree_len) in
+        IsPreorderOf-flatten _ _ (ap (λ m. take m (drop (next + 1) here)) many
         ∙ ap (λ l. take (length (flatten w.children)) (drop (next + 1) l)) same
         ∙ ap (take (length (flatten w.children))) w.ahead
         ∙ take-append_seam (flatten w.children) (flatten w.beside ++ tails w.path))

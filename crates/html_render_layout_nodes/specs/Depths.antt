@@ -14,9 +14,9 @@ EndsAt place [] = ⊥
 EndsAt place (e ∷ es) = e ≡ place
 
 -- the ends of the subtrees that stay open at a place, without those that end there
-abbrev pub open_at : (place : ℕ) → (ends : List ℕ) → List ℕ
-open_at place [] = []
-open_at place (e ∷ es) = if e == place then open_at place es else e ∷ es
+abbrev pub ends_open_at : (place : ℕ) → (ends : List ℕ) → List ℕ
+ends_open_at place [] = []
+ends_open_at place (e ∷ es) = if e == place then ends_open_at place es else e ∷ es
 
 -- the ends with that of the subtree of `size` nodes at a place, if it has more than one node
 abbrev pub with_part : (place size : ℕ) → (ends : List ℕ) → List ℕ
@@ -25,4 +25,4 @@ with_part place size ends = if nat_lt 1 size then min (place + size) (2 ^ 64 - 1
 -- the depths of the nodes from a place on: for each, the number of subtrees that are open at it
 abbrev pub depths_from : {K : Type 0} → (place : ℕ) → (ends : List ℕ) → List (Entry K) → List ℕ
 depths_from place ends [] = []
-depths_from place ends (e ∷ es) = length (open_at place ends) ∷ depths_from (place + 1) (with_part place e.size (open_at place ends)) es
+depths_from place ends (e ∷ es) = length (ends_open_at place ends) ∷ depths_from (place + 1) (with_part place e.subtree_len (ends_open_at place ends)) es

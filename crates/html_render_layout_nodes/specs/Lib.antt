@@ -6,8 +6,8 @@ pub mod Splits
 -- properties of each kind of node, and the dump of a tree
 pub mod Kinds
 pub mod Dump
--- the walk: the result of a pass, and its counts
-pub mod Pass
+-- the walk: the result of a visitor, and its counts
+pub mod Visitor
 pub mod Counts
 pub mod Walk
 -- the depths of the nodes

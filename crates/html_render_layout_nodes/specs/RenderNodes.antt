@@ -12,7 +12,7 @@ no_style = record { colour = None; background = None; white_space = Normal; pref
 
 -- the estimate of an unmeasured node
 abbrev pub unmeasured : Estimate
-unmeasured = record { least = 0; size = 0; prefix = 0; children = 0 }
+unmeasured = record { min_width = 0; preferred_width = 0; prefix = 0; children = 0 }
 
 abbrev pub without_style : NodeKind → RenderNode
 without_style k = record { kind = k; style = no_style; estimate = unmeasured }

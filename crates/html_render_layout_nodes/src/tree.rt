@@ -1,6 +1,7 @@
 //! Render trees: forests as one vector of nodes in pre-order.
 
-ghost use Rattle.std.specs.Prelude.{◌≡◌, IfOk, IfErr};
+ghost use Rattle.std.specs.Prelude.{◌≡◌, IfOk};
+ghost use Rattle.html_render_dom_values.specs.Outcome.{OnlyOutOfMemory};
 ghost use Rattle.html_render_layout_nodes.specs.Preorder.{flatten, forest_of};
 ghost use Rattle.html_render_layout_nodes.specs.Tables.{unmeasured_table};
 
@@ -19,17 +20,17 @@ pub struct Entry<N> {
     /// The node.
     pub node: N,
     /// Number of nodes in its subtree, itself included.
-    pub size: usize,
+    pub subtree_len: usize,
 }
 
 /// A forest: trees beside each other, as one vector of nodes in pre-order. Dropping it doesn't recurse.
 #[derive(Drop)]
-pub struct Flat<N> {
+pub struct PreorderForest<N> {
     /// Nodes in pre-order.
     entries: Vec<Entry<N>>,
 }
 
-impl<N> Model for Flat<N> {
+impl<N> Model for PreorderForest<N> {
     ghost use Rattle.std.specs.Prelude.{◌≡◌, List};
     ghost use Rattle.std.specs.Coded.{codes, code_by, coded_list};
     ghost use Rattle.html_render_dom_values.specs.Forest.{Forest};
@@ -46,7 +47,7 @@ impl<N> Model for Flat<N> {
     ghost invariant = { λ f. flatten (forest_of f.entries.items) ≡ f.entries.items };
 }
 
-impl<N> Flat<N> {
+impl<N> PreorderForest<N> {
     /// Returns the nodes in pre-order, each with the size of its subtree.
     pub fn entries(&self) -> &[Entry<N>]
         ensures { result.now ≡ flatten self.now }
@@ -62,11 +63,11 @@ impl<N> Flat<N> {
     }
 
     /// Creates the forest of these nodes in pre-order. The caller ensures that the sizes of subtrees are those of a forest.
-    pub fn from_entries(entries: Vec<Entry<N>>) -> Flat<N>
+    pub fn from_entries(entries: Vec<Entry<N>>) -> PreorderForest<N>
         requires { flatten (forest_of entries.items) ≡ entries.items }
         ensures { result ≡ forest_of entries.items }
     {
-        Flat { entries }
+        PreorderForest { entries }
     }
 }
 
@@ -163,7 +164,7 @@ impl Grid {
     /// `OutOfMemory` if an allocation is refused.
     pub fn new(alloc: Global, cells: TableCells) -> Result<Grid, Error>
         ensures ok { IfOk result (λ g. g ≡ unmeasured_table cells) }
-        ensures err { IfErr result (λ e. e ≡ Error.OutOfMemory) }
+        ensures err { OnlyOutOfMemory result }
     {
         let needs = Vec::new(alloc);
         let parts = Box::new(alloc, GridParts { cells, needs })?;
@@ -223,7 +224,7 @@ impl Image {
     /// `OutOfMemory` if an allocation is refused.
     pub fn new(alloc: Global, source: NodeText, title: NodeText) -> Result<Image, Error>
         ensures ok { IfOk result (λ i. i ≡ record { source = source; title = title }) }
-        ensures err { IfErr result (λ e. e ≡ Error.OutOfMemory) }
+        ensures err { OnlyOutOfMemory result }
     {
         let parts = Box::new(alloc, ImageParts { source, title })?;
         Ok(Image { parts })
@@ -264,9 +265,9 @@ pub struct NodeStyle {
 #[derive(Clone, Copy, Default)]
 pub struct Estimate {
     /// Minimum width, in columns.
-    pub least: usize,
+    pub min_width: usize,
     /// Preferred width, in columns. It is left 0 in a tree without a table, which doesn't need it.
-    pub size: usize,
+    pub preferred_width: usize,
     /// Columns of the prefix of its lines.
     pub prefix: usize,
     /// Number of its children.
@@ -303,7 +304,7 @@ impl From<NodeKind> for RenderNode {
 #[derive(Drop)]
 pub struct RenderTree {
     /// Nodes in pre-order.
-    nodes: Flat<RenderNode>,
+    nodes: PreorderForest<RenderNode>,
     /// Depth of each node, in pre-order.
     depths: Vec<usize>,
 }
@@ -329,14 +330,14 @@ impl Model for RenderTree {
 
 impl RenderTree {
     /// Returns the nodes.
-    pub fn nodes(&self) -> &Flat<RenderNode>
+    pub fn nodes(&self) -> &PreorderForest<RenderNode>
         ensures { result.now ≡ self.now }
     {
         &self.nodes
     }
 
     /// Converts the tree into its nodes.
-    pub fn into_nodes(self) -> Flat<RenderNode>
+    pub fn into_nodes(self) -> PreorderForest<RenderNode>
         ensures { result ≡ self }
     {
         self.nodes

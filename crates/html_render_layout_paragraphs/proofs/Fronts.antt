@@ -14,7 +14,7 @@ use Rattle.html_render_dom_values.specs.declared.white_space.WhiteSpace.TheVaria
 use Rattle.html_render_layout_lines.specs.Character.{width_of, is_plain, character_of}
 use Rattle.std.specs.List.{list_all}
 use Rattle.html_render_layout_paragraphs.specs.Feeding.{IsFront}
-use Rattle.html_render_layout_paragraphs.specs.Paragraph.{Page, Setting, fits, put_items}
+use Rattle.html_render_layout_paragraphs.specs.Paragraph.{LineBuffer, Setting, fits, put_items}
 use Rattle.html_render_layout_paragraphs.specs.Stream.{styled}
 use Rattle.html_render_layout_lines.specs.TaggedText.{text_columns, under, style_tag}
 use Rattle.html_render_layout_paragraphs.specs.laws.Whole.{put_items-append}
@@ -66,7 +66,7 @@ next-front bs rest n w c v u front e behind f =
     }))
 
 -- Placing a text whose leading part fits is appending that part and then placing the rest.
-pub put_items-front : {T M : Type 0} (s : Setting) (page : Page T M) (style : TextStyle T) (bs : List ℕ) (n w : ℕ) → IsUtf8 bs →
+pub put_items-front : {T M : Type 0} (s : Setting) (page : LineBuffer T M) (style : TextStyle T) (bs : List ℕ) (n w : ℕ) → IsUtf8 bs →
     IsFront bs n w → fits s page w ≡ true → 0 < length (chars (take n bs)) → put_items s page (styled style (chars bs))
     ≡ put_items s (record page {
       line =
@@ -82,5 +82,5 @@ put_items-front {T} {M} s page style bs n w u front e some =
     ap (λ xs. put_items s page (styled style xs)) split
     ∙ ap (put_items s page) (map-append (λ c. item.Character (character_of style c)) cs ds)
     ∙ put_items-append s page (styled style cs) (styled style ds)
-    ∙ ap (option_and_then (λ (p : Page T M). put_items s p (styled style ds)))
+    ∙ ap (option_and_then (λ (p : LineBuffer T M). put_items s p (styled style ds)))
     (put_items-text s page style cs (ap (fits s page) (sym front.columns) ∙ e) some)

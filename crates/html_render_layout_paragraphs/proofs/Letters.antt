@@ -27,7 +27,7 @@ use Rattle.html_render_layout_lines.specs.declared.character.Item.TheVariants as
 use Rattle.html_render_layout_lines.specs.declared.character.TextStyle.{TextStyle}
 use Rattle.html_render_layout_lines.specs.Character.{kind, width_of, is_plain, character_of}
 use Rattle.html_render_layout_paragraphs.specs.Feeding.{is_letter, is_letter_kind, AreLetters, placed_text_and_space}
-use Rattle.html_render_layout_paragraphs.specs.Paragraph.{Page, put_word}
+use Rattle.html_render_layout_paragraphs.specs.Paragraph.{LineBuffer, put_word}
 use Rattle.html_render_layout_lines.specs.TaggedText.{text_columns}
 use Rattle.html_render_layout_lines.specs.laws.Cases.{if_true, if_false}
 use Rattle.html_render_layout_paragraphs.specs.laws.Whole.{after-append}
@@ -274,11 +274,11 @@ word_space {T} {M} st style cs b none empty mode space =
     ∙ ap (λ k. character_step k (open_state st style cs) (character_of style b)) kind_is
     ∙ by st.word st.open_word empty none (put_word st.setting st.page st.pending (styled style cs))
   where
-    by : (xs : List (Item T M)) (o : Option Bool) → xs ≡ [] → o ≡ None → (p : Option (Page T M)) →
+    by : (xs : List (Item T M)) (o : Option Bool) → xs ≡ [] → o ≡ None → (p : Option (LineBuffer T M)) →
         option_map (λ (t : State T M). with_pending t (character_of style b))
-        (option_map (λ (p : Page T M). record { setting = st.setting; page = p; pending = None; word = []; open_word = None }) p)
+        (option_map (λ (p : LineBuffer T M). record { setting = st.setting; page = p; pending = None; word = []; open_word = None }) p)
         ≡ option_map (λ (t : State T M). with_pending t (character_of style b))
-        (option_map (λ (p : Page T M). record { setting = st.setting; page = p; pending = None; word = xs; open_word = o }) p)
+        (option_map (λ (p : LineBuffer T M). record { setting = st.setting; page = p; pending = None; word = xs; open_word = o }) p)
     by xs o e f p = rw (e, f) refl
 
 after_first : {T M : Type 0} (style : TextStyle T) (b : ℕ) (cs : List ℕ) (o : Option (State T M)) →

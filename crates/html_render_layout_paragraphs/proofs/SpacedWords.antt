@@ -16,7 +16,7 @@ use Rattle.html_render_layout_lines.specs.declared.line.Element.TheVariants as e
 use Rattle.html_render_layout_lines.specs.Character.{kind, width_of, tag_on, character_of}
 use Rattle.html_render_layout_paragraphs.specs.Feeding.{AreLetters, IsFront, placed_text_and_space, with_words}
 use Rattle.html_render_layout_lines.specs.Line.{Line, columns, word_columns, is_empty}
-use Rattle.html_render_layout_paragraphs.specs.Paragraph.{Page, Setting, fits, put_word, put_items, continued}
+use Rattle.html_render_layout_paragraphs.specs.Paragraph.{LineBuffer, Setting, fits, put_word, put_items, continued}
 use Rattle.html_render_layout_paragraphs.specs.Stream.{State, after, styled, with_pending}
 use Rattle.html_render_layout_lines.specs.TaggedText.{text_columns, under, style_tag}
 use Rattle.html_render_layout_lines.specs.laws.Cases.{if_true, if_false}
@@ -39,17 +39,17 @@ put_word-here : {T M : Type 0} (s : Setting) (lines : List (Line T M)) (line : L
       waiting = [];
     })
 put_word-here {T} {M} s lines line k style a cs long room some =
-    let page : Page T M = record { lines = lines; line = line; continues = k; waiting = [] } in
+    let page : LineBuffer T M = record { lines = lines; line = line; continues = k; waiting = [] } in
     let space : Line T M = element.Character 32 (tag_on k (character_of style a)) ∷ [] in
-    let next : Page T M = record page { line = line ++ space } in
+    let next : LineBuffer T M = record page { line = line ++ space } in
     let text : Line T M = under (style_tag k style) cs in
     let width : word_columns {M = M} (styled style cs) ≡ text_columns cs = word_columns-styled M style cs in
     let grown : columns next.line ≡ columns line + 1 = columns-push_space line (tag_on k (character_of style a)) in
     let here : fits s next (word_columns {M = M} (styled style cs)) ≡ true = le-leb _ _ (omega (arith, room, width, grown)) in
     let there : fits s next (text_columns cs) ≡ true = le-leb _ _ (omega (arith, room, grown)) in
-    ap (λ (p : Page T M). put_items s (if fits s p (word_columns {M = M} (styled style cs)) then p else continued page) (styled style cs))
+    ap (λ (p : LineBuffer T M). put_items s (if fits s p (word_columns {M = M} (styled style cs)) then p else continued page) (styled style cs))
     (if_false (is_empty line) page next (ne_eqb (length line) 0 (λ e. omega (arith, e))))
-    ∙ ap (λ (p : Page T M). put_items s p (styled style cs)) (if_true _ next (continued page) here)
+    ∙ ap (λ (p : LineBuffer T M). put_items s p (styled style cs)) (if_true _ next (continued page) here)
     ∙ put_items-text s next style cs there some
     ∙ ap (λ (l : Line T M). Some (record page { line = l })) (append_assoc next.line [] text ∙ append_assoc line space text)
 
@@ -69,7 +69,7 @@ fitting_word {T} {M} st style a b cs some none due room low = by st.page.line st
     by : (line : Line T M) (ms : List M) (pending : Option (Character T)) → 0 < length line → ms ≡ [] →
         pending ≡ Some (character_of style a) → columns line + (1 + text_columns cs) ≤ st.setting.width →
         option_map (λ (t : State T M). with_pending t (character_of style b))
-        (option_map (λ (p : Page T M). record st { page = p; pending = None })
+        (option_map (λ (p : LineBuffer T M). record st { page = p; pending = None })
         (put_word st.setting (record { lines = st.page.lines; line = line; continues = st.page.continues; waiting = ms }) pending
         (styled style cs)))
         ≡ Some (record st {
@@ -82,8 +82,8 @@ fitting_word {T} {M} st style a b cs some none due room low = by st.page.line st
           pending = Some (character_of style b);
         })
     by line ms pending some none due room =
-        rw (none, due) (ap (λ (o : Option (Page T M)). option_map (λ (t : State T M). with_pending t (character_of style b))
-        (option_map (λ (p : Page T M). record st { page = p; pending = None }) o))
+        rw (none, due) (ap (λ (o : Option (LineBuffer T M)). option_map (λ (t : State T M). with_pending t (character_of style b))
+        (option_map (λ (p : LineBuffer T M). record st { page = p; pending = None }) o))
         (put_word-here st.setting st.page.lines line st.page.continues style a cs some room low))
 
 -- ---- Words of a text
@@ -231,8 +231,8 @@ pub after-placed : {T M : Type 0} (st t : State T M) (style : TextStyle T) (cs :
     (t.open_word ≡ st.open_word) × (t.word ≡ st.word) × (t.pending ≡ Some (character_of style b))
 after-placed {T} {M} st t style cs b e = by (put_word st.setting st.page st.pending (styled style cs)) e
   where
-    by : (o : Option (Page T M)) → option_map (λ (t : State T M). with_pending t (character_of style b))
-        (option_map (λ (p : Page T M). record st { page = p; pending = None }) o)
+    by : (o : Option (LineBuffer T M)) → option_map (λ (t : State T M). with_pending t (character_of style b))
+        (option_map (λ (p : LineBuffer T M). record st { page = p; pending = None }) o)
         ≡ Some t → (t.open_word ≡ st.open_word) × (t.word ≡ st.word) × (t.pending ≡ Some (character_of style b))
     by None e = cc
     by (Some p) e =

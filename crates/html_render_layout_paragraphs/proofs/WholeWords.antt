@@ -17,7 +17,7 @@ use Rattle.html_render_layout_lines.specs.declared.character.Item.{Item}
 use Rattle.html_render_layout_lines.specs.declared.character.Item.TheVariants as item
 use Rattle.html_render_layout_lines.specs.declared.line.Element.TheVariants as element
 use Rattle.html_render_layout_lines.specs.Line.{Line, element_of}
-use Rattle.html_render_layout_paragraphs.specs.Paragraph.{Page}
+use Rattle.html_render_layout_paragraphs.specs.Paragraph.{LineBuffer}
 use Rattle.html_render_layout_paragraphs.specs.Word.{line_with_word, marks_behind_word, with_word, EndsInCharacter}
 
 line_with_word-by : {T M : Type 0} (b : Bool) (line : Line T M) (ms : List M) (front : List (Item T M)) (c : Character T) →
@@ -94,7 +94,7 @@ placed_text : {T : Type 0} (M : Type 0) (b : Bool) (style : TextStyle T) (cs : L
 placed_text M b style [] = refl
 placed_text {T} M b style (c ∷ cs) = ap (λ (es : Line T M). element.Character c (style_tag b style) ∷ es) (placed_text M b style cs)
 
-pub with_text : {T M : Type 0} (page : Page T M) (style : TextStyle T) (cs : List ℕ) → 0 < length cs → with_word page (styled style cs)
+pub with_text : {T M : Type 0} (page : LineBuffer T M) (style : TextStyle T) (cs : List ℕ) → 0 < length cs → with_word page (styled style cs)
     ≡ record page {
       line = (page.line ++ map (λ (m : M). element.Mark m) page.waiting) ++ under (style_tag page.continues style) cs;
       waiting = [];

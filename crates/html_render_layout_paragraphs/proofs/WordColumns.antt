@@ -12,7 +12,7 @@ use Rattle.html_render_layout_lines.specs.declared.line.tagged_text.Run.{Run}
 use Rattle.html_render_layout_lines.specs.declared.line.tagged_text.Run.TheVariants as run
 use Rattle.html_render_layout_lines.specs.Character.{width_of, character_of}
 use Rattle.html_render_layout_lines.specs.Line.{Line, columns, element_width, word_columns, item_width}
-use Rattle.html_render_layout_paragraphs.specs.Paragraph.{Page, Setting, put_items, with_waiting_mark}
+use Rattle.html_render_layout_paragraphs.specs.Paragraph.{LineBuffer, Setting, put_items, with_waiting_mark}
 use Rattle.html_render_layout_paragraphs.specs.laws.Whole.{put_items-append, then_same}
 use Rattle.html_render_layout_lines.specs.laws.Columns.{columns-cons, word_columns-append, word_columns-cons}
 use Rattle.html_render_layout_paragraphs.specs.Stream.{styled}
@@ -70,7 +70,7 @@ pub ruleset texts = (word_columns-styled)
 
 -- ---- Items of a word that is placed part by part
 
-put_runs-items : {T M : Type 0} (s : Setting) (page : Page T M) (rs : List (Run (TextStyle T) M)) (bs : List ℕ) →
+put_runs-items : {T M : Type 0} (s : Setting) (page : LineBuffer T M) (rs : List (Run (TextStyle T) M)) (bs : List ℕ) →
     put_items s page (items_of (elements_of rs bs)) ≡ put_runs s page rs bs
 put_runs-items s page [] bs = refl
 put_runs-items s page (run.Mark m ∷ rs) bs = put_runs-items s (with_waiting_mark page m) rs bs
@@ -83,13 +83,13 @@ put_runs-items {T} {M} s page (run.Text n style ∷ rs) bs =
     ∙ then_same _ _ (put_items s page (styled style cs)) (λ p. put_runs-items s p rs (drop n bs))
 
 -- Placing a word is placing its closed runs and then its open run.
-pub put_items-parts : {T M : Type 0} (s : Setting) (page : Page T M) (rs : List (Run (TextStyle T) M)) (tag : Option (TextStyle T))
+pub put_items-parts : {T M : Type 0} (s : Setting) (page : LineBuffer T M) (rs : List (Run (TextStyle T) M)) (tag : Option (TextStyle T))
     (closed behind : List ℕ) → put_items s page (items_of (elements_of rs closed ++ open_elements tag behind))
-    ≡ option_and_then (λ (p : Page T M). put_items s p (items_of (open_elements tag behind))) (put_runs s page rs closed)
+    ≡ option_and_then (λ (p : LineBuffer T M). put_items s p (items_of (open_elements tag behind))) (put_runs s page rs closed)
 put_items-parts {T} {M} s page rs tag closed behind =
     ap (put_items s page) (items-append (elements_of rs closed) (open_elements tag behind))
     ∙ put_items-append s page (items_of (elements_of rs closed)) (items_of (open_elements tag behind))
-    ∙ ap (option_and_then (λ (p : Page T M). put_items s p (items_of (open_elements tag behind)))) (put_runs-items s page rs closed)
+    ∙ ap (option_and_then (λ (p : LineBuffer T M). put_items s p (items_of (open_elements tag behind)))) (put_runs-items s page rs closed)
 
 pub ruleset item_parts = (put_items-parts)
 

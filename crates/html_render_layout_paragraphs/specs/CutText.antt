@@ -4,7 +4,7 @@ use Rattle.std.specs.Prelude.{ℕ, ◌+◌, ◌<◌, Bool, true, false, List, []
 use Rattle.html_render_dom_values.specs.declared.white_space.WhiteSpace.TheVariants.{Pre}
 use Rattle.html_render_layout_lines.specs.declared.character.TextStyle.{TextStyle}
 use Rattle.html_render_layout_lines.specs.Line.{Line, columns, element_width}
-use Rattle.html_render_layout_paragraphs.specs.Paragraph.{Page, Setting, blank_page, put_items}
+use Rattle.html_render_layout_paragraphs.specs.Paragraph.{LineBuffer, Setting, empty_buffer, put_items}
 use Rattle.html_render_layout_paragraphs.specs.Stream.{styled}
 use Rattle.html_render_layout_lines.specs.TaggedText.{under}
 
@@ -16,7 +16,7 @@ kept_style tag = record { mode = Pre; tag = tag; continuation_tag = tag }
 -- text is one line. None, with `cut` and overflow off, if a character is wider than a line.
 abbrev pub text_lines : {T M : Type 0} → Setting → (cut : Bool) → T → List ℕ → Option (List (Line T M))
 text_lines {T} {M} setting true tag cs =
-    option_map (λ (p : Page T M). p.lines ++ p.line ∷ []) (put_items setting (blank_page []) (styled (kept_style tag) cs))
+    option_map (λ (p : LineBuffer T M). p.lines ++ p.line ∷ []) (put_items setting (empty_buffer []) (styled (kept_style tag) cs))
 text_lines setting false tag cs = Some (under tag cs ∷ [])
 
 -- ---- Properties of these lines

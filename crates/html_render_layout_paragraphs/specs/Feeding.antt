@@ -10,7 +10,7 @@ use Rattle.html_render_layout_lines.specs.declared.character.TextStyle.{TextStyl
 use Rattle.html_render_layout_lines.specs.Character.{kind, character_of}
 use Rattle.html_render_layout_lines.specs.declared.line.tagged_text.Run.{Run}
 use Rattle.html_render_layout_lines.specs.declared.line.tagged_text.Run.TheVariants as run
-use Rattle.html_render_layout_paragraphs.specs.Paragraph.{Page, Setting, put_items, put_word, with_waiting_mark}
+use Rattle.html_render_layout_paragraphs.specs.Paragraph.{LineBuffer, Setting, put_items, put_word, with_waiting_mark}
 use Rattle.html_render_layout_paragraphs.specs.Stream.{State, styled, with_pending}
 use Rattle.html_render_layout_lines.specs.Line.{columns}
 use Rattle.html_render_layout_lines.specs.TaggedText.{text_columns, under, style_tag}
@@ -38,7 +38,7 @@ pub record IsFront (text : List ℕ) (bytes width : ℕ) : Type 0 where
   pub columns : width ≡ text_columns (chars (take bytes text))
 
 -- Whether `room` columns are free on the open line, which isn't empty, and no mark waits.
-pub record HasRoom {T M : Type 0} (st : State T M) (room : ℕ) : Type 0 where
+pub record HasFreeColumns {T M : Type 0} (st : State T M) (room : ℕ) : Type 0 where
   pub some : 0 < length st.page.line
   pub no_mark : st.page.waiting ≡ []
   pub fits : columns st.page.line + room ≤ st.setting.width
@@ -53,16 +53,16 @@ with_words st style bs n = record st {
 -- State with a text placed as a word, while no word is open.
 abbrev pub placed_text : {T M : Type 0} → State T M → TextStyle T → List ℕ → Option (State T M)
 placed_text {T} {M} st style cs =
-    option_map (λ (p : Page T M). record st { page = p; pending = None }) (put_word st.setting st.page st.pending (styled style cs))
+    option_map (λ (p : LineBuffer T M). record st { page = p; pending = None }) (put_word st.setting st.page st.pending (styled style cs))
 
 -- State with a text placed as a word, and the white space after it as the pending space.
 abbrev pub placed_text_and_space : {T M : Type 0} → State T M → TextStyle T → List ℕ → ℕ → Option (State T M)
 placed_text_and_space {T} {M} st style cs space =
     option_map (λ (t : State T M). with_pending t (character_of style space)) (placed_text st style cs)
 
--- Page with the characters and marks of runs over a text, placed one by one.
-abbrev pub put_runs : {T M : Type 0} → Setting → Page T M → List (Run (TextStyle T) M) → List ℕ → Option (Page T M)
+-- Line buffer with the characters and marks of runs over a text, placed one by one.
+abbrev pub put_runs : {T M : Type 0} → Setting → LineBuffer T M → List (Run (TextStyle T) M) → List ℕ → Option (LineBuffer T M)
 put_runs setting page [] bs = Some page
 put_runs {T} {M} setting page (run.Text n style ∷ rs) bs =
-    option_and_then (λ (p : Page T M). put_runs setting p rs (drop n bs)) (put_items setting page (styled style (chars (take n bs))))
+    option_and_then (λ (p : LineBuffer T M). put_runs setting p rs (drop n bs)) (put_items setting page (styled style (chars (take n bs))))
 put_runs setting page (run.Mark m ∷ rs) bs = put_runs setting (with_waiting_mark page m) rs bs

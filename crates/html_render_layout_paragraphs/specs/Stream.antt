@@ -11,29 +11,29 @@ use Rattle.html_render_layout_lines.specs.declared.character.TextStyle.{TextStyl
 use Rattle.html_render_layout_lines.specs.declared.character.Item.TheVariants as item
 use Rattle.html_render_layout_lines.specs.Character.{kind, character_of}
 use Rattle.html_render_layout_lines.specs.Line.{Line}
-use Rattle.html_render_layout_paragraphs.specs.Paragraph.{Page, Setting, blank_page, with_waiting_mark, put_word, put_single, page_for_single, all_lines}
+use Rattle.html_render_layout_paragraphs.specs.Paragraph.{LineBuffer, Setting, empty_buffer, with_waiting_mark, put_word, put_single, page_for_single, all_lines}
 
--- Page, pending space, and open word, with whether white space is preserved in its text. `open_word` is None if no word
--- is open.
+-- Line buffer, pending space, and open word, with whether white space is preserved in its text. `open_word` is None if no
+-- word is open.
 pub record State (T M : Type 0) : Type 0 where
   pub setting : Setting
-  pub page : Page T M
+  pub page : LineBuffer T M
   pub pending : Option (Character T)
   pub word : List (Item T M)
   pub open_word : Option Bool
 
 -- Empty paragraph with waiting marks.
 abbrev pub start : {T M : Type 0} → Setting → List M → State T M
-start s marks = record { setting = s; page = blank_page marks; pending = None; word = []; open_word = None }
+start s marks = record { setting = s; page = empty_buffer marks; pending = None; word = []; open_word = None }
 
--- State with another page, if there is one.
-abbrev pub on_page : {T M : Type 0} → State T M → Option (Page T M) → Option (State T M)
-on_page {T} {M} st o = option_map (λ (p : Page T M). record st { page = p }) o
+-- State with another line buffer, if there is one.
+abbrev pub on_page : {T M : Type 0} → State T M → Option (LineBuffer T M) → Option (State T M)
+on_page {T} {M} st o = option_map (λ (p : LineBuffer T M). record st { page = p }) o
 
 -- State with its word placed and no word open.
 abbrev pub placed_word : {T M : Type 0} → State T M → Option (State T M)
 placed_word {T} {M} st =
-    option_map (λ (p : Page T M). record { setting = st.setting; page = p; pending = None; word = []; open_word = None })
+    option_map (λ (p : LineBuffer T M). record { setting = st.setting; page = p; pending = None; word = []; open_word = None })
     (put_word st.setting st.page st.pending st.word)
 
 -- State with its open word placed, if there is one.
@@ -58,7 +58,7 @@ letter_step {T} {M} st c =
 -- State with a character placed by itself, while no word is open.
 abbrev pub single_step : {T M : Type 0} → State T M → Kind → Character T → Option (State T M)
 single_step {T} {M} st k c =
-    option_map (λ (p : Page T M). record st { page = p; pending = None })
+    option_map (λ (p : LineBuffer T M). record st { page = p; pending = None })
     (put_single st.setting (page_for_single st.setting st.page st.pending k) k c)
 
 -- State with its open word placed, and then a character placed by itself.
@@ -92,8 +92,8 @@ abbrev pub after : {T M : Type 0} → State T M → List (Item T M) → Option (
 after st [] = Some st
 after {T} {M} st (x ∷ xs) = option_and_then (λ (t : State T M). after t xs) (step st x)
 
--- Page of all that was fed. None, with overflow off, if a character of the open word is wider than a line.
-abbrev pub finished : {T M : Type 0} → State T M → Option (Page T M)
+-- Line buffer of all that was fed. None, with overflow off, if a character of the open word is wider than a line.
+abbrev pub finished : {T M : Type 0} → State T M → Option (LineBuffer T M)
 finished {T} {M} st = option_map (λ (t : State T M). t.page) (end_word st)
 
 -- Characters of a text, each with the mode and the tags of a style.
@@ -106,6 +106,6 @@ letters_step {T} {M} st style cs =
     if joins st.open_word (preserves style.mode) then Some (record st { word = st.word ++ styled style cs })
     else option_map (λ (t : State T M). record t { word = styled style cs; open_word = Some (preserves style.mode) }) (end_word st)
 
--- Lines followed by those of a finished page, and an empty paragraph with the marks that still wait.
-abbrev pub flushed_to : {T M : Type 0} → Setting → List (Line T M) → Page T M → List (Line T M) × State T M
+-- Lines followed by those of a finished line buffer, and an empty paragraph with the marks that still wait.
+abbrev pub flushed_to : {T M : Type 0} → Setting → List (Line T M) → LineBuffer T M → List (Line T M) × State T M
 flushed_to s lines page = (lines ++ all_lines page, start s page.waiting)

@@ -5,7 +5,7 @@ use Rattle.html_render_layout_lines.specs.declared.character.Item.{Item}
 use Rattle.html_render_layout_lines.specs.declared.character.Item.TheVariants as item
 use Rattle.html_render_layout_lines.specs.declared.line.Element.TheVariants as element
 use Rattle.html_render_layout_lines.specs.Line.{Line}
-use Rattle.html_render_layout_paragraphs.specs.Paragraph.{Page}
+use Rattle.html_render_layout_paragraphs.specs.Paragraph.{LineBuffer}
 use Rattle.html_render_layout_lines.specs.Character.{tag_on}
 
 -- Line with the characters of a word appended, each after the marks that wait for it.
@@ -21,8 +21,8 @@ marks_behind_word marks [] = marks
 marks_behind_word marks (item.Character c ∷ xs) = marks_behind_word [] xs
 marks_behind_word marks (item.Mark m ∷ xs) = marks_behind_word (marks ++ m ∷ []) xs
 
--- Page with a word on its open line.
-abbrev pub with_word : {T M : Type 0} → Page T M → List (Item T M) → Page T M
+-- Line buffer with a word on its open line.
+abbrev pub with_word : {T M : Type 0} → LineBuffer T M → List (Item T M) → LineBuffer T M
 with_word page word = record page {
   line = line_with_word page.continues page.line page.waiting word;
   waiting = marks_behind_word page.waiting word;

@@ -1,4 +1,4 @@
--- The page before a character that is placed by itself, by cases.
+-- The line buffer before a character that is placed by itself, by cases.
 pub mod Cases
 -- Feeding keeps the setting.
 pub mod Kept
@@ -8,7 +8,7 @@ pub mod Whole
 pub mod Words
 -- Relations of two partial results.
 pub mod Answers
--- A paragraph beside another with other overflow: properties of pages that each placing keeps.
+-- A paragraph beside another with other overflow: properties of line buffers that each placing keeps.
 pub mod Beside
 -- With overflow off no line passes the width.
 pub mod Within

@@ -3,7 +3,7 @@
 ghost use Rattle.std.specs.Prelude.{◌≡◌, ℕ, List, true, Some, IfSome, IsSome, option_and_then};
 ghost use Rattle.html_render_layout_paragraphs.specs.CutText.{text_lines, together, AreLongest};
 ghost use Rattle.html_render_layout_lines.specs.Line.{AllWithinWidth};
-ghost use Rattle.html_render_layout_paragraphs.specs.Paragraph.{Page, Setting, without_overflow, with_overflow, paragraph, all_lines};
+ghost use Rattle.html_render_layout_paragraphs.specs.Paragraph.{LineBuffer, Setting, without_overflow, with_overflow, paragraph, all_lines};
 ghost use Rattle.html_render_layout_paragraphs.specs.Stream.{start, after, finished};
 ghost use Rattle.html_render_layout_lines.specs.TaggedText.{under};
 ghost use Rattle.html_render_layout_lines.specs.Visible.{visible_in_items, visible_in_lines};
@@ -34,7 +34,7 @@ fn overflow_is_never_too_narrow<T, M>()
 /// States that a paragraph that isn't too narrow with overflow off is unchanged by overflow.
 #[tactic(auto, using(crate::specs::laws::Overflow::paragraph_same))]
 fn overflow_gives_the_same_lines<T, M>()
-    ensures { (width : ℕ) (marks : List M) (items : List (Item T M)) (page : Page T M) →
+    ensures { (width : ℕ) (marks : List M) (items : List (Item T M)) (page : LineBuffer T M) →
         paragraph (without_overflow width) marks items ≡ Some page → paragraph (with_overflow width) marks items ≡ Some page }
 {}
 

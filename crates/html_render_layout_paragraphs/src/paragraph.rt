@@ -6,7 +6,7 @@
 ghost use Rattle.std.specs.Prelude.{◌≡◌, [], ◌∷◌, ◌++◌, Some, None, OnOk, IfErr, option_map, if◌then◌else◌};
 ghost use Rattle.std.specs.Bool.{OnTrue};
 ghost use Rattle.std.specs.Str.{chars};
-ghost use Rattle.html_render_dom_values.specs.Outcome.{Refuses};
+ghost use Rattle.html_render_dom_values.specs.Outcome.{OnlyOutOfMemory, Refuses};
 ghost use Rattle.html_render_layout_lines.specs.Line.{is_empty};
 ghost use Rattle.html_render_layout_paragraphs.specs.Stream.{start, step, after, styled, finished, flushed_to};
 
@@ -21,11 +21,11 @@ use std::mem;
 
 mod cut;
 mod feeding;
-mod page;
+mod line_buffer;
 mod word;
 
 pub use cut::push_cut_text;
-pub use page::line_fits;
+pub use line_buffer::line_fits;
 
 /// Greatest width, in columns, at which no memory is reserved: texts of such lines are mostly short enough to need no
 /// allocation.
@@ -130,7 +130,7 @@ impl<T: Tag, M: Copy> Paragraph<T, M> {
     /// `OutOfMemory`. The contents of the paragraph are then unspecified.
     pub fn add_mark(&mut self, mark: M) -> Result<(), Error>
         ensures ok { OnOk result (step self.old (Item.Mark mark) ≡ Some self.new) }
-        ensures err { IfErr result (λ e. e ≡ Error.OutOfMemory) }
+        ensures err { OnlyOutOfMemory result }
     {
         match self.open_word {
             OpenWord::Closed => self.hold_mark(mark)?,

@@ -13,7 +13,7 @@ use Rattle.html_render_layout_lines.specs.declared.line.Element.TheVariants.{Cha
 use Rattle.html_render_layout_lines.specs.Line.{Line}
 use Rattle.html_render_layout_lines.specs.TaggedText.{text_columns, under}
 use Rattle.html_render_layout_pictures.specs.Padding.{repeated}
-use Rattle.html_render_layout_glyphs.specs.declared.borders.TheConstants.{BORDERS}
+use Rattle.html_render_layout_pictures.specs.declared.borders.TheConstants.{BORDERS}
 use Rattle.std.specs.Char.{len_utf8}
 use Rattle.html_render_layout_pictures.specs.Blank.{BlankText, IsPlace, blank_at, blank_cell, blank_cells}
 use Rattle.html_render_layout_pictures.specs.Picture.{KeptCell}

@@ -1,3 +1,5 @@
+-- characters that draw tables
+pub mod Glyphs
 -- marks at the ends of lines, and lines that are filled
 pub mod Marked
 pub mod Padding

@@ -1,6 +1,6 @@
 -- Lines that are filled with spaces, and characters that stand many times in a row.
 use Rattle.std.specs.Prelude.{ℕ, ◌-◌, List, ◌++◌, Option, Some, None, map, replicate}
-use Rattle.html_render_layout_glyphs.specs.declared.borders.TheConstants.{BORDERS}
+use Rattle.html_render_layout_pictures.specs.declared.borders.TheConstants.{BORDERS}
 use Rattle.html_render_layout_pictures.specs.declared.gaps.Filler.{Filler}
 use Rattle.html_render_layout_pictures.specs.declared.gaps.Filler.TheVariants.{Space, Slash, Dash}
 use Rattle.html_render_layout_lines.specs.declared.line.Element.TheVariants.{Character}

@@ -1,3 +1,5 @@
+-- widths of the characters that draw tables, by the tables of Unicode
+pub mod BorderWidths
 -- padding leaves tags, widths and visible characters as they are
 pub mod Padding
 -- lines beside each other, and marks at their ends

@@ -5,12 +5,12 @@ ghost use Rattle.std.specs.Prelude.{◌≡◌, ◌-◌, ◌≤◌, ◌++◌, ◌
 ghost use Rattle.std.specs.Char.{len_utf8};
 ghost use Rattle.std.specs.Str.{chars};
 ghost use Rattle.std.specs.String.{string_bytes};
-ghost use Rattle.html_render_layout_glyphs.specs.declared.borders.TheConstants.{BORDERS};
+ghost use Rattle.html_render_layout_pictures.specs.declared.borders.TheConstants.{BORDERS};
 ghost use Rattle.html_render_layout_lines.specs.TaggedText.{under};
 ghost use Rattle.html_render_layout_pictures.specs.Blank.{blank_cell};
 
-use crate::gaps::{FEW, few_spaces, gap};
-use html_render_layout_glyphs::borders::BORDERS;
+use crate::borders::BORDERS;
+use crate::gaps::{CHUNK, few_spaces, gap};
 use html_render_layout_lines::line::Line;
 use html_render_layout_lines::tag::Tag;
 use std::alloc::{AllocError, Global};
@@ -35,7 +35,7 @@ fn add_spaces(text: &mut String, count: usize) -> Result<(), AllocError>
 {
     let mut left = count;
     while left > 0 {
-        let next = left.min(FEW);
+        let next = left.min(CHUNK);
         text.push_str(few_spaces(next))?;
         left -= next;
     }

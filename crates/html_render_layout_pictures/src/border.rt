@@ -6,9 +6,9 @@ ghost use Rattle.html_render_layout_lines.specs.declared.line.Element.TheVariant
 ghost use Rattle.html_render_layout_pictures.specs.Picture as definition;
 ghost use Rattle.html_render_layout_pictures.specs.Separators.{separators_from, separators_between, blank_before, joint_at};
 
+use crate::borders::BORDERS;
 use crate::gaps::{Filler, push_fillers};
 use crate::picture::Frame;
-use html_render_layout_glyphs::borders::BORDERS;
 use html_render_layout_lines::line::Line;
 use html_render_layout_lines::tag::Tag;
 use std::alloc::{AllocError, Global};

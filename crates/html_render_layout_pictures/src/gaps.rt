@@ -5,8 +5,8 @@ ghost use Rattle.std.specs.Prelude.{◌≡◌, ◌≤◌, ◌<◌, ◌++◌, ◌
 ghost use Rattle.std.specs.Str.{chars, encode_utf8_all};
 ghost use Rattle.html_render_layout_pictures.specs.Padding.{character_of, repeated};
 
-pub use html_render_layout_glyphs::borders::FEW;
-use html_render_layout_glyphs::borders::{BORDERS, LINES, SLASHES};
+pub use crate::borders::CHUNK;
+use crate::borders::{BORDERS, LINES, SLASHES};
 use html_render_layout_lines::line::Line;
 use html_render_layout_lines::tag::Tag;
 use std::alloc::AllocError;
@@ -27,8 +27,8 @@ const SPACES: &str = "                                                          
 
 /// A character `count` times, of a text that has it as often as it is written at once.
 fn first_of(text: &'static str, character: char, count: usize) -> &'static str
-    requires text { text.now ≡ encode_utf8_all (replicate FEW character) }
-    requires few { count ≤ FEW }
+    requires text { text.now ≡ encode_utf8_all (replicate CHUNK character) }
+    requires few { count ≤ CHUNK }
     ensures { chars result.now ≡ replicate count character }
 {
     &text[..count * character.len_utf8()]
@@ -36,7 +36,7 @@ fn first_of(text: &'static str, character: char, count: usize) -> &'static str
 
 /// `count` spaces, without an allocation.
 pub fn few_spaces(count: usize) -> &'static str
-    requires { count ≤ FEW }
+    requires { count ≤ CHUNK }
     ensures { chars result.now ≡ replicate count 0x20 }
 {
     first_of(SPACES, ' ', count)
@@ -48,16 +48,16 @@ const GAP: &str = "                                                             
 /// The last `few` spaces of such a text, and the separator behind them.
 fn last_of_gap(text: &'static str, few: usize) -> &'static str
     requires text { text.now ≡ encode_utf8_all (replicate 63 0x20 ++ BORDERS.separator ∷ []) }
-    requires few { few < FEW }
+    requires few { few < CHUNK }
     ensures { chars result.now ≡ replicate few 0x20 ++ BORDERS.separator ∷ [] }
 {
-    &text[FEW - 1 - few..]
+    &text[CHUNK - 1 - few..]
 }
 
 /// `few` spaces, and what stands between cells, without an allocation.
 #[tactic(auto, using(crate::proofs::LawSets::gaps))]
 pub(crate) fn gap(borders: bool, few: usize) -> &'static str
-    requires { few < FEW }
+    requires { few < CHUNK }
     ensures { chars result.now ≡ replicate few 0x20 ++ cond borders BORDERS.separator 0x20 ∷ [] }
 {
     if borders {
@@ -69,7 +69,7 @@ pub(crate) fn gap(borders: bool, few: usize) -> &'static str
 
 /// A character `count` times, without an allocation.
 fn few(filler: Filler, count: usize) -> &'static str
-    requires { count ≤ FEW }
+    requires { count ≤ CHUNK }
     ensures { chars result.now ≡ replicate count (character_of filler) }
 {
     match filler {
@@ -95,7 +95,7 @@ pub fn push_fillers<T: Tag, M: Copy>(
 {
     let mut left = count;
     while left > 0 {
-        let next = left.min(FEW);
+        let next = left.min(CHUNK);
         line.push_str(few(filler, next), next, tag)?;
         left -= next;
     }

@@ -1,8 +1,11 @@
 //! Laws of the picture, each the contract of a function that does nothing.
 
-ghost use Rattle.std.specs.Prelude.{◌≡◌, ◌≤◌, ℕ, List, All, length, map, max, Bool};
+ghost use Rattle.std.specs.Prelude.{◌≡◌, ◌≤◌, ℕ, List, All, length, map, max, Bool, false, Some, replicate};
+ghost use Rattle.unicode_width.specs.Width.{char_width};
 ghost use Rattle.html_render_layout_lines.specs.Line.{columns, AllWithinWidth};
 ghost use Rattle.html_render_layout_lines.specs.Visible.{visible_in_lines};
+ghost use Rattle.html_render_layout_pictures.specs.Glyphs.{border_characters, glyphs};
+ghost use Rattle.html_render_layout_pictures.specs.declared.borders.TheConstants.{BORDERS};
 ghost use Rattle.html_render_layout_pictures.specs.Visible.{count};
 ghost use Rattle.html_render_layout_pictures.specs.declared.picture.Frame.{Frame};
 ghost use Rattle.html_render_layout_pictures.specs.Drawing.{with_rows, begun, finished};
@@ -45,4 +48,15 @@ fn tags_pass_through<T, U, M>()
 fn no_visible_character_is_lost<T, M>()
     ensures { (c : ℕ) (frame : Frame T) (waiting : List M) (rows : List (TableRow T M)) →
         count c (visible_in_rows rows) ≤ count c (visible_in_lines (picture_lines frame waiting rows)) }
+{}
+
+/// States the border characters: ┼, ┴, ┬ and ─ draw borders, │ separates cells side by side, and lines of / stacked cells.
+fn borders_are_box_drawings()
+    ensures { BORDERS ≡ border_characters }
+{}
+
+/// States that a space and each border character take one column, by the tables of Unicode, outside of East Asian contexts.
+#[tactic(auto, using(crate::specs::laws::BorderWidths::glyph_widths))]
+fn glyphs_take_a_column_each()
+    ensures { map (char_width false) glyphs ≡ replicate 7 (Some 1) }
 {}

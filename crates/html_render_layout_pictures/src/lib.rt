@@ -3,6 +3,7 @@
 
 mod blank;
 mod border;
+pub mod borders;
 pub mod gaps;
 mod laws;
 pub mod line_ends;

@@ -18,7 +18,7 @@ use stretch::Stretch;
 mod stretch;
 
 /// So few lines are filled one by one where they stand.
-const FEW: usize = 8;
+const LOOSE_LINES_MAX: usize = 8;
 
 /// Lines: stretches of which something is known, and the last ones, which are still written to.
 #[derive(Drop)]
@@ -298,7 +298,7 @@ impl<T: Tag, M: Copy> Lines<T, M> {
     pub fn compact(&mut self) -> Result<(), AllocError>
         ensures { OnOk result (self.new ≡ self.old) }
     {
-        if self.pieces.is_empty() && self.last.len() <= FEW {
+        if self.pieces.is_empty() && self.last.len() <= LOOSE_LINES_MAX {
             return Ok(());
         }
         settle(&mut self.pieces, &mut self.last)?;
@@ -316,7 +316,7 @@ impl<T: Tag, M: Copy> Lines<T, M> {
     pub fn fill(&mut self, width: usize, tag: T) -> Result<(), AllocError>
         ensures { OnOk result (self.new ≡ filled (Some tag) width self.old) }
     {
-        if self.pieces.is_empty() && self.last.len() <= FEW {
+        if self.pieces.is_empty() && self.last.len() <= LOOSE_LINES_MAX {
             fill_all(self.last.as_mut_slice(), width, tag)?;
             return Ok(());
         }

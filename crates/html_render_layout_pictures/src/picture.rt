@@ -1,7 +1,8 @@
 //! The picture of a table: its rows' lines, with borders above, between and below them.
 
-ghost use Rattle.std.specs.Prelude.{◌≡◌, ◌-◌, ◌+◌, ◌^◌, ◌<◌, ◌≤◌, List, [], ◌++◌, ◌∷◌, cond, false, not, get_or, length, replicate, Some, OnOk, IfOk, IfErr, IfSome};
+ghost use Rattle.std.specs.Prelude.{◌≡◌, ◌-◌, ◌+◌, ◌^◌, ◌<◌, ◌≤◌, List, [], ◌++◌, ◌∷◌, cond, false, not, get_or, length, replicate, Some, OnOk, IfOk, IfSome};
 ghost use Rattle.std.specs.List.{list_any};
+ghost use Rattle.html_render_dom_values.specs.Outcome.{OnlyOutOfMemory};
 ghost use Rattle.html_render_layout_lines.specs.declared.line.Element.TheVariants.{Character};
 ghost use Rattle.html_render_layout_lines.specs.Line.{columns, is_empty};
 ghost use Rattle.html_render_layout_pictures.specs.Picture as definition;
@@ -12,11 +13,11 @@ ghost use Rattle.html_render_layout_pictures.specs.Marked.{marked_behind};
 ghost use Rattle.html_render_layout_pictures.specs.Padding.{filled};
 ghost use Rattle.html_render_layout_pictures.specs.Separators.{separators_between};
 
+use crate::borders::BORDERS;
 use crate::line_ends::put_marks_front;
 use crate::lines::Lines;
 use crate::row::{keep_memory, row_cells};
 use html_render_dom_values::Error;
-use html_render_layout_glyphs::borders::BORDERS;
 use html_render_layout_lines::line::Line;
 use html_render_layout_lines::tag::Tag;
 use std::alloc::{AllocError, Global};
@@ -298,7 +299,7 @@ impl<T: Tag, M: Copy> Picture<T, M> {
     /// `OutOfMemory`.
     pub fn new(alloc: Global, frame: Frame<T>, waiting: Vec<M>) -> Result<Picture<T, M>, Error>
         ensures ok { IfOk result (λ p. p ≡ drawing.begun frame waiting.items) }
-        ensures err { IfErr result (λ e. e ≡ Error.OutOfMemory) }
+        ensures err { OnlyOutOfMemory result }
     {
         let lines = Lines::new(alloc);
         if !frame.borders || frame.width == 0 {
@@ -333,7 +334,7 @@ impl<T: Tag, M: Copy> Picture<T, M> {
     /// `OutOfMemory`. Part of the row may then be drawn.
     pub fn add_row(&mut self, row: Row<T, M>) -> Result<(), Error>
         ensures ok { OnOk result (self.new ≡ drawing.with_row self.old row) }
-        ensures err { IfErr result (λ e. e ≡ Error.OutOfMemory) }
+        ensures err { OnlyOutOfMemory result }
     {
         if is_drawn(&row) {
             self.draw_row(row.cells)?;
@@ -391,7 +392,7 @@ impl<T: Tag, M: Copy> Picture<T, M> {
         ensures ok { IfOk result (λ d. (d.lines, d.waiting.items) ≡ drawing.finished self) }
         ensures picture { (waiting : List M) (rows : List (TableRow T M)) → self ≡ drawing.with_rows (drawing.begun self.frame waiting) rows
             → IfOk result (λ d. (d.lines, d.waiting.items) ≡ definition.picture self.frame waiting rows) }
-        ensures err { IfErr result (λ e. e ≡ Error.OutOfMemory) }
+        ensures err { OnlyOutOfMemory result }
     {
         let Picture {
             alloc,

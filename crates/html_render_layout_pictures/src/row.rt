@@ -15,7 +15,7 @@ ghost use Rattle.html_render_layout_pictures.specs.Rows.{filled_at, marked_cell,
 ghost use Rattle.html_render_layout_pictures.specs.Padding.{repeated};
 
 use crate::blank::{Blank, add_blank_cell, first_blank_cell};
-use crate::gaps::{FEW, Filler, gap, push_fillers};
+use crate::gaps::{CHUNK, Filler, gap, push_fillers};
 use crate::line_ends::{mark_behind, missing};
 use crate::picture::{Cell, Frame};
 use html_render_layout_lines::line::Line;
@@ -107,7 +107,7 @@ impl<T: Tag> Frame<T> {
     fn put_wide_gap<M: Copy>(&self, line: &mut Line<T, M>, missing: usize) -> Result<(), AllocError>
         ensures { OnOk result (line.new ≡ (line.old ++ repeated self.now.tag 0x20 missing) ++ definition.separator self.now ∷ []) }
     {
-        let few = missing.min(FEW - 1);
+        let few = missing.min(CHUNK - 1);
         push_fillers(line, Filler::Space, missing - few, self.tag)?;
         line.push_str(gap(self.borders, few), few + 1, self.tag)
     }
@@ -117,7 +117,7 @@ impl<T: Tag> Frame<T> {
     fn put_gap<M: Copy>(&self, line: &mut Line<T, M>, missing: usize) -> Result<(), AllocError>
         ensures { OnOk result (line.new ≡ (line.old ++ repeated self.now.tag 0x20 missing) ++ definition.separator self.now ∷ []) }
     {
-        if missing >= FEW {
+        if missing >= CHUNK {
             return self.put_wide_gap(line, missing);
         }
         line.push_str(gap(self.borders, missing), missing + 1, self.tag)

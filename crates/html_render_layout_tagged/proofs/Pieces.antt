@@ -6,17 +6,17 @@ use Rattle.std.specs.Str.{chars, IsUtf8, encode_utf8_all}
 use Rattle.std.proofs.lemmas.Str.{encodes-chars}
 use Rattle.html_render_layout_lines.specs.Line.{Line}
 use Rattle.html_render_layout_lines.specs.TaggedText.{under}
-use Rattle.html_render_layout_tagged.specs.Grouping.{Piece, Str, FragmentStart, in_front, grouped}
+use Rattle.html_render_layout_tagged.specs.Grouping.{LinePart, Str, FragmentStart, in_front, grouped}
 
 module _ {T : Type 0} (equal : T → T → Bool) where
   -- two texts under equal tags, one after the other, are put before pieces as one text
-  pub in_front-joined : IsEquivalence equal → (text next : List ℕ) (old tag : T) (ps : List (Piece T)) → equal old tag ≡ true →
+  pub in_front-joined : IsEquivalence equal → (text next : List ℕ) (old tag : T) (ps : List (LinePart T)) → equal old tag ≡ true →
       in_front equal (text ++ next) old ps ≡ in_front equal text old (in_front equal next tag ps)
   in_front-joined laws text next old tag [] e = rw e refl
   in_front-joined laws text next old tag (FragmentStart name ∷ ps) e = rw e refl
   in_front-joined laws text next old tag (Str more other ∷ ps) e =
       let same : equal old other ≡ equal tag other = laws.congr old tag other e in
-      cond_both (equal tag other) _ _ (λ (x : List (Piece T)). in_front equal (text ++ next) old (Str more other ∷ ps) ≡ in_front equal text old x)
+      cond_both (equal tag other) _ _ (λ (x : List (LinePart T)). in_front equal (text ++ next) old (Str more other ∷ ps) ≡ in_front equal text old x)
       (λ f. rw (e, same, f) (ap (λ x. Str x old ∷ ps) (append_assoc text next more)))
       (λ f. rw (e, same, f) refl)
 

@@ -17,7 +17,7 @@ use Rattle.html_render_layout_lines.specs.TaggedText.{under, Cuts, elements_of}
 use Rattle.html_render_layout_tagged.specs.Stacks.{stack_at}
 use Rattle.html_render_layout_tagged.specs.declared.grouping.Progress.{Progress}
 use Rattle.html_render_layout_tagged.specs.declared.grouping.OpenString.{OpenString}
-use Rattle.html_render_layout_tagged.specs.Grouping.{Piece, in_front, grouped, pieces_of}
+use Rattle.html_render_layout_tagged.specs.Grouping.{LinePart, in_front, grouped, pieces_of}
 use Rattle.html_render_layout_tagged.specs.Progress.{pieces_with, Takes}
 use Rattle.html_render_layout_tagged.proofs.Pieces.{in_front-joined, grouped-text}
 
@@ -41,7 +41,7 @@ module _ {A : Type 0} (eq : A → A → Bool) (stacks : List (List A)) (names : 
 
   -- a character that is put before all later pieces is appended
   pub Takes-char : (p q : Progress A) (c tag : ℕ) (cs : List ℕ) → cs ≡ c ∷ [] →
-      ((ps : List (Piece (List A))) → pieces_with eq stacks q ps ≡ pieces_with eq stacks p (in_front (pointwise eq) cs (stack_at stacks tag) ps)) →
+      ((ps : List (LinePart (List A))) → pieces_with eq stacks q ps ≡ pieces_with eq stacks p (in_front (pointwise eq) cs (stack_at stacks tag) ps)) →
       Takes eq stacks names p (element.Character c tag ∷ []) q
   Takes-char p q c tag cs e h = λ more.
       let ps = grouped (pointwise eq) names (line_with (stack_at stacks) more) in
@@ -49,7 +49,7 @@ module _ {A : Type 0} (eq : A → A → Bool) (stacks : List (List A)) (names : 
 
   -- a text that is put before all later pieces is appended
   pub Takes-text : IsEquivalence eq → (p q : Progress A) (bs : List ℕ) (tag : ℕ) → IsUtf8 bs → 0 < length bs →
-      ((ps : List (Piece (List A))) → pieces_with eq stacks q ps ≡ pieces_with eq stacks p (in_front (pointwise eq) (chars bs) (stack_at stacks tag) ps)) →
+      ((ps : List (LinePart (List A))) → pieces_with eq stacks q ps ≡ pieces_with eq stacks p (in_front (pointwise eq) (chars bs) (stack_at stacks tag) ps)) →
       Takes eq stacks names p (under tag (chars bs)) q
   Takes-text laws p q bs tag utf8 some h = λ more.
       h (grouped (pointwise eq) names (line_with (stack_at stacks) more))
@@ -104,7 +104,7 @@ Cuts-mark {T} {M} {rs} {others} bs e f cuts = subst (λ x. Cuts x bs) (e ∙ ap 
 pub joined : {A : Type 0} (eq : A → A → Bool) (stacks : List (List A)) → IsEquivalence eq → (p : Progress A) (last : OpenString)
     (text : String Global) (cs : List ℕ) (tag : ℕ) → p.last ≡ Some last →
     chars (string_bytes text) ≡ chars (string_bytes last.text) ++ cs →
-    pointwise eq (stack_at stacks last.tag) (stack_at stacks tag) ≡ true → (ps : List (Piece (List A))) →
+    pointwise eq (stack_at stacks last.tag) (stack_at stacks tag) ≡ true → (ps : List (LinePart (List A))) →
     pieces_with eq stacks (record { done = p.done; last = Some (record { text = text; tag = last.tag }) }) ps
     ≡ pieces_with eq stacks p (in_front (pointwise eq) cs (stack_at stacks tag) ps)
 joined eq stacks laws p last text cs tag is joins same ps =

@@ -2,7 +2,8 @@
 //!
 //! With a map that writes `<` and `>` around each text, a line of the strings `a` and `b` becomes `<a><b>` and a newline.
 
-ghost use Rattle.std.specs.Prelude.{◌≡◌, ◌++◌, List, Err, OnOk, IfOk, IfErr, string_bytes};
+ghost use Rattle.std.specs.Prelude.{◌≡◌, ◌++◌, List, Err, OnOk, IfOk, string_bytes};
+ghost use Rattle.html_render_dom_values.specs.Outcome.{OnlyOutOfMemory};
 ghost use Rattle.html_render_layout_tagged.specs.Grouping.{pieces_of, lines_of};
 ghost use Rattle.html_render_layout_tagged.specs.Colouring.{IsColouredLine, IsColoured};
 
@@ -20,7 +21,7 @@ fn push_line<A: Drop, F: Fn(&[A], &str) -> Result<String, Error>>(
     requires memory { (tag : _) (string : _) (e : Error) → F.post colour_map.now tag string (Err e) → e ≡ Error.OutOfMemory }
     ensures ok { OnOk result ((written : List _) × IsColouredLine (F.post colour_map.now) (pieces_of line.now) written
         × (string_bytes text.new ≡ string_bytes text.old ++ written)) }
-    ensures err { IfErr result (λ e. e ≡ Error.OutOfMemory) }
+    ensures err { OnlyOutOfMemory result }
 {
     let mut left = line.elements();
     while let Some((element, others)) = left.split_first() {
@@ -51,7 +52,7 @@ pub fn coloured<A: Drop, F: Fn(&[A], &str) -> Result<String, Error>>(
     requires callable { F.IsAlwaysCallable colour_map.now }
     requires memory { (tag : _) (string : _) (e : Error) → F.post colour_map.now tag string (Err e) → e ≡ Error.OutOfMemory }
     ensures ok { IfOk result (λ text. IsColoured (F.post colour_map.now) (lines_of lines.now) (string_bytes text)) }
-    ensures err { IfErr result (λ e. e ≡ Error.OutOfMemory) }
+    ensures err { OnlyOutOfMemory result }
 {
     let mut text = String::new(alloc);
     let mut left = lines;

@@ -3,10 +3,11 @@
 //! The characters `a` and `b` under equal annotations, followed by a mark or by other annotations, become one string `ab`
 //! with the annotations of `a`.
 
-ghost use Rattle.std.specs.Prelude.{◌≡◌, List, [], ◌∷◌, ◌++◌, None, Some, OnOk, IfOk, IfErr, map, reverse, string_bytes};
+ghost use Rattle.std.specs.Prelude.{◌≡◌, List, [], ◌∷◌, ◌++◌, None, Some, OnOk, IfOk, map, reverse, string_bytes};
 ghost use Rattle.std.proofs.Common.{get_or};
 ghost use Rattle.std.specs.Cmp.Lexicographic.{pointwise};
 ghost use Rattle.std.specs.Str.{chars};
+ghost use Rattle.html_render_dom_values.specs.Outcome.{OnlyOutOfMemory};
 ghost use Rattle.html_render_layout_lines.specs.Line.{columns};
 ghost use Rattle.html_render_layout_lines.specs.Tags.{line_with, lines_with};
 ghost use Rattle.html_render_layout_lines.specs.TaggedText.{under, Cuts, elements_of, open_elements};
@@ -58,7 +59,7 @@ fn annotations<A: Clone + Drop>(
 ) -> Result<Vec<A>, Error>
     requires { ClonesAreSame A.is_clone }
     ensures ok { IfOk result (λ annotations. annotations.items ≡ stack_at stacks.now tag) }
-    ensures err { IfErr result (λ e. e ≡ Error.OutOfMemory) }
+    ensures err { OnlyOutOfMemory result }
 {
     let mut annotations = Vec::with_capacity(alloc, stacks.depth(tag))?;
     let mut tag = tag;
@@ -87,7 +88,7 @@ impl<A: Eq + Clone + Drop> Progress<A> {
         requires { ClonesAreSame A.is_clone }
         ensures done { OnOk result (pieces_of self.new.done.items ≡ pieces_of self.old.done.items ++ closed stacks.now self.old.last) }
         ensures last { OnOk result (self.new.last ≡ None) }
-        ensures err { IfErr result (λ e. e ≡ Error.OutOfMemory) }
+        ensures err { OnlyOutOfMemory result }
     {
         if let Some(last) = self.last.take() {
             let tag = annotations(alloc, stacks, last.tag)?;
@@ -108,7 +109,7 @@ impl<A: Eq + Clone + Drop> Progress<A> {
         requires { ClonesAreSame A.is_clone }
         ensures ok { OnOk result ((ps : List _) → pieces_with A.eq stacks.now self.new ps
             ≡ pieces_with A.eq stacks.now self.old (in_front (pointwise A.eq) (chars text.now) (stack_at stacks.now tag) ps)) }
-        ensures err { IfErr result (λ e. e ≡ Error.OutOfMemory) }
+        ensures err { OnlyOutOfMemory result }
     {
         if let Some(last) = &mut self.last {
             if stacks.are_equal(last.tag, tag) {
@@ -132,7 +133,7 @@ impl<A: Eq + Clone + Drop> Progress<A> {
     ) -> Result<(), Error>
         requires { ClonesAreSame A.is_clone }
         ensures ok { OnOk result ((names : List _) → Takes A.eq stacks.now names self.old (Element.Character c tag ∷ []) self.new) }
-        ensures err { IfErr result (λ e. e ≡ Error.OutOfMemory) }
+        ensures err { OnlyOutOfMemory result }
     {
         let mut bytes = [0; 4];
         self.push_str(alloc, stacks, c.encode_utf8(&mut bytes), tag)
@@ -148,7 +149,7 @@ impl<A: Eq + Clone + Drop> Progress<A> {
     ) -> Result<(), Error>
         requires { ClonesAreSame A.is_clone }
         ensures ok { OnOk result ((names : List _) → Takes A.eq stacks.now names self.old (under tag (chars text.now)) self.new) }
-        ensures err { IfErr result (λ e. e ≡ Error.OutOfMemory) }
+        ensures err { OnlyOutOfMemory result }
     {
         if text.is_empty() {
             return Ok(());
@@ -166,7 +167,7 @@ impl<A: Eq + Clone + Drop> Progress<A> {
     ) -> Result<(), Error>
         requires { ClonesAreSame A.is_clone }
         ensures ok { OnOk result (Takes A.eq stacks.now names.now self.old (Element.Mark mark ∷ []) self.new) }
-        ensures err { IfErr result (λ e. e ≡ Error.OutOfMemory) }
+        ensures err { OnlyOutOfMemory result }
     {
         self.close(alloc, stacks)?;
         let name = name_of(alloc, names, mark)?;
@@ -184,7 +185,7 @@ impl<A: Eq + Clone + Drop> Progress<A> {
     ) -> Result<(), Error>
         requires { ClonesAreSame A.is_clone }
         ensures ok { OnOk result (Takes A.eq stacks.now names.now self.old (element.now ∷ []) self.new) }
-        ensures err { IfErr result (λ e. e ≡ Error.OutOfMemory) }
+        ensures err { OnlyOutOfMemory result }
     {
         match element {
             Element::Character(c, tag) => self.push_char(alloc, stacks, *c, *tag),
@@ -202,7 +203,7 @@ impl<A: Eq + Clone + Drop> Progress<A> {
     ) -> Result<(), Error>
         requires { ClonesAreSame A.is_clone }
         ensures ok { OnOk result (Takes A.eq stacks.now names.now self.old (reverse elements.now) self.new) }
-        ensures err { IfErr result (λ e. e ≡ Error.OutOfMemory) }
+        ensures err { OnlyOutOfMemory result }
     {
         let mut left = elements;
         while let Some((element, others)) = left.split_last() {
@@ -224,7 +225,7 @@ impl<A: Eq + Clone + Drop> Progress<A> {
         requires clones { ClonesAreSame A.is_clone }
         requires cuts { Cuts runs.now text.now }
         ensures ok { OnOk result (Takes A.eq stacks.now names.now self.old (elements_of runs.now text.now) self.new) }
-        ensures err { IfErr result (λ e. e ≡ Error.OutOfMemory) }
+        ensures err { OnlyOutOfMemory result }
     {
         let (mut left, mut text) = (runs, text);
         while let Some((run, others)) = left.split_first() {
@@ -250,7 +251,7 @@ impl<A: Eq + Clone + Drop> Progress<A> {
     ) -> Result<(), Error>
         requires { ClonesAreSame A.is_clone }
         ensures ok { OnOk result ((names : List _) → Takes A.eq stacks.now names self.old (open_elements tag text.now) self.new) }
-        ensures err { IfErr result (λ e. e ≡ Error.OutOfMemory) }
+        ensures err { OnlyOutOfMemory result }
     {
         match tag {
             Some(tag) => self.push_text(alloc, stacks, text, tag),
@@ -262,7 +263,7 @@ impl<A: Eq + Clone + Drop> Progress<A> {
     fn finish(mut self, alloc: Global, stacks: &Stacks<A>) -> Result<TaggedLine<Vec<A>>, Error>
         requires { ClonesAreSame A.is_clone }
         ensures ok { IfOk result (λ line. pieces_of line ≡ pieces_with A.eq stacks.now self []) }
-        ensures err { IfErr result (λ e. e ≡ Error.OutOfMemory) }
+        ensures err { OnlyOutOfMemory result }
     {
         self.close(alloc, stacks)?;
         Ok(TaggedLine::new(self.done))
@@ -272,7 +273,7 @@ impl<A: Eq + Clone + Drop> Progress<A> {
 /// Returns a copy of the name with the number `mark`; an empty text if there is none.
 fn name_of(alloc: Global, names: &[Text], mark: usize) -> Result<String, Error>
     ensures ok { IfOk result (λ name. string_bytes name ≡ get_or names.now mark []) }
-    ensures err { IfErr result (λ e. e ≡ Error.OutOfMemory) }
+    ensures err { OnlyOutOfMemory result }
 {
     match names.get(mark) {
         Some(name) => Ok(String::from_str(alloc, name.as_str())?),
@@ -289,7 +290,7 @@ fn tagged_line<A: Eq + Clone + Drop>(
 ) -> Result<TaggedLine<Vec<A>>, Error>
     requires { ClonesAreSame A.is_clone }
     ensures ok { IfOk result (λ l. pieces_of l ≡ grouped (pointwise A.eq) names.now (line_with (stack_at stacks.now) line.now)) }
-    ensures err { IfErr result (λ e. e ≡ Error.OutOfMemory) }
+    ensures err { OnlyOutOfMemory result }
 {
     let parts = line.parts();
     let mut progress = Progress::new(alloc);
@@ -324,7 +325,7 @@ pub fn tagged_lines<A: Eq + Clone + Drop>(
     ensures ok { IfOk result (λ lines. lines_of lines.items ≡ map (grouped (pointwise A.eq) layout.names) (laid_out layout)) }
     // each tagged line has the columns of its laid-out line
     ensures columns { IfOk result (λ lines. map line_columns lines.items ≡ map columns (laid_out layout)) }
-    ensures err { IfErr result (λ e. e ≡ Error.OutOfMemory) }
+    ensures err { OnlyOutOfMemory result }
 {
     all_tagged(
         alloc,
@@ -344,7 +345,7 @@ fn all_tagged<A: Eq + Clone + Drop>(
     requires { ClonesAreSame A.is_clone }
     ensures ok { IfOk result (λ made. lines_of made.items
         ≡ map (grouped (pointwise A.eq) names.now) (lines_with (stack_at stacks.now) lines.now)) }
-    ensures err { IfErr result (λ e. e ≡ Error.OutOfMemory) }
+    ensures err { OnlyOutOfMemory result }
 {
     let mut made = Vec::with_capacity(alloc, lines.len())?;
     for line in lines {

@@ -1,6 +1,7 @@
 //! Result of a layout: lines whose tags are indices into a table of annotation stacks, that table, and the names of marks.
 
-ghost use Rattle.std.specs.Prelude.{◌≡◌, ◌↔◌, [], ◌∷◌, ◌++◌, length, IsTrue, IfErr, OnOk};
+ghost use Rattle.std.specs.Prelude.{◌≡◌, ◌↔◌, [], ◌∷◌, ◌++◌, length, IsTrue, OnOk};
+ghost use Rattle.html_render_dom_values.specs.Outcome.{OnlyOutOfMemory};
 
 use crate::stacks::Stacks;
 use html_render_dom_values::Error;
@@ -61,7 +62,7 @@ impl TextList {
     /// `OutOfMemory`.
     pub fn push(&mut self, text: &str) -> Result<(), Error>
         ensures ok { OnOk result (self.new ≡ self.old ++ text.now ∷ []) }
-        ensures err { IfErr result (λ e. e ≡ Error.OutOfMemory) }
+        ensures err { OnlyOutOfMemory result }
     {
         let text = Text::from_str(*self.texts.allocator(), text)?;
         self.texts.push(text)?;

@@ -3,8 +3,9 @@
 //! After `stacks.push(0, "a")?` and `stacks.push(1, "b")?`, the stack of tag 0 is empty, that of tag 1 is `a`, and that of
 //! tag 2 is `a` and `b`.
 
-ghost use Rattle.std.specs.Prelude.{◌≡◌, ◌<◌, ◌≤◌, [], ◌∷◌, ◌++◌, ◌==◌, ◌&&◌, length, IfOk, OnOk, IfErr, MatchOption};
+ghost use Rattle.std.specs.Prelude.{◌≡◌, ◌<◌, ◌≤◌, [], ◌∷◌, ◌++◌, ◌==◌, ◌&&◌, length, IfOk, OnOk, MatchOption};
 ghost use Rattle.std.specs.Cmp.Lexicographic.{pointwise};
+ghost use Rattle.html_render_dom_values.specs.Outcome.{OnlyOutOfMemory};
 ghost use Rattle.html_render_layout_tagged.specs.Stacks.{stack_at, IsStack};
 
 use html_render_dom_values::Error;
@@ -62,7 +63,7 @@ impl<A: Drop> Stacks<A> {
     pub fn push(&mut self, below: usize, annotation: A) -> Result<usize, Error>
         ensures tag { IfOk result (λ tag. tag ≡ length self.old) }
         ensures ok { OnOk result (self.new ≡ self.old ++ (stack_at self.old below ++ annotation ∷ []) ∷ []) }
-        ensures err { IfErr result (λ e. e ≡ Error.OutOfMemory) }
+        ensures err { OnlyOutOfMemory result }
     {
         let tag = self.pushed.len() + 1;
         let below = self.kept(below);

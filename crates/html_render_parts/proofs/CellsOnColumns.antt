@@ -7,7 +7,7 @@ use Rattle.std.proofs.lemmas.List.Elements.{All-nil, All-cons, All-head, All-tai
 use Rattle.html_render_parts.specs.declared.table.Span.{Span}
 use Rattle.html_render_parts.specs.declared.table.cells.GridCell.{GridCell}
 use Rattle.html_render_parts.specs.declared.table.placement.Place.{Place}
-use Rattle.html_render_parts.specs.declared.table.placement.Standing.{Standing}
+use Rattle.html_render_parts.specs.declared.table.placement.PositionedCell.{PositionedCell}
 use Rattle.html_render_parts.specs.Placement.{due_end, hanging, not_due, own_from, own_rows_from, placed_rows, row_from, rows_from}
 use Rattle.html_render_parts.specs.PlacementSteps.{row_fits}
 use Rattle.html_render_parts.specs.Grid.{AreValid, edges_of, ends, positions_fit, rank}
@@ -21,7 +21,7 @@ use Rattle.html_render_parts.proofs.SideBySide.{Wide, Wide-own_from}
 
 -- ---- positions of the table's own cells
 
-own_rows-between : (I : ℕ → Type 0) (row : ℕ) (hung : List Standing) (rows : List (List Span)) → I 0 →
+own_rows-between : (I : ℕ → Type 0) (row : ℕ) (hung : List PositionedCell) (rows : List (List Span)) → I 0 →
     All (All (EndsIn I)) (rows_from row hung rows)
     → All (All (Between I)) (own_rows_from row hung rows)
 own_rows-between I row hung [] zero h = All-nil (All (Between I))
@@ -65,16 +65,16 @@ pub own-within : (rows : List (List Span)) → positions_fit (placed_rows rows) 
     All (All (λ c. c.column + c.span.colspan < 2 ^ 128)) (own_rows_from 0 [] rows)
 own-within rows e =
     let I : ℕ → Type 0 = λ n. n < 2 ^ 128 in
-    let P : Standing → Type 0 = λ c. c.column + c.span.colspan < 2 ^ 128 in
+    let P : PositionedCell → Type 0 = λ c. c.column + c.span.colspan < 2 ^ 128 in
     All-weaker (All (Between I)) (All P) (λ cs h. All-weaker (Between I) P (λ c b. b.1) cs h) (own_rows_from 0 [] rows)
     (own_rows-between I 0 [] rows (omega arith) (rows-within (placed_rows rows) e))
 
 -- ---- one cell
 
-edge_behind : (es : List ℕ) (c : Standing) → (on_columns es c).first + (on_columns es c).columns ≡ rank es (c.column + c.span.colspan)
+edge_behind : (es : List ℕ) (c : PositionedCell) → (on_columns es c).first + (on_columns es c).columns ≡ rank es (c.column + c.span.colspan)
 edge_behind es c = let mono = rank-mono es c.column (c.column + c.span.colspan) (omega arith) in omega arith
 
-span-back : (es : List ℕ) (c : Standing) → IsStrictlyIncreasing es → Between (Contains es) c → span_on es (on_columns es c) ≡ c.span
+span-back : (es : List ℕ) (c : PositionedCell) → IsStrictlyIncreasing es → Between (Contains es) c → span_on es (on_columns es c) ≡ c.span
 span-back es c rising b =
     let start = rank-gets es c.column rising b.0 in
     let end = rank-gets es (c.column + c.span.colspan) rising b.1 in
@@ -85,19 +85,19 @@ span-back es c rising b =
 
 -- ---- all cells
 
-row-back : (es : List ℕ) → IsStrictlyIncreasing es → (row cursor : ℕ) (hs : List Standing) (ss : List Span) →
+row-back : (es : List ℕ) → IsStrictlyIncreasing es → (row cursor : ℕ) (hs : List PositionedCell) (ss : List Span) →
     All (Between (Contains es)) (own_from row cursor hs ss)
     → map (span_on es) (map (on_columns es) (own_from row cursor hs ss)) ≡ ss
 row-back es rising row cursor hs [] b = refl
 row-back es rising row cursor hs (s ∷ ss) b =
     let column = due_end cursor hs in
-    let c : Standing = record { row = row; column = column; span = s } in
+    let c : PositionedCell = record { row = row; column = column; span = s } in
     let rest = own_from row (column + s.colspan) (not_due cursor hs) ss in
     let here = span-back es c rising (All-head (Between (Contains es)) c rest b) in
     let ih = row-back es rising row (column + s.colspan) (not_due cursor hs) ss (All-tail (Between (Contains es)) c rest b) in
     rw (here, ih) refl
 
-rows-back : (es : List ℕ) → IsStrictlyIncreasing es → (row : ℕ) (hung : List Standing) (rows : List (List Span)) →
+rows-back : (es : List ℕ) → IsStrictlyIncreasing es → (row : ℕ) (hung : List PositionedCell) (rows : List (List Span)) →
     All (All (Between (Contains es))) (own_rows_from row hung rows)
     → map (map (span_on es)) (map (map (on_columns es)) (own_rows_from row hung rows)) ≡ rows
 rows-back es rising row hung [] b = refl
@@ -146,7 +146,7 @@ edges-rise g h =
 abbrev Valid : Span → Type 0
 Valid s = (1 ≤ s.colspan) × (1 ≤ s.rowspan)
 
-own_rows-wide : (row : ℕ) (hung : List Standing) (rows : List (List Span)) → AreValid rows → All (All Wide) (own_rows_from row hung rows)
+own_rows-wide : (row : ℕ) (hung : List PositionedCell) (rows : List (List Span)) → AreValid rows → All (All Wide) (own_rows_from row hung rows)
 own_rows-wide row hung [] v = All-nil (All Wide)
 own_rows-wide row hung (cells ∷ more) v =
     let own = own_from row 0 hung cells in
@@ -158,7 +158,7 @@ own_rows-wide row hung (cells ∷ more) v =
 abbrev pub IsWithin : ℕ → GridCell → Type 0
 IsWithin columns c = (c.first + c.columns ≤ columns) × (0 < c.columns)
 
-cell-within : (es : List ℕ) (c : Standing) → Between (Contains es) c → Wide c → IsWithin (length es - 1) (on_columns es c)
+cell-within : (es : List ℕ) (c : PositionedCell) → Between (Contains es) c → Wide c → IsWithin (length es - 1) (on_columns es c)
 cell-within es c b wide =
     let some : 1 ≤ c.span.colspan = wide in
     let behind = edge_behind es c in
@@ -166,12 +166,12 @@ cell-within es c b wide =
     let less = rank-less es c.column (c.column + c.span.colspan) b.0 (omega arith) in
     (omega arith, omega arith)
 
-row-within_columns : (es : List ℕ) (cs : List Standing) → All (Between (Contains es)) cs → All Wide cs →
+row-within_columns : (es : List ℕ) (cs : List PositionedCell) → All (Between (Contains es)) cs → All Wide cs →
     All (IsWithin (length es - 1)) (map (on_columns es) cs)
 row-within_columns es cs b w = All-map (IsWithin (length es - 1)) (on_columns es) cs
     (λ k d inside. cell-within es (get_or cs k d) (b k d inside) (w k d inside))
 
-rows-within_columns : (es : List ℕ) (rows : List (List Standing)) → All (All (Between (Contains es))) rows → All (All Wide) rows →
+rows-within_columns : (es : List ℕ) (rows : List (List PositionedCell)) → All (All (Between (Contains es))) rows → All (All Wide) rows →
     All (All (IsWithin (length es - 1))) (map (map (on_columns es)) rows)
 rows-within_columns es rows b w = All-map (All (IsWithin (length es - 1))) (map (on_columns es)) rows
     (λ k d inside. row-within_columns es (get_or rows k d) (b k d inside) (w k d inside))

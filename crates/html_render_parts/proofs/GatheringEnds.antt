@@ -6,8 +6,8 @@ use Rattle.std.proofs.lemmas.List.Elements.{All-contains_itself, Contains-append
 use Rattle.html_render_parts.specs.declared.table.Span.{Span}
 use Rattle.html_render_parts.specs.declared.table.CellKind.TheVariants.{Cell, Placeholder}
 use Rattle.html_render_parts.specs.declared.table.placement.Place.{Place}
-use Rattle.html_render_parts.specs.declared.table.placement.Standing.{Standing}
-use Rattle.html_render_parts.specs.Placement.{bottom_rows, hangs_into, hanging, place, due_places, due_end, not_due}
+use Rattle.html_render_parts.specs.declared.table.placement.PositionedCell.{PositionedCell}
+use Rattle.html_render_parts.specs.Placement.{bottom_rows, hangs_into, hanging, place_from, due_places, due_end, not_due}
 use Rattle.html_render_parts.specs.Placement.{gap_to, rest_from, row_from, own_from, rising, rows_from}
 use Rattle.html_render_parts.specs.PlacementSteps.{IsNextBottom, Placing, displaced_end, due_told, rest_told, row_told}
 use Rattle.html_render_parts.specs.Grid.{ends, edges_of, positions_fit}
@@ -22,7 +22,7 @@ All-parts P [] ys h = (All-nil P, h)
 All-parts P (x ∷ xs) ys h = let rest = All-parts P xs ys (All-tail P x (xs ++ ys) h) in (All-cons P x xs (All-head P x (xs ++ ys) h) rest.0, rest.1)
 
 -- whether a cell's own column and its end have a property
-abbrev pub Between : (ℕ → Type 0) → Standing → Type 0
+abbrev pub Between : (ℕ → Type 0) → PositionedCell → Type 0
 Between I c = I c.column × I (c.column + c.span.colspan)
 
 abbrev pub EndsIn : (ℕ → Type 0) → Place → Type 0
@@ -31,7 +31,7 @@ EndsIn I p = I p.end
 -- ---- if all recorded ends and all edges of hanging cells have a property, all ends have it
 
 -- the end of a placeholder that starts at its cell's own column or after it
-hanging-end : (I : ℕ → Type 0) (start : ℕ) (h : Standing) → h.column ≤ start → Between I h → All I (displaced_end start h) →
+hanging-end : (I : ℕ → Type 0) (start : ℕ) (h : PositionedCell) → h.column ≤ start → Between I h → All I (displaced_end start h) →
     I (start + h.span.colspan)
 hanging-end I start h le between told = elim (ltb-tells h.column start) [
   | inl t ↦ All-head I (start + h.span.colspan) [] (rw t.0 at told)
@@ -39,14 +39,14 @@ hanging-end I start h le between told = elim (ltb-tells h.column start) [
       subst (λ x. I (x + h.span.colspan)) same between.1
 ]
 
-due-ends : (I : ℕ → Type 0) (cursor : ℕ) (hs : List Standing) → All (Between I) hs → All I (due_told cursor hs) →
+due-ends : (I : ℕ → Type 0) (cursor : ℕ) (hs : List PositionedCell) → All (Between I) hs → All I (due_told cursor hs) →
     All (EndsIn I) (due_places cursor hs)
 due-ends I cursor [] b told = All-nil (EndsIn I)
 due-ends I cursor (h ∷ hs) b told = elim (leb_tells h.column cursor) [
   | inl t ↦
       let next = cursor + h.span.colspan in
       let parts = All-parts I (displaced_end cursor h) (due_told next hs) (rw t.0 at told) in
-      rw t.0 (All-cons (EndsIn I) (place Placeholder cursor h.span.colspan) (due_places next hs)
+      rw t.0 (All-cons (EndsIn I) (place_from Placeholder cursor h.span.colspan) (due_places next hs)
       (hanging-end I cursor h t.1 (All-head (Between I) h hs b) parts.0)
       (due-ends I next hs (All-tail (Between I) h hs b) parts.1))
   | inr t ↦ rw t.0 (All-nil (EndsIn I))
@@ -58,7 +58,7 @@ gap-ends I cursor column i = elim (ltb-tells cursor column) [
   | inr t ↦ rw t.0 (All-nil (EndsIn I))
 ]
 
-rest-ends : (I : ℕ → Type 0) (cursor : ℕ) (hs : List Standing) → All (Between I) hs → All I (rest_told cursor hs) →
+rest-ends : (I : ℕ → Type 0) (cursor : ℕ) (hs : List PositionedCell) → All (Between I) hs → All I (rest_told cursor hs) →
     All (EndsIn I) (rest_from cursor hs)
 rest-ends I cursor [] b told = All-nil (EndsIn I)
 rest-ends I cursor (h ∷ hs) b told =
@@ -66,13 +66,13 @@ rest-ends I cursor (h ∷ hs) b told =
     let next = column + h.span.colspan in
     let parts = All-parts I (displaced_end column h) (rest_told next hs) told in
     let here = All-head (Between I) h hs b in
-    All-append (EndsIn I) (gap_to cursor h.column) (place Placeholder column h.span.colspan ∷ rest_from next hs)
+    All-append (EndsIn I) (gap_to cursor h.column) (place_from Placeholder column h.span.colspan ∷ rest_from next hs)
     (gap-ends I cursor h.column here.0)
-    (All-cons (EndsIn I) (place Placeholder column h.span.colspan) (rest_from next hs)
+    (All-cons (EndsIn I) (place_from Placeholder column h.span.colspan) (rest_from next hs)
     (hanging-end I column h (omega arith) here parts.0)
     (rest-ends I next hs (All-tail (Between I) h hs b) parts.1))
 
-row-ends : (I : ℕ → Type 0) (cursor : ℕ) (hs : List Standing) (ss : List Span) → All (Between I) hs → All I (row_told cursor hs ss) →
+row-ends : (I : ℕ → Type 0) (cursor : ℕ) (hs : List PositionedCell) (ss : List Span) → All (Between I) hs → All I (row_told cursor hs ss) →
     All (EndsIn I) (row_from cursor hs ss)
 row-ends I cursor hs [] b told = rest-ends I cursor hs b told
 row-ends I cursor hs (s ∷ ss) b told =
@@ -80,51 +80,51 @@ row-ends I cursor hs (s ∷ ss) b told =
     let next = column + s.colspan in
     let left = not_due cursor hs in
     let parts = All-parts I (due_told cursor hs) (next ∷ row_told next left ss) told in
-    All-append (EndsIn I) (due_places cursor hs) (place Cell column s.colspan ∷ row_from next left ss)
+    All-append (EndsIn I) (due_places cursor hs) (place_from Cell column s.colspan ∷ row_from next left ss)
     (due-ends I cursor hs b parts.0)
-    (All-cons (EndsIn I) (place Cell column s.colspan) (row_from next left ss)
+    (All-cons (EndsIn I) (place_from Cell column s.colspan) (row_from next left ss)
     (All-head I next (row_told next left ss) parts.1)
     (row-ends I next left ss (All-not_due (Between I) cursor hs b) (All-tail I next (row_told next left ss) parts.1)))
 
 -- ---- the recorded ends are ends of places
 
-displaced-told : (J : ℕ → Type 0) (start : ℕ) (h : Standing) → J (start + h.span.colspan) → All J (displaced_end start h)
+displaced-told : (J : ℕ → Type 0) (start : ℕ) (h : PositionedCell) → J (start + h.span.colspan) → All J (displaced_end start h)
 displaced-told J start h j = elim (ltb-tells h.column start) [
   | inl t ↦ rw t.0 (All-cons J (start + h.span.colspan) [] j (All-nil J))
   | inr t ↦ rw t.0 (All-nil J)
 ]
 
-due-told : (J : ℕ → Type 0) (cursor : ℕ) (hs : List Standing) → All (EndsIn J) (due_places cursor hs) → All J (due_told cursor hs)
+due-told : (J : ℕ → Type 0) (cursor : ℕ) (hs : List PositionedCell) → All (EndsIn J) (due_places cursor hs) → All J (due_told cursor hs)
 due-told J cursor [] e = All-nil J
 due-told J cursor (h ∷ hs) e = elim (leb_tells h.column cursor) [
   | inl t ↦
       let next = cursor + h.span.colspan in
       let here = rw t.0 at e in
       rw t.0 (All-append J (displaced_end cursor h) (due_told next hs)
-      (displaced-told J cursor h (All-head (EndsIn J) (place Placeholder cursor h.span.colspan) (due_places next hs) here))
-      (due-told J next hs (All-tail (EndsIn J) (place Placeholder cursor h.span.colspan) (due_places next hs) here)))
+      (displaced-told J cursor h (All-head (EndsIn J) (place_from Placeholder cursor h.span.colspan) (due_places next hs) here))
+      (due-told J next hs (All-tail (EndsIn J) (place_from Placeholder cursor h.span.colspan) (due_places next hs) here)))
   | inr t ↦ rw t.0 (All-nil J)
 ]
 
-rest-told : (J : ℕ → Type 0) (cursor : ℕ) (hs : List Standing) → All (EndsIn J) (rest_from cursor hs) → All J (rest_told cursor hs)
+rest-told : (J : ℕ → Type 0) (cursor : ℕ) (hs : List PositionedCell) → All (EndsIn J) (rest_from cursor hs) → All J (rest_told cursor hs)
 rest-told J cursor [] e = All-nil J
 rest-told J cursor (h ∷ hs) e =
     let column = max cursor h.column in
     let next = column + h.span.colspan in
-    let p = place Placeholder column h.span.colspan in
+    let p = place_from Placeholder column h.span.colspan in
     let parts = All-parts (EndsIn J) (gap_to cursor h.column) (p ∷ rest_from next hs) e in
     All-append J (displaced_end column h) (rest_told next hs)
     (displaced-told J column h (All-head (EndsIn J) p (rest_from next hs) parts.1))
     (rest-told J next hs (All-tail (EndsIn J) p (rest_from next hs) parts.1))
 
-row-told : (J : ℕ → Type 0) (cursor : ℕ) (hs : List Standing) (ss : List Span) → All (EndsIn J) (row_from cursor hs ss) →
+row-told : (J : ℕ → Type 0) (cursor : ℕ) (hs : List PositionedCell) (ss : List Span) → All (EndsIn J) (row_from cursor hs ss) →
     All J (row_told cursor hs ss)
 row-told J cursor hs [] e = rest-told J cursor hs e
 row-told J cursor hs (s ∷ ss) e =
     let column = due_end cursor hs in
     let next = column + s.colspan in
     let left = not_due cursor hs in
-    let p = place Cell column s.colspan in
+    let p = place_from Cell column s.colspan in
     let parts = All-parts (EndsIn J) (due_places cursor hs) (p ∷ row_from next left ss) e in
     All-append J (due_told cursor hs) (next ∷ row_told next left ss)
     (due-told J cursor hs parts.0)
@@ -133,18 +133,18 @@ row-told J cursor hs (s ∷ ss) e =
 
 -- ---- a row's own cells begin and end at ends of its places
 
-due_end-in : (I : ℕ → Type 0) (cursor : ℕ) (hs : List Standing) → I cursor → All (EndsIn I) (due_places cursor hs) → I (due_end cursor hs)
+due_end-in : (I : ℕ → Type 0) (cursor : ℕ) (hs : List PositionedCell) → I cursor → All (EndsIn I) (due_places cursor hs) → I (due_end cursor hs)
 due_end-in I cursor [] i e = i
 due_end-in I cursor (h ∷ hs) i e = elim (leb_tells h.column cursor) [
   | inl t ↦
       let next = cursor + h.span.colspan in
-      let p = place Placeholder cursor h.span.colspan in
+      let p = place_from Placeholder cursor h.span.colspan in
       let here = rw t.0 at e in
       rw t.0 (due_end-in I next hs (All-head (EndsIn I) p (due_places next hs) here) (All-tail (EndsIn I) p (due_places next hs) here))
   | inr t ↦ rw t.0 i
 ]
 
-pub own-between : (I : ℕ → Type 0) (row cursor : ℕ) (hs : List Standing) (ss : List Span) → I cursor →
+pub own-between : (I : ℕ → Type 0) (row cursor : ℕ) (hs : List PositionedCell) (ss : List Span) → I cursor →
     All (EndsIn I) (row_from cursor hs ss)
     → All (Between I) (own_from row cursor hs ss)
 own-between I row cursor hs [] i e = All-nil (Between I)
@@ -152,7 +152,7 @@ own-between I row cursor hs (s ∷ ss) i e =
     let column = due_end cursor hs in
     let next = column + s.colspan in
     let left = not_due cursor hs in
-    let p = place Cell column s.colspan in
+    let p = place_from Cell column s.colspan in
     let parts = All-parts (EndsIn I) (due_places cursor hs) (p ∷ row_from next left ss) e in
     let end = All-head (EndsIn I) p (row_from next left ss) parts.1 in
     All-cons (Between I) (record { row = row; column = column; span = s }) (own_from row next left ss)
@@ -162,7 +162,7 @@ own-between I row cursor hs (s ∷ ss) i e =
 -- ---- the edges that are gathered
 
 -- whether the gathered positions, with the ends of the rows that aren't placed yet, are the edges of all rows
-pub record IsGathered (rows ahead : List (List Place)) (hung : List Standing) (positions : List ℕ) : Type 0 where
+pub record IsGathered (rows ahead : List (List Place)) (hung : List PositionedCell) (positions : List ℕ) : Type 0 where
   pub fits : positions_fit rows ≡ positions_fit ahead
   pub edges : rising (positions ++ ends ahead) ≡ edges_of rows
   pub in_order : rising positions ≡ positions
@@ -201,7 +201,7 @@ with_told positions told = rising (positions ++ told)
 still : (positions told : List ℕ) (n : ℕ) → Contains positions n → Contains (with_told positions told) n
 still positions told n a = Contains-rising n (positions ++ told) (Contains-append_left positions told n a)
 
-still-between : (positions told : List ℕ) (cs : List Standing) → All (Between (Contains positions)) cs →
+still-between : (positions told : List ℕ) (cs : List PositionedCell) → All (Between (Contains positions)) cs →
     All (Between (Contains (with_told positions told))) cs
 still-between positions told cs h =
     All-weaker (Between (Contains positions)) (Between (Contains (with_told positions told)))

@@ -9,7 +9,7 @@ use Rattle.html_render_parts.specs.declared.table.Span.{Span}
 use Rattle.html_render_parts.specs.declared.table.PlacedCell.{PlacedCell}
 use Rattle.html_render_parts.specs.declared.table.placement.Place.{Place}
 use Rattle.html_render_parts.specs.Placement.{lists, placed_rows}
-use Rattle.html_render_parts.specs.PlacementSteps.{fitting}
+use Rattle.html_render_parts.specs.PlacementSteps.{fitting_positions}
 use Rattle.html_render_parts.specs.Grid.{AreValid, edges_of, grid_of, numbered, positions_fit}
 use Rattle.html_render_parts.specs.Refusal.{Fails}
 use Rattle.html_render_parts.proofs.Vectors.{All-unmap}
@@ -19,7 +19,7 @@ abbrev grid_on : List (List Place) → List ℕ × List (List PlacedCell)
 grid_on placed = (edges_of placed, map (map (numbered (edges_of placed))) placed)
 
 -- placed rows are those of the definition, and the table has a grid
-pub made : (rows : List (List Span)) (placed : List (List Place)) → fitting (placed_rows rows) ≡ Some placed →
+pub made : (rows : List (List Span)) (placed : List (List Place)) → fitting_positions (placed_rows rows) ≡ Some placed →
     (placed ≡ placed_rows rows) × (grid_of rows ≡ Some (grid_on (placed_rows rows)))
 made rows placed e = elim (cases_Bool (positions_fit (placed_rows rows))) [
   | inl t ↦ let f = rw t at e in (cc, rw t refl)
@@ -27,7 +27,7 @@ made rows placed e = elim (cases_Bool (positions_fit (placed_rows rows))) [
 ]
 
 -- an error of placing the rows is one of the grid
-pub refused : (e : Error) (rows : List (List Span)) → Fails e (fitting (placed_rows rows)) → Fails e (grid_of rows)
+pub refused : (e : Error) (rows : List (List Span)) → Fails e (fitting_positions (placed_rows rows)) → Fails e (grid_of rows)
 refused TooNarrow rows h = h
 refused OutOfMemory rows h = tt
 refused Fail rows h = elim (cases_Bool (positions_fit (placed_rows rows))) [ inl t ↦ let f = rw t at h in cc | inr t ↦ rw t refl ]

@@ -10,8 +10,8 @@ use Rattle.html_render_parts.specs.declared.table.Span.{Span}
 use Rattle.html_render_parts.specs.declared.table.CellKind.TheVariants.{Cell, Placeholder}
 use Rattle.html_render_parts.specs.declared.table.PlacedCell.{PlacedCell}
 use Rattle.html_render_parts.specs.declared.table.placement.Place.{Place}
-use Rattle.html_render_parts.specs.declared.table.placement.Standing.{Standing}
-use Rattle.html_render_parts.specs.Placement.{due_end, due_places, end_of, gap_to, hanging, not_due, own_from, own_rows_from, place}
+use Rattle.html_render_parts.specs.declared.table.placement.PositionedCell.{PositionedCell}
+use Rattle.html_render_parts.specs.Placement.{due_end, due_places, end_of, gap_to, hanging, not_due, own_from, own_rows_from, place_from}
 use Rattle.html_render_parts.specs.Placement.{placed_rows, rest_from, rising, row_from, rows_from}
 use Rattle.html_render_parts.specs.Grid.{AreSideBySide, edges_of, ends, grid_of, numbered, positions_fit, rank, IsLeastNumbering, IsNumbering}
 use Rattle.html_render_parts.specs.TableCells.{CellGrid, IsCellGrid, cell_grid_of, columns_of, on_columns, rows_on, spans_on}
@@ -106,32 +106,32 @@ cells-in_table g h =
 abbrev cells_at : List Place → List Place
 cells_at ps = filter (λ (p : Place). is_cell p.kind) ps
 
-abbrev cell_at : Standing → Place
-cell_at c = place Cell c.column c.span.colspan
+abbrev cell_at : PositionedCell → Place
+cell_at c = place_from Cell c.column c.span.colspan
 
-none-due : (cursor : ℕ) (hs : List Standing) → cells_at (due_places cursor hs) ≡ []
+none-due : (cursor : ℕ) (hs : List PositionedCell) → cells_at (due_places cursor hs) ≡ []
 none-due cursor [] = refl
 none-due cursor (h ∷ hs) = elim (leb_tells h.column cursor) [ inl t ↦ rw t.0 (none-due (cursor + h.span.colspan) hs) | inr t ↦ rw t.0 refl ]
 
 none-gap : (cursor column : ℕ) → cells_at (gap_to cursor column) ≡ []
 none-gap cursor column = elim (ltb-tells cursor column) [ inl t ↦ rw t.0 refl | inr t ↦ rw t.0 refl ]
 
-pub none-rest : (cursor : ℕ) (hs : List Standing) → cells_at (rest_from cursor hs) ≡ []
+pub none-rest : (cursor : ℕ) (hs : List PositionedCell) → cells_at (rest_from cursor hs) ≡ []
 none-rest cursor [] = refl
 none-rest cursor (h ∷ hs) =
     let column = max cursor h.column in
-    filter-append (λ (p : Place). is_cell p.kind) (gap_to cursor h.column) (place Placeholder column h.span.colspan ∷ rest_from (column + h.span.colspan) hs)
+    filter-append (λ (p : Place). is_cell p.kind) (gap_to cursor h.column) (place_from Placeholder column h.span.colspan ∷ rest_from (column + h.span.colspan) hs)
     ∙ ap (λ ps. ps ++ cells_at (rest_from (column + h.span.colspan) hs)) (none-gap cursor h.column)
     ∙ none-rest (column + h.span.colspan) hs
 
-row-cells : (row cursor : ℕ) (hs : List Standing) (ss : List Span) → cells_at (row_from cursor hs ss) ≡ map cell_at (own_from row cursor hs ss)
+row-cells : (row cursor : ℕ) (hs : List PositionedCell) (ss : List Span) → cells_at (row_from cursor hs ss) ≡ map cell_at (own_from row cursor hs ss)
 row-cells row cursor hs [] = none-rest cursor hs
 row-cells row cursor hs (s ∷ ss) =
     let column = due_end cursor hs in
     let rest = row_from (column + s.colspan) (not_due cursor hs) ss in
-    filter-append (λ (p : Place). is_cell p.kind) (due_places cursor hs) (place Cell column s.colspan ∷ rest)
-    ∙ ap (λ ps. ps ++ place Cell column s.colspan ∷ cells_at rest) (none-due cursor hs)
-    ∙ ap (λ ps. place Cell column s.colspan ∷ ps) (row-cells row (column + s.colspan) (not_due cursor hs) ss)
+    filter-append (λ (p : Place). is_cell p.kind) (due_places cursor hs) (place_from Cell column s.colspan ∷ rest)
+    ∙ ap (λ ps. ps ++ place_from Cell column s.colspan ∷ cells_at rest) (none-due cursor hs)
+    ∙ ap (λ ps. place_from Cell column s.colspan ∷ ps) (row-cells row (column + s.colspan) (not_due cursor hs) ss)
 
 -- first column and number of columns of a place
 abbrev taken_by : List ℕ → Place → ℕ × ℕ
@@ -144,11 +144,11 @@ in-places es (p ∷ ps) = elim (cases_Bool (is_cell p.kind)) [
   | inr t ↦ rw t (in-places es ps)
 ]
 
-taken-own : (es : List ℕ) (cs : List Standing) → map (taken_by es) (map cell_at cs) ≡ columns_taken (map (on_columns es) cs)
+taken-own : (es : List ℕ) (cs : List PositionedCell) → map (taken_by es) (map cell_at cs) ≡ columns_taken (map (on_columns es) cs)
 taken-own es [] = refl
 taken-own es (c ∷ cs) = ap (λ r. taken_by es (cell_at c) ∷ r) (taken-own es cs)
 
-all-cells : (es : List ℕ) (row : ℕ) (hung : List Standing) (rows : List (List Span)) →
+all-cells : (es : List ℕ) (row : ℕ) (hung : List PositionedCell) (rows : List (List Span)) →
     map columns_taken (map (map (on_columns es)) (own_rows_from row hung rows))
     ≡ map (cells_in es) (take (length rows) (map (map (numbered es)) (rows_from row hung rows)))
 all-cells es row hung [] = refl
@@ -176,16 +176,16 @@ cells-in_rows rows g e =
 abbrev HasNone : List ℕ → List PlacedCell → Type 0
 HasNone es places = cells_in es places ≡ []
 
-none-bottom : (es : List ℕ) (hung : List Standing) (ns : List ℕ) →
+none-bottom : (es : List ℕ) (hung : List PositionedCell) (ns : List ℕ) →
     All (HasNone es) (map (map (numbered es)) (map (λ n. rest_from 0 (filter (λ c. nat_le n (end_of c)) hung)) ns))
 none-bottom es hung [] = All-nil (HasNone es)
 none-bottom es hung (n ∷ ns) =
-    let reaching = filter (λ (c : Standing). nat_le n (end_of c)) hung in
+    let reaching = filter (λ (c : PositionedCell). nat_le n (end_of c)) hung in
     All-cons (HasNone es) (map (numbered es) (rest_from 0 reaching))
     (map (map (numbered es)) (map (λ m. rest_from 0 (filter (λ c. nat_le m (end_of c)) hung)) ns))
     (in-places es (rest_from 0 reaching) ∙ ap (map (taken_by es)) (none-rest 0 reaching)) (none-bottom es hung ns)
 
-none-below : (es : List ℕ) (row : ℕ) (hung : List Standing) (rows : List (List Span)) →
+none-below : (es : List ℕ) (row : ℕ) (hung : List PositionedCell) (rows : List (List Span)) →
     All (HasNone es) (drop (length rows) (map (map (numbered es)) (rows_from row hung rows)))
 none-below es row hung [] = none-bottom es hung (rising (map end_of hung))
 none-below es row hung (cells ∷ more) = none-below es (row + 1) (hanging (row + 1) (hung ++ own_from row 0 hung cells)) more

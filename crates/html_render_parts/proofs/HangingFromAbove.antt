@@ -8,7 +8,7 @@ use Rattle.std.proofs.lemmas.List.{append-nil}
 use Rattle.std.proofs.lemmas.List.Elements.{All-nil, All-cons, All-append, All-contains, All-contains_itself, filter-append, filter_passes}
 use Rattle.std.proofs.lemmas.List.Sums.{sum_by-cons}
 use Rattle.html_render_parts.specs.declared.table.Span.{Span}
-use Rattle.html_render_parts.specs.declared.table.placement.Standing.{Standing}
+use Rattle.html_render_parts.specs.declared.table.placement.PositionedCell.{PositionedCell}
 use Rattle.html_render_parts.specs.Placement.{bottom_rows, by_column, by_column_with, due_end, end_of, hanging, hangs_into, not_due, own_from, own_rows_from}
 use Rattle.html_render_parts.specs.Placement.{placed_rows, row_from, rows_from}
 use Rattle.html_render_parts.specs.PlacementSteps.{AllFrom, IsByColumn}
@@ -19,7 +19,7 @@ use Rattle.html_render_parts.proofs.HangingOrder.{by_column-same, by_column_with
 -- ---- filters and the order by column
 
 -- inserting a cell that passes a test, and then filtering, is filtering and then inserting it
-kept-with : (p : Standing → Bool) (c : Standing) (cs : List Standing) → IsByColumn cs → p c ≡ true →
+kept-with : (p : PositionedCell → Bool) (c : PositionedCell) (cs : List PositionedCell) → IsByColumn cs → p c ≡ true →
     filter p (by_column_with c cs) ≡ by_column_with c (filter p cs)
 kept-with p c [] h e = rw e refl
 kept-with p c (d ∷ ds) h e = elim (leb_tells c.column d.column) [
@@ -33,7 +33,7 @@ kept-with p c (d ∷ ds) h e = elim (leb_tells c.column d.column) [
 ]
 
 -- inserting a cell that fails a test, and then filtering, is filtering alone
-dropped-with : (p : Standing → Bool) (c : Standing) (cs : List Standing) → p c ≡ false → filter p (by_column_with c cs) ≡ filter p cs
+dropped-with : (p : PositionedCell → Bool) (c : PositionedCell) (cs : List PositionedCell) → p c ≡ false → filter p (by_column_with c cs) ≡ filter p cs
 dropped-with p c [] e = rw e refl
 dropped-with p c (d ∷ ds) e = elim (leb_tells c.column d.column) [
   | inl t ↦ rw (t.0, e) refl
@@ -43,7 +43,7 @@ dropped-with p c (d ∷ ds) e = elim (leb_tells c.column d.column) [
   ]
 ]
 
-filter-by_column : (p : Standing → Bool) (cs : List Standing) → filter p (by_column cs) ≡ by_column (filter p cs)
+filter-by_column : (p : PositionedCell → Bool) (cs : List PositionedCell) → filter p (by_column cs) ≡ by_column (filter p cs)
 filter-by_column p [] = refl
 filter-by_column p (c ∷ cs) = elim (cases_Bool (p c)) [
   | inl e ↦ kept-with p c (by_column cs) (IsByColumn-by_column cs) e ∙ ap (by_column_with c) (filter-by_column p cs) ∙ sym (rw e refl)
@@ -51,7 +51,7 @@ filter-by_column p (c ∷ cs) = elim (cases_Bool (p c)) [
 ]
 
 -- a filter after a weaker one is the filter alone
-filter-both : (p q : Standing → Bool) → ((c : Standing) → p c ≡ true → q c ≡ true) → (cs : List Standing) → filter p (filter q cs) ≡ filter p cs
+filter-both : (p q : PositionedCell → Bool) → ((c : PositionedCell) → p c ≡ true → q c ≡ true) → (cs : List PositionedCell) → filter p (filter q cs) ≡ filter p cs
 filter-both p q h [] = refl
 filter-both p q h (c ∷ cs) = elim (cases_Bool (p c)) [
   | inl e ↦ rw (h c e, e) (ap (λ r. c ∷ r) (filter-both p q h cs))
@@ -61,11 +61,11 @@ filter-both p q h (c ∷ cs) = elim (cases_Bool (p c)) [
   ]
 ]
 
-ordered-is : (cs : List Standing) → by_column cs ≡ cs → IsByColumn cs
+ordered-is : (cs : List PositionedCell) → by_column cs ≡ cs → IsByColumn cs
 ordered-is cs e = subst IsByColumn e (IsByColumn-by_column cs)
 
 -- sorting sorted cells and others, which are in order, is sorting all
-by_column-again : (xs os : List Standing) → by_column os ≡ os → by_column (by_column xs ++ os) ≡ by_column (xs ++ os)
+by_column-again : (xs os : List PositionedCell) → by_column os ≡ os → by_column (by_column xs ++ os) ≡ by_column (xs ++ os)
 by_column-again xs os e =
     by_column-append (by_column xs) os e ∙ ap (λ r. merged r os) (by_column-same (by_column xs) (IsByColumn-by_column xs))
     ∙ sym (by_column-append xs os e)
@@ -73,11 +73,11 @@ by_column-again xs os e =
 -- ---- from row to row
 
 -- a cell that hangs into the next row hangs into this one
-hangs-before : (row : ℕ) (c : Standing) → hangs_into (row + 1) c ≡ true → hangs_into row c ≡ true
+hangs-before : (row : ℕ) (c : PositionedCell) → hangs_into (row + 1) c ≡ true → hangs_into row c ≡ true
 hangs-before row c e = let more = ltb-true (row + 1) (end_of c) e in lt-ltb row (end_of c) (omega arith)
 
 -- of all cells above a row and its own, those that hang into the next row are among its own and those that hang into it
-pub hanging-step : (row : ℕ) (above own : List Standing) → by_column own ≡ own →
+pub hanging-step : (row : ℕ) (above own : List PositionedCell) → by_column own ≡ own →
     hanging (row + 1) (hanging row above ++ own) ≡ hanging (row + 1) (above ++ own)
 hanging-step row above own e =
     let p = hangs_into (row + 1) in
@@ -92,17 +92,17 @@ hanging-step row above own e =
     ∙ ap by_column (sym (filter-append p above own))
     ∙ sym (filter-by_column p (above ++ own))
 
-abbrev all_of : List (List Standing) → List Standing
+abbrev all_of : List (List PositionedCell) → List PositionedCell
 all_of rows = flat_map (λ own. own) rows
 
 -- the cells that hang into the next row are those of all rows above it that do
-next-hanging : (row : ℕ) (hung above : List Standing) (cells : List Span) → hung ≡ hanging row above →
+next-hanging : (row : ℕ) (hung above : List PositionedCell) (cells : List Span) → hung ≡ hanging row above →
     hanging (row + 1) (hung ++ own_from row 0 hung cells) ≡ hanging (row + 1) (above ++ own_from row 0 hung cells)
 next-hanging row hung above cells e =
     ap (λ hs. hanging (row + 1) (hs ++ own_from row 0 hung cells)) e
     ∙ hanging-step row above (own_from row 0 hung cells) (by_column-own row 0 hung cells)
 
-row-at : (rows : List (List Span)) (from : ℕ) (hung above : List Standing) → hung ≡ hanging from above → (k n : ℕ) → n ≡ from + k →
+row-at : (rows : List (List Span)) (from : ℕ) (hung above : List PositionedCell) → hung ≡ hanging from above → (k n : ℕ) → n ≡ from + k →
     k < length rows
     → get_or (rows_from from hung rows) k []
     ≡ row_from 0 (hanging n (above ++ all_of (take k (own_rows_from from hung rows)))) (get_or rows k [])
@@ -116,7 +116,7 @@ row-at (cells ∷ more) from hung above e (suc k) n at inside =
     row-at more (from + 1) next (above ++ own) (next-hanging from hung above cells e) k n (omega arith) (omega arith)
     ∙ ap (λ cs. row_from 0 (hanging n cs) (get_or more k [])) (append_assoc above own (all_of (take k (own_rows_from (from + 1) next more))))
 
-own-at : (rows : List (List Span)) (from : ℕ) (hung above : List Standing) → hung ≡ hanging from above → (k n : ℕ) → n ≡ from + k →
+own-at : (rows : List (List Span)) (from : ℕ) (hung above : List PositionedCell) → hung ≡ hanging from above → (k n : ℕ) → n ≡ from + k →
     k < length rows
     → get_or (own_rows_from from hung rows) k []
     ≡ own_from n 0 (hanging n (above ++ all_of (take k (own_rows_from from hung rows)))) (get_or rows k [])
@@ -130,7 +130,7 @@ own-at (cells ∷ more) from hung above e (suc k) n at inside =
     own-at more (from + 1) next (above ++ own) (next-hanging from hung above cells e) k n (omega arith) (omega arith)
     ∙ ap (λ cs. own_from n 0 (hanging n cs) (get_or more k [])) (append_assoc above own (all_of (take k (own_rows_from (from + 1) next more))))
 
-bottom-at : (rows : List (List Span)) (from : ℕ) (hung above : List Standing) → hung ≡ hanging from above → (n : ℕ) → n ≡ from + length rows →
+bottom-at : (rows : List (List Span)) (from : ℕ) (hung above : List PositionedCell) → hung ≡ hanging from above → (n : ℕ) → n ≡ from + length rows →
     drop (length rows) (rows_from from hung rows)
     ≡ bottom_rows (hanging n (above ++ all_of (take (length rows) (own_rows_from from hung rows))))
 bottom-at [] from hung above e n at =
@@ -156,21 +156,21 @@ bottom-above rows = bottom-at rows 0 [] [] refl (length rows) (omega arith)
 
 -- ---- the cells above a row are of earlier rows
 
-own-of_row : (row cursor : ℕ) (hs : List Standing) (ss : List Span) (n : ℕ) → row < n → All (λ c. c.row < n) (own_from row cursor hs ss)
-own-of_row row cursor hs [] n less = All-nil (λ (c : Standing). c.row < n)
+own-of_row : (row cursor : ℕ) (hs : List PositionedCell) (ss : List Span) (n : ℕ) → row < n → All (λ c. c.row < n) (own_from row cursor hs ss)
+own-of_row row cursor hs [] n less = All-nil (λ (c : PositionedCell). c.row < n)
 own-of_row row cursor hs (s ∷ ss) n less =
     let column = due_end cursor hs in
-    All-cons (λ (c : Standing). c.row < n) (record { row = row; column = column; span = s })
+    All-cons (λ (c : PositionedCell). c.row < n) (record { row = row; column = column; span = s })
     (own_from row (column + s.colspan) (not_due cursor hs) ss) less (own-of_row row (column + s.colspan) (not_due cursor hs) ss n less)
 
-above-of_rows : (rows : List (List Span)) (from : ℕ) (hung : List Standing) (k n : ℕ) → n ≡ from + k →
+above-of_rows : (rows : List (List Span)) (from : ℕ) (hung : List PositionedCell) (k n : ℕ) → n ≡ from + k →
     All (λ c. c.row < n) (all_of (take k (own_rows_from from hung rows)))
-above-of_rows rows from hung zero n at = All-nil (λ (c : Standing). c.row < n)
-above-of_rows [] from hung (suc k) n at = All-nil (λ (c : Standing). c.row < n)
+above-of_rows rows from hung zero n at = All-nil (λ (c : PositionedCell). c.row < n)
+above-of_rows [] from hung (suc k) n at = All-nil (λ (c : PositionedCell). c.row < n)
 above-of_rows (cells ∷ more) from hung (suc k) n at =
     let own = own_from from 0 hung cells in
     let next = hanging (from + 1) (hung ++ own) in
-    All-append (λ (c : Standing). c.row < n) own (all_of (take k (own_rows_from (from + 1) next more)))
+    All-append (λ (c : PositionedCell). c.row < n) own (all_of (take k (own_rows_from (from + 1) next more)))
     (own-of_row from 0 hung cells n (omega arith)) (above-of_rows more (from + 1) next k n (omega arith))
 
 pub above-earlier : (rows : List (List Span)) (row : ℕ) → All (λ c. c.row < row) (cells_above row rows)
@@ -178,30 +178,30 @@ above-earlier rows row = above-of_rows rows 0 [] row row (omega arith)
 
 -- ---- which cells hang into a row
 
-here : (x : Standing) (xs : List Standing) → Contains (x ∷ xs) x
+here : (x : PositionedCell) (xs : List PositionedCell) → Contains (x ∷ xs) x
 here x xs = (0, omega arith, refl)
 
-there : (x c : Standing) (xs : List Standing) → Contains xs c → Contains (x ∷ xs) c
+there : (x c : PositionedCell) (xs : List PositionedCell) → Contains xs c → Contains (x ∷ xs) c
 there x c xs h = (suc h.0, let inside = h.1 in omega arith, h.2)
 
-none-there : (c : Standing) → Contains [] c → ⊥
+none-there : (c : PositionedCell) → Contains [] c → ⊥
 none-there c h = let inside = h.1 in omega arith
 
-there-or_here : (x c : Standing) (xs : List Standing) → Contains (x ∷ xs) c → (x ≡ c) ⊎ Contains xs c
+there-or_here : (x c : PositionedCell) (xs : List PositionedCell) → Contains (x ∷ xs) c → (x ≡ c) ⊎ Contains xs c
 there-or_here x c xs h = by h.0 h.1 h.2
   where
     by : (k : ℕ) → k < length (x ∷ xs) → get_or (x ∷ xs) k c ≡ c → (x ≡ c) ⊎ Contains xs c
     by zero inside e = inl e
     by (suc k) inside e = inr (k, omega arith, e)
 
-contains-with : (a : Standing) (cs : List Standing) → Contains (by_column_with a cs) a
+contains-with : (a : PositionedCell) (cs : List PositionedCell) → Contains (by_column_with a cs) a
 contains-with a [] = here a []
 contains-with a (d ∷ ds) = elim (leb_tells a.column d.column) [
   | inl t ↦ rw t.0 (here a (d ∷ ds))
   | inr t ↦ rw t.0 (there d a (by_column_with a ds) (contains-with a ds))
 ]
 
-contains-with_more : (a c : Standing) (cs : List Standing) → Contains cs c → Contains (by_column_with a cs) c
+contains-with_more : (a c : PositionedCell) (cs : List PositionedCell) → Contains cs c → Contains (by_column_with a cs) c
 contains-with_more a c [] h = absurd (none-there c h)
 contains-with_more a c (d ∷ ds) h = elim (leb_tells a.column d.column) [
   | inl t ↦ rw t.0 (there a c (d ∷ ds) h)
@@ -211,14 +211,14 @@ contains-with_more a c (d ∷ ds) h = elim (leb_tells a.column d.column) [
   ])
 ]
 
-contains-ordered : (c : Standing) (cs : List Standing) → Contains cs c → Contains (by_column cs) c
+contains-ordered : (c : PositionedCell) (cs : List PositionedCell) → Contains cs c → Contains (by_column cs) c
 contains-ordered c [] h = h
 contains-ordered c (d ∷ ds) h = elim (there-or_here d c ds h) [
   | inl e ↦ subst (λ x. Contains (by_column_with d (by_column ds)) x) e (contains-with d (by_column ds))
   | inr g ↦ contains-with_more d c (by_column ds) (contains-ordered c ds g)
 ]
 
-contains-passing : (p : Standing → Bool) (c : Standing) (cs : List Standing) → p c ≡ true → Contains cs c → Contains (filter p cs) c
+contains-passing : (p : PositionedCell → Bool) (c : PositionedCell) (cs : List PositionedCell) → p c ≡ true → Contains cs c → Contains (filter p cs) c
 contains-passing p c [] e h = h
 contains-passing p c (d ∷ ds) e h = elim (there-or_here d c ds h) [
   | inl f ↦ let passes : p d ≡ true = ap p f ∙ e in
@@ -229,34 +229,34 @@ contains-passing p c (d ∷ ds) e h = elim (there-or_here d c ds h) [
   ]
 ]
 
-pub hangs-there : (row : ℕ) (above : List Standing) (c : Standing) → Contains (hanging row above) c → Contains above c × (row < end_of c)
+pub hangs-there : (row : ℕ) (above : List PositionedCell) (c : PositionedCell) → Contains (hanging row above) c → Contains above c × (row < end_of c)
 hangs-there row above c h = (
   All-contains (Contains above) (hanging row above) c (All-hanging (Contains above) row above (All-contains_itself above)) h,
   ltb-true row (end_of c)
       (All-contains (λ d. hangs_into row d ≡ true) (hanging row above) c (filter_passes (hangs_into row) (by_column above)) h),
 )
 
-pub there-hangs : (row : ℕ) (above : List Standing) (c : Standing) → Contains above c × (row < end_of c) → Contains (hanging row above) c
+pub there-hangs : (row : ℕ) (above : List PositionedCell) (c : PositionedCell) → Contains above c × (row < end_of c) → Contains (hanging row above) c
 there-hangs row above c h =
     contains-passing (hangs_into row) c (by_column above) (lt-ltb row (end_of c) h.1) (contains-ordered c above h.0)
 
 -- ---- how often each cell is there
 
-count-cons : (q : Standing → Bool) (c : Standing) (cs : List Standing) → count_by q (c ∷ cs) ≡ cond (q c) 1 0 + count_by q cs
+count-cons : (q : PositionedCell → Bool) (c : PositionedCell) (cs : List PositionedCell) → count_by q (c ∷ cs) ≡ cond (q c) 1 0 + count_by q cs
 count-cons q c cs = sum_by-cons (λ x. cond (q x) 1 0) c cs
 
-count-with : (q : Standing → Bool) (c : Standing) (cs : List Standing) → count_by q (by_column_with c cs) ≡ cond (q c) 1 0 + count_by q cs
+count-with : (q : PositionedCell → Bool) (c : PositionedCell) (cs : List PositionedCell) → count_by q (by_column_with c cs) ≡ cond (q c) 1 0 + count_by q cs
 count-with q c [] = count-cons q c []
 count-with q c (d ∷ ds) = elim (leb_tells c.column d.column) [
   | inl t ↦ rw t.0 (count-cons q c (d ∷ ds))
   | inr t ↦ rw t.0 (omega (arith, count-cons q d (by_column_with c ds), count-with q c ds, count-cons q d ds))
 ]
 
-count-ordered : (q : Standing → Bool) (cs : List Standing) → count_by q (by_column cs) ≡ count_by q cs
+count-ordered : (q : PositionedCell → Bool) (cs : List PositionedCell) → count_by q (by_column cs) ≡ count_by q cs
 count-ordered q [] = refl
 count-ordered q (c ∷ cs) = omega (arith, count-with q c (by_column cs), count-ordered q cs, count-cons q c cs)
 
-count-passing : (p q : Standing → Bool) (cs : List Standing) → count_by q (filter p cs) ≡ count_by (λ c. p c && q c) cs
+count-passing : (p q : PositionedCell → Bool) (cs : List PositionedCell) → count_by q (filter p cs) ≡ count_by (λ c. p c && q c) cs
 count-passing p q [] = refl
 count-passing p q (c ∷ cs) =
     let both = count-cons (λ d. p d && q d) c cs in
@@ -265,7 +265,7 @@ count-passing p q (c ∷ cs) =
       | inr t ↦ let b = rw t at both in rw t (omega (arith, count-passing p q cs, b))
     ]
 
-pub hanging-counts : (row : ℕ) (above : List Standing) (q : Standing → Bool) →
+pub hanging-counts : (row : ℕ) (above : List PositionedCell) (q : PositionedCell → Bool) →
     count_by q (hanging row above) ≡ count_by (λ c. hangs_into row c && q c) above
 hanging-counts row above q =
     count-passing (hangs_into row) q (by_column above) ∙ count-ordered (λ c. hangs_into row c && q c) above

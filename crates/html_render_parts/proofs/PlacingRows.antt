@@ -11,11 +11,11 @@ use Rattle.html_render_dom_values.specs.declared.errors.Error.TheVariants.{TooNa
 use Rattle.html_render_parts.specs.declared.table.Span.{Span}
 use Rattle.html_render_parts.specs.declared.table.CellKind.{CellKind}
 use Rattle.html_render_parts.specs.declared.table.CellKind.TheVariants.{Cell, Placeholder, Gap}
-use Rattle.html_render_parts.specs.declared.table.placement.Standing.{Standing}
+use Rattle.html_render_parts.specs.declared.table.placement.PositionedCell.{PositionedCell}
 use Rattle.html_render_parts.specs.Placement.{hangs_into, due_places, due_end, not_due, gap_to, rest_from, row_from, own_from}
 use Rattle.html_render_parts.specs.PlacementSteps.{RowSoFar, empty_row, put_to, telling_end, owning, keeping, with_hanging, with_due, with_own}
 use Rattle.html_render_parts.specs.PlacementSteps.{with_gap, with_rest, with_row, displaced_end, due_told, rest_told, row_told, IsByColumn}
-use Rattle.html_render_parts.specs.PlacementSteps.{Placing, row_fits, with_next}
+use Rattle.html_render_parts.specs.PlacementSteps.{Placing, row_fits, with_next_row}
 use Rattle.html_render_parts.specs.Refusal.{Fails}
 use Rattle.html_render_parts.proofs.HangingOrder.{due_taken, in_row, hanging-next, IsByColumn-hanging}
 use Rattle.html_render_parts.proofs.NumberTests.{ltb-tells}
@@ -75,10 +75,10 @@ put_to-gives row kind end built = elim (cases_Bool (nat_lt end (2 ^ 128))) [
 
 -- ---- one cell
 
-abbrev placeholder : Standing → ℕ → RowSoFar
+abbrev placeholder : PositionedCell → ℕ → RowSoFar
 placeholder h cursor = record (one_place Placeholder cursor (cursor + h.span.colspan)) { told = displaced_end cursor h }
 
-with_hanging-gives : (row : ℕ) (h : Standing) (built : RowSoFar) → Gives row built (placeholder h built.cursor) (with_hanging h built)
+with_hanging-gives : (row : ℕ) (h : PositionedCell) (built : RowSoFar) → Gives row built (placeholder h built.cursor) (with_hanging h built)
 with_hanging-gives row h built =
     let end = built.cursor + h.span.colspan in
     let put = put_to-gives row Placeholder end built in
@@ -91,13 +91,13 @@ with_hanging-gives row h built =
 
 abbrev own_cell : ℕ → Span → ℕ → RowSoFar
 own_cell row s cursor =
-    let c : Standing = record { row = row; column = cursor; span = s } in
+    let c : PositionedCell = record { row = row; column = cursor; span = s } in
     let end = cursor + s.colspan in
     record (one_place Cell cursor end) { own = c ∷ []; told = end ∷ []; kept = c ∷ [] }
 
 with_own-gives : (row : ℕ) (s : Span) (built : RowSoFar) → Gives row built (own_cell row s built.cursor) (with_own row s built)
 with_own-gives row s built =
-    let c : Standing = record { row = row; column = built.cursor; span = s } in
+    let c : PositionedCell = record { row = row; column = built.cursor; span = s } in
     let end = built.cursor + s.colspan in
     Gives-then row built (one_place Cell built.cursor end) (λ x. record (none_at x) { own = c ∷ []; told = x ∷ []; kept = c ∷ [] })
     (put_to Cell end built) (λ l. Some (keeping row (c ∷ []) (owning c (telling_end l)))) (put_to-gives row Cell end built)
@@ -114,7 +114,7 @@ with_gap-gives row column built = elim (ltb-tells built.cursor column) [
 
 -- ---- the placeholders that are due, and those after the row's own cells
 
-abbrev due : List Standing → ℕ → RowSoFar
+abbrev due : List PositionedCell → ℕ → RowSoFar
 due hs cursor = record {
   places = due_places cursor hs;
   own = [];
@@ -123,7 +123,7 @@ due hs cursor = record {
   cursor = due_end cursor hs;
 }
 
-with_due-gives : (row : ℕ) (hs : List Standing) (built : RowSoFar) → Gives row built (due hs built.cursor) (with_due row hs built)
+with_due-gives : (row : ℕ) (hs : List PositionedCell) (built : RowSoFar) → Gives row built (due hs built.cursor) (with_due row hs built)
 with_due-gives row [] built = Gives-same row built
 with_due-gives row (h ∷ hs) built = elim (cases_Bool (nat_le h.column built.cursor)) [
   | inl e ↦
@@ -135,14 +135,14 @@ with_due-gives row (h ∷ hs) built = elim (cases_Bool (nat_le h.column built.cu
 ]
 
 -- the cursor after the placeholders that follow the row's own cells
-abbrev rest_end : ℕ → List Standing → ℕ
+abbrev rest_end : ℕ → List PositionedCell → ℕ
 rest_end cursor [] = cursor
 rest_end cursor (h ∷ hs) = rest_end (max cursor h.column + h.span.colspan) hs
 
-abbrev rest : List Standing → ℕ → RowSoFar
+abbrev rest : List PositionedCell → ℕ → RowSoFar
 rest hs cursor = record { places = rest_from cursor hs; own = []; told = rest_told cursor hs; kept = []; cursor = rest_end cursor hs }
 
-with_rest-gives : (row : ℕ) (hs : List Standing) (built : RowSoFar) → Gives row built (rest hs built.cursor) (with_rest hs built)
+with_rest-gives : (row : ℕ) (hs : List PositionedCell) (built : RowSoFar) → Gives row built (rest hs built.cursor) (with_rest hs built)
 with_rest-gives row [] built = Gives-same row built
 with_rest-gives row (h ∷ hs) built =
     Gives-then row built (gap h.column built.cursor) (λ x. then (placeholder h x) (rest hs (x + h.span.colspan))) (with_gap h.column built)
@@ -153,11 +153,11 @@ with_rest-gives row (h ∷ hs) built =
 -- ---- the row
 
 -- the cursor after a row
-abbrev row_end : ℕ → List Standing → List Span → ℕ
+abbrev row_end : ℕ → List PositionedCell → List Span → ℕ
 row_end cursor hs [] = rest_end cursor hs
 row_end cursor hs (s ∷ ss) = row_end (due_end cursor hs + s.colspan) (not_due cursor hs) ss
 
-abbrev whole : ℕ → List Standing → List Span → ℕ → RowSoFar
+abbrev whole : ℕ → List PositionedCell → List Span → ℕ → RowSoFar
 whole row hs ss cursor = record {
   places = row_from cursor hs ss;
   own = own_from row cursor hs ss;
@@ -166,7 +166,7 @@ whole row hs ss cursor = record {
   cursor = row_end cursor hs ss;
 }
 
-with_row-gives : (row : ℕ) (ss : List Span) (hs : List Standing) (built : RowSoFar) →
+with_row-gives : (row : ℕ) (ss : List Span) (hs : List PositionedCell) (built : RowSoFar) →
     Gives row built (whole row hs ss built.cursor) (with_row row ss hs built)
 with_row-gives row [] hs built =
     simp append-nil (simp append-nil at (Gives-then row built (rest hs built.cursor) (λ x. record (none_at x) { kept = hs }) (with_rest hs built)
@@ -180,38 +180,38 @@ with_row-gives row (s ∷ ss) hs built =
 
 -- ---- rows that fit
 
-row-gives : (row : ℕ) (ss : List Span) (hung : List Standing) (o : Option RowSoFar) → with_row row ss hung empty_row ≡ o →
+row-gives : (row : ℕ) (ss : List Span) (hung : List PositionedCell) (o : Option RowSoFar) → with_row row ss hung empty_row ≡ o →
     Gives row empty_row (whole row hung ss 0) o
 row-gives row ss hung o e = subst (Gives row empty_row (whole row hung ss 0)) e (with_row-gives row ss hung empty_row)
 
 -- a placed row is the definition's next row
-pub next-made : (row : ℕ) (ss : List Span) (done : Placing) (hung : List Standing) (l : RowSoFar) → done.hanging ≡ hung →
+pub next-made : (row : ℕ) (ss : List Span) (done : Placing) (hung : List PositionedCell) (l : RowSoFar) → done.hanging ≡ hung →
     IsByColumn hung
     → with_row row ss hung empty_row ≡ Some l →
-    with_next row ss done ≡ Some (record { places = l.places; own = l.own; told = l.told; hanging = l.kept })
+    with_next_row row ss done ≡ Some (record { places = l.places; own = l.own; told = l.told; hanging = l.kept })
 next-made row ss done hung l same ordered e = let h = row-gives row ss hung (Some l) e in rw (same, h.1, h.0, hanging-next row hung ss ordered) refl
 
 -- the cells that a placed row keeps are in order of own column
-pub kept-ordered : (row : ℕ) (ss : List Span) (hung : List Standing) (l : RowSoFar) → IsByColumn hung →
+pub kept-ordered : (row : ℕ) (ss : List Span) (hung : List PositionedCell) (l : RowSoFar) → IsByColumn hung →
     with_row row ss hung empty_row ≡ Some l → IsByColumn l.kept
 kept-ordered row ss hung l ordered e =
     rw ((row-gives row ss hung (Some l) e).0, hanging-next row hung ss ordered) (IsByColumn-hanging (row + 1) (hung ++ own_from row 0 hung ss))
 
 -- an error of placing a row is one of the definition
-pub next-refused : (e : Error) (row : ℕ) (ss : List Span) (done : Placing) (hung : List Standing) → done.hanging ≡ hung →
+pub next-refused : (e : Error) (row : ℕ) (ss : List Span) (done : Placing) (hung : List PositionedCell) → done.hanging ≡ hung →
     Fails e (with_row row ss hung empty_row)
-    → Fails e (with_next row ss done)
+    → Fails e (with_next_row row ss done)
 next-refused TooNarrow row ss done hung same h = h
 next-refused OutOfMemory row ss done hung same h = tt
 next-refused Fail row ss done hung same h = rw (same, row-gives row ss hung None h) refl
 
 -- a row below the last one adds the placeholders of the cells that hang there
-bottom-gives : (hung : List Standing) (o : Option RowSoFar) → with_rest hung empty_row ≡ o → Gives 0 empty_row (rest hung 0) o
+bottom-gives : (hung : List PositionedCell) (o : Option RowSoFar) → with_rest hung empty_row ≡ o → Gives 0 empty_row (rest hung 0) o
 bottom-gives hung o e = subst (Gives 0 empty_row (rest hung 0)) e (with_rest-gives 0 hung empty_row)
 
-pub bottom-made : (hung : List Standing) (l : RowSoFar) → with_rest hung empty_row ≡ Some l →
+pub bottom-made : (hung : List PositionedCell) (l : RowSoFar) → with_rest hung empty_row ≡ Some l →
     (l.places ≡ rest_from 0 hung) × (l.told ≡ rest_told 0 hung) × (row_fits l.places ≡ true)
 bottom-made hung l e = let h = bottom-gives hung (Some l) e in (ap (λ r. r.places) h.0, ap (λ r. r.told) h.0, rw h.0 h.1)
 
-pub bottom-past : (hung : List Standing) → with_rest hung empty_row ≡ None → row_fits (rest_from 0 hung) ≡ false
+pub bottom-past : (hung : List PositionedCell) → with_rest hung empty_row ≡ None → row_fits (rest_from 0 hung) ≡ false
 bottom-past hung e = bottom-gives hung None e

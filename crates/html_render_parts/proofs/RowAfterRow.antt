@@ -2,9 +2,9 @@
 use Rattle.std.proofs.Common.{◌≡◌, ℕ, ◌+◌, true, false, List, [], ◌∷◌, ◌++◌, Some, None, refl, sym, ap, ◌∙◌, append_assoc, inl, inr}
 use Rattle.std.proofs.lemmas.Bool.{cases_Bool}
 use Rattle.html_render_parts.specs.declared.table.Span.{Span}
-use Rattle.html_render_parts.specs.declared.table.placement.Standing.{Standing}
+use Rattle.html_render_parts.specs.declared.table.placement.PositionedCell.{PositionedCell}
 use Rattle.html_render_parts.specs.Placement.{bottom_rows, hanging, own_from, own_rows_from, row_from, rows_from}
-use Rattle.html_render_parts.specs.PlacementSteps.{IsNextBottom, Placing, row_fits, row_told, with_next}
+use Rattle.html_render_parts.specs.PlacementSteps.{IsNextBottom, Placing, row_fits, row_told, with_next_row}
 use Rattle.html_render_parts.specs.Grid.{positions_fit}
 
 -- whether `next` places the definition's next row, and it fits
@@ -15,7 +15,7 @@ pub record IsNext (row : ℕ) (cells : List Span) (done next : Placing) : Type 0
   pub hangs_on : next.hanging ≡ hanging (row + 1) (done.hanging ++ own_from row 0 done.hanging cells)
   pub fits : row_fits (row_from 0 done.hanging cells) ≡ true
 
-pub next-is : (row : ℕ) (cells : List Span) (done next : Placing) → with_next row cells done ≡ Some next → IsNext row cells done next
+pub next-is : (row : ℕ) (cells : List Span) (done next : Placing) → with_next_row row cells done ≡ Some next → IsNext row cells done next
 next-is row cells done next e = elim (cases_Bool (row_fits (row_from 0 done.hanging cells))) [
   | inl t ↦
       let own = own_from row 0 done.hanging cells in
@@ -36,7 +36,7 @@ next-is row cells done next e = elim (cases_Bool (row_fits (row_from 0 done.hang
   | inr t ↦ let f = rw t at e in cc
 ]
 
-pub next-past : (row : ℕ) (cells : List Span) (done : Placing) → with_next row cells done ≡ None → row_fits (row_from 0 done.hanging cells) ≡ false
+pub next-past : (row : ℕ) (cells : List Span) (done : Placing) → with_next_row row cells done ≡ None → row_fits (row_from 0 done.hanging cells) ≡ false
 next-past row cells done e = elim (cases_Bool (row_fits (row_from 0 done.hanging cells))) [ inl t ↦ let f = rw t at e in cc | inr t ↦ t ]
 
 -- ---- whether all rows fit
@@ -50,7 +50,7 @@ pub fits-bottom : (done next : Placing) → IsNextBottom done next → positions
 fits-bottom done next is = rw (is.rows, is.fits) refl
 
 -- own cells of all rows: those of the placed rows and those of the others
-pub own-next : (all own : List (List Standing)) (row : ℕ) (cells : List Span) (more : List (List Span)) (done next : Placing) →
+pub own-next : (all own : List (List PositionedCell)) (row : ℕ) (cells : List Span) (more : List (List Span)) (done next : Placing) →
     IsNext row cells done next
     → own ++ own_rows_from row done.hanging (cells ∷ more) ≡ all →
     (own ++ next.own ∷ []) ++ own_rows_from (row + 1) next.hanging more ≡ all

@@ -8,9 +8,9 @@ use Rattle.html_render_dom_values.specs.declared.errors.Error.{Error}
 use Rattle.html_render_dom_values.specs.declared.errors.Error.TheVariants.{TooNarrow, Fail, OutOfMemory}
 use Rattle.html_render_parts.specs.declared.table.cells.GridCell.{GridCell}
 use Rattle.html_render_parts.specs.declared.table.placement.Place.{Place}
-use Rattle.html_render_parts.specs.declared.table.placement.Standing.{Standing}
+use Rattle.html_render_parts.specs.declared.table.placement.PositionedCell.{PositionedCell}
 use Rattle.html_render_parts.specs.Placement.{bottom_rows, lists, rows_from}
-use Rattle.html_render_parts.specs.PlacementSteps.{AreAhead, IsNextBottom, Placing, places_ahead, with_next}
+use Rattle.html_render_parts.specs.PlacementSteps.{AreAhead, IsNextBottom, Placing, places_ahead, with_next_row}
 use Rattle.html_render_parts.specs.Grid.{positions_fit}
 use Rattle.html_render_parts.specs.TableCells.{CellGrid, IsCellGrid, columns_of, span_on, spans_on}
 use Rattle.html_render_parts.specs.Refusal.{Fails}
@@ -63,19 +63,19 @@ own-on_edges g rows row cells same inside is h =
     (at-vector (All (IsWithin (columns_of g))) rows row cells (subst (All (All (IsWithin (columns_of g)))) (sym same) h) inside is)
 
 -- after the table's own rows follow the rows below the last one
-bottom-ahead : (g : CellGrid) (row : ℕ) (hung : List Standing) → length g.rows ≤ row → places_ahead g row hung ≡ bottom_rows hung
+bottom-ahead : (g : CellGrid) (row : ℕ) (hung : List PositionedCell) → length g.rows ≤ row → places_ahead g row hung ≡ bottom_rows hung
 bottom-ahead g row hung past =
     let more : length (spans_on g) ≤ row = subst (λ n. n ≤ row) (sym (length-map g.rows (map (span_on g.edges)))) past in
     ap (rows_from row hung) (drop_all row (spans_on g) more)
 
 -- whether `next` places the first of these rows, and the others remain
-pub record IsAhead (g : CellGrid) (row : ℕ) (hung : List Standing) (row' : ℕ) (next : Placing) : Type 0 where
+pub record IsAhead (g : CellGrid) (row : ℕ) (hung : List PositionedCell) (row' : ℕ) (next : Placing) : Type 0 where
   pub places : places_ahead g row hung ≡ next.places ∷ places_ahead g row' next.hanging
   pub ahead : AreAhead g row' next.hanging
 
 pub own-next : (g : CellGrid) (row : ℕ) (cells : List GridCell) (done next : Placing) → row < length g.rows →
     get_or g.rows row cells ≡ cells
-    → AreAhead g row done.hanging → with_next row (map (span_on g.edges) cells) done ≡ Some next →
+    → AreAhead g row done.hanging → with_next_row row (map (span_on g.edges) cells) done ≡ Some next →
     IsAhead g row done.hanging (row + 1) next
 own-next g row cells done next inside at h made =
     let spans = map (span_on g.edges) cells in
@@ -119,7 +119,7 @@ bottom-still g row done next (Ok false) past h is stays = subst (λ p. AreAhead 
 bottom-still g row done next (Err e) past h is stays = subst (AreAhead g row) (sym stays) h
 
 -- no place of the next row starts after its end
-pub next-ordered : (g : CellGrid) (row : ℕ) (hung : List Standing) (places : List Place) (more : List (List Place)) →
+pub next-ordered : (g : CellGrid) (row : ℕ) (hung : List PositionedCell) (places : List Place) (more : List (List Place)) →
     AreAhead g row hung
     → places_ahead g row hung ≡ places ∷ more → All IsOrdered places
 next-ordered g row hung places more h is = All-head (All IsOrdered) places more (subst (All (All IsOrdered)) is h.ordered)
@@ -128,7 +128,7 @@ next-ordered g row hung places more h is = All-head (All IsOrdered) places more 
 
 pub own-memory : (g : CellGrid) (row : ℕ) (cells : List GridCell) (done : Placing) (e : Error) → row < length g.rows →
     get_or g.rows row cells ≡ cells
-    → AreAhead g row done.hanging → Fails e (with_next row (map (span_on g.edges) cells) done) → e ≡ OutOfMemory
+    → AreAhead g row done.hanging → Fails e (with_next_row row (map (span_on g.edges) cells) done) → e ≡ OutOfMemory
 own-memory g row cells done TooNarrow inside at h fails = absurd fails
 own-memory g row cells done OutOfMemory inside at h fails = refl
 own-memory g row cells done Fail inside at h fails =

@@ -9,8 +9,8 @@ use Rattle.html_render_parts.specs.declared.table.Span.{Span}
 use Rattle.html_render_parts.specs.declared.table.CellKind.TheVariants.{Cell, Placeholder}
 use Rattle.html_render_parts.specs.declared.table.PlacedCell.{PlacedCell}
 use Rattle.html_render_parts.specs.declared.table.placement.Place.{Place}
-use Rattle.html_render_parts.specs.declared.table.placement.Standing.{Standing}
-use Rattle.html_render_parts.specs.Placement.{end_of, hanging, place, due_places, due_end, not_due, gap_to}
+use Rattle.html_render_parts.specs.declared.table.placement.PositionedCell.{PositionedCell}
+use Rattle.html_render_parts.specs.Placement.{end_of, hanging, place_from, due_places, due_end, not_due, gap_to}
 use Rattle.html_render_parts.specs.Placement.{rest_from, row_from, own_from, rising, rows_from, placed_rows}
 use Rattle.html_render_parts.specs.Grid.{AreSideBySide, AreValid, ends, edges_of, rank, numbered}
 use Rattle.html_render_parts.proofs.EdgeRanks.{Contains-here, Contains-rising, Contains-there, rank-below, rank-less, rank-mono}
@@ -27,13 +27,13 @@ Between-append b c d (p ∷ ps) qs h k = (h.0, h.1, Between-append p.end c d ps 
 
 -- ---- cells that span a column
 
-abbrev pub Wide : Standing → Type 0
+abbrev pub Wide : PositionedCell → Type 0
 Wide c = 1 ≤ c.span.colspan
 
 abbrev Valid : Span → Type 0
 Valid s = (1 ≤ s.colspan) × (1 ≤ s.rowspan)
 
-pub Wide-own_from : (row cursor : ℕ) (hs : List Standing) (ss : List Span) → All Valid ss → All Wide (own_from row cursor hs ss)
+pub Wide-own_from : (row cursor : ℕ) (hs : List PositionedCell) (ss : List Span) → All Valid ss → All Wide (own_from row cursor hs ss)
 Wide-own_from row cursor hs [] v = All-nil Wide
 Wide-own_from row cursor hs (s ∷ ss) v =
     let column = due_end cursor hs in
@@ -43,7 +43,7 @@ Wide-own_from row cursor hs (s ∷ ss) v =
 
 -- ---- one row
 
-Between-due : (cursor : ℕ) (hs : List Standing) → All Wide hs → Between cursor (due_end cursor hs) (due_places cursor hs)
+Between-due : (cursor : ℕ) (hs : List PositionedCell) → All Wide hs → Between cursor (due_end cursor hs) (due_places cursor hs)
 Between-due cursor [] w = refl
 Between-due cursor (h ∷ hs) w =
     let wide : 1 ≤ h.span.colspan = All-head Wide h hs w in
@@ -57,18 +57,18 @@ Between-gap cursor column = grind (arith, nat_tests)
 abbrev Ends : ℕ → List Place → Type 0
 Ends c ps = (d : ℕ) × Between c d ps
 
-Ends-rest : (cursor : ℕ) (hs : List Standing) → All Wide hs → Ends cursor (rest_from cursor hs)
+Ends-rest : (cursor : ℕ) (hs : List PositionedCell) → All Wide hs → Ends cursor (rest_from cursor hs)
 Ends-rest cursor [] w = (cursor, refl)
 Ends-rest cursor (h ∷ hs) w =
     let column = max cursor h.column in
     let rest = Ends-rest (column + h.span.colspan) hs (All-tail Wide h hs w) in (
       rest.0,
       Between-append cursor column rest.0 (gap_to cursor h.column)
-          (place Placeholder column h.span.colspan ∷ rest_from (column + h.span.colspan) hs) (Between-gap cursor h.column)
+          (place_from Placeholder column h.span.colspan ∷ rest_from (column + h.span.colspan) hs) (Between-gap cursor h.column)
           (refl, let wide : 1 ≤ h.span.colspan = All-head Wide h hs w in omega arith, rest.1),
     )
 
-Ends-row : (cursor : ℕ) (hs : List Standing) (ss : List Span) → All Wide hs → All Valid ss → Ends cursor (row_from cursor hs ss)
+Ends-row : (cursor : ℕ) (hs : List PositionedCell) (ss : List Span) → All Wide hs → All Valid ss → Ends cursor (row_from cursor hs ss)
 Ends-row cursor hs [] w v = Ends-rest cursor hs w
 Ends-row cursor hs (s ∷ ss) w v =
     let column = due_end cursor hs in
@@ -76,20 +76,20 @@ Ends-row cursor hs (s ∷ ss) w v =
     let rest = Ends-row (column + s.colspan) (not_due cursor hs) ss (All-not_due Wide cursor hs w) (All-tail Valid s ss v) in (
       rest.0,
       Between-append cursor column rest.0 (due_places cursor hs)
-          (place Cell column s.colspan ∷ row_from (column + s.colspan) (not_due cursor hs) ss) (Between-due cursor hs w)
+          (place_from Cell column s.colspan ∷ row_from (column + s.colspan) (not_due cursor hs) ss) (Between-due cursor hs w)
           (refl, let wide = valid.0 in omega arith, rest.1),
     )
 
 -- ---- all rows
 
-Ends-bottoms : (hung : List Standing) → All Wide hung → (ns : List ℕ) →
+Ends-bottoms : (hung : List PositionedCell) → All Wide hung → (ns : List ℕ) →
     All (Ends 0) (map (λ n. rest_from 0 (filter (λ c. nat_le n (end_of c)) hung)) ns)
 Ends-bottoms hung w [] = All-nil (Ends 0)
 Ends-bottoms hung w (n ∷ ns) =
     All-cons (Ends 0) (rest_from 0 (filter (λ c. nat_le n (end_of c)) hung)) (map (λ m. rest_from 0 (filter (λ c. nat_le m (end_of c)) hung)) ns)
     (Ends-rest 0 (filter (λ c. nat_le n (end_of c)) hung) (All-filter (λ c. nat_le n (end_of c)) Wide hung w)) (Ends-bottoms hung w ns)
 
-Ends-rows : (row : ℕ) (hung : List Standing) (rows : List (List Span)) → All Wide hung → AreValid rows → All (Ends 0) (rows_from row hung rows)
+Ends-rows : (row : ℕ) (hung : List PositionedCell) (rows : List (List Span)) → All Wide hung → AreValid rows → All (Ends 0) (rows_from row hung rows)
 Ends-rows row hung [] w v = Ends-bottoms hung w (rising (map end_of hung))
 Ends-rows row hung (ss ∷ rows) w v =
     let own = own_from row 0 hung ss in

@@ -3,7 +3,7 @@ use Rattle.std.specs.Prelude.{◌≡◌, ℕ, ◌+◌, ◌-◌, List, [], length
 use Rattle.html_render_parts.specs.declared.table.Span.{Span}
 use Rattle.html_render_parts.specs.declared.table.PlacedCell.{PlacedCell}
 use Rattle.html_render_parts.specs.declared.table.cells.GridCell.{GridCell}
-use Rattle.html_render_parts.specs.declared.table.placement.Standing.{Standing}
+use Rattle.html_render_parts.specs.declared.table.placement.PositionedCell.{PositionedCell}
 use Rattle.html_render_parts.specs.Placement.{placed_rows, own_rows_from}
 use Rattle.html_render_parts.specs.Grid.{AreValid, edges_of, rank, numbered, positions_fit}
 
@@ -17,7 +17,7 @@ abbrev pub columns_of : CellGrid → ℕ
 columns_of g = length g.edges - 1
 
 -- a cell on the columns between its own column and its end: their first and their number, and the cell's rowspan
-abbrev pub on_columns : (edges : List ℕ) → Standing → GridCell
+abbrev pub on_columns : (edges : List ℕ) → PositionedCell → GridCell
 on_columns edges c =
     let first = rank edges c.column in
     record { rowspan = c.span.rowspan; first = first; columns = rank edges (c.column + c.span.colspan) - first }

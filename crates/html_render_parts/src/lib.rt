@@ -1,9 +1,8 @@
 //! Parts of a page: decorators, column widths, and the grid of a table.
 #![tactic(auto)]
 
+pub mod decorate;
 pub mod table;
-
-pub use html_render_parts_decorators::decorate;
 
 /// Column widths, cut fairly, and the meter of metered calls.
 pub mod widths {

@@ -13,8 +13,8 @@ part c value = record { start = c.start; count = c.count; value = value / c.coun
 -- the need of a column: the greatest part of a preferred width, and of a minimum width, of a cell that covers it
 abbrev pub need_at : List CellNeed → (column : ℕ) → ColumnNeed
 need_at cells column = record {
-  size = greatest_at (map (λ c. part c c.size) cells) column;
-  least = greatest_at (map (λ c. part c c.least) cells) column;
+  preferred_width = greatest_at (map (λ c. part c c.preferred_width) cells) column;
+  min_width = greatest_at (map (λ c. part c c.min_width) cells) column;
 }
 
 -- THE NEEDS of each column of a table
@@ -23,7 +23,7 @@ column_needs columns cells = map (need_at cells) (range_with_len 0 columns)
 
 -- the need of a column without cells
 abbrev pub no_need : ColumnNeed
-no_need = record { size = 0; least = 0 }
+no_need = record { preferred_width = 0; min_width = 0 }
 
 -- whether each cell has a column
 abbrev pub AreSome : List CellNeed → Type 0
@@ -39,8 +39,8 @@ AreCells columns cells = All (IsCell columns) cells
 
 -- whether the minimum width of each column is at most its preferred width
 abbrev pub AreWithinSizes : List ColumnNeed → Type 0
-AreWithinSizes needs = All (λ n. n.least ≤ n.size) needs
+AreWithinSizes needs = All (λ n. n.min_width ≤ n.preferred_width) needs
 
 -- whether a cell's minimum width fits its columns and the separators between them
 abbrev pub HasRoom : (widths : List ℕ) → CellNeed → Type 0
-HasRoom widths c = c.least ≤ sum (slice_range widths c.start (c.start + c.count)) + (c.count - 1)
+HasRoom widths c = c.min_width ≤ sum (slice_range widths c.start (c.start + c.count)) + (c.count - 1)

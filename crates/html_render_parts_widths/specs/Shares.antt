@@ -6,20 +6,20 @@ use Rattle.html_render_parts_widths.specs.Cuts.{cut_by_units}
 
 -- the minimum widths of columns
 abbrev pub least_widths : List ColumnNeed → List ℕ
-least_widths needs = map (λ n. n.least) needs
+least_widths needs = map (λ n. n.min_width) needs
 
 -- The share of a column in a width. It is to the width as the column's preferred width is to the total of all preferred
 -- widths, rounded down, but at most the preferred width and, before all, at least the minimum width.
 abbrev pub share : (width total : ℕ) → ColumnNeed → ℕ
-share width total need = max need.least (min need.size (need.size * width / total))
+share width total need = max need.min_width (min need.preferred_width (need.preferred_width * width / total))
 
 -- The share of a column whose minimum width is at most its preferred width, in the form of docs/BEHAVIOUR.md: 0 if the
 -- preferred width is 0, and otherwise in proportion, at least the minimum width and at most the preferred width.
 abbrev pub share_by_size : (width total : ℕ) → ColumnNeed → ℕ
-share_by_size width total need = if need.size == 0 then 0 else min need.size (max (need.size * width / total) need.least)
+share_by_size width total need = if need.preferred_width == 0 then 0 else min need.preferred_width (max (need.preferred_width * width / total) need.min_width)
 
 abbrev pub shares : (width : ℕ) → List ColumnNeed → List ℕ
-shares width needs = map (share width (sum_by (λ n. n.size) needs)) needs
+shares width needs = map (share width (sum_by (λ n. n.preferred_width) needs)) needs
 
 -- whether columns can be side by side: the width isn't 0, and the minimum widths and the separators add up to at most it
 abbrev pub stand_side_by_side : (width : ℕ) → List ColumnNeed → Bool

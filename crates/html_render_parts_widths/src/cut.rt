@@ -1,6 +1,7 @@
 //! Widths of a table's columns: the fairest cut of their shares.
 
-ghost use Rattle.std.specs.Prelude.{◌≡◌, ℕ, ◌+◌, ◌-◌, ◌*◌, ◌^◌, ◌<◌, ◌≤◌, length, min, sum, slice_index, IfOk, IfErr};
+ghost use Rattle.std.specs.Prelude.{◌≡◌, ℕ, ◌+◌, ◌-◌, ◌*◌, ◌^◌, ◌<◌, ◌≤◌, length, min, sum, slice_index, IfOk};
+ghost use Rattle.html_render_dom_values.specs.Outcome.{OnlyOutOfMemory};
 ghost use Rattle.html_render_parts_widths.specs.Cuts.{ranges, capped_sum, full_width, largest_slack, wanted, CutFits, IsLevel, IsLevelForm};
 ghost use Rattle.html_render_parts_widths.specs.ColumnCuts.{IsColumnCut};
 ghost use Rattle.html_render_parts_widths.specs.CutSteps.{AreColumns};
@@ -46,7 +47,7 @@ pub fn column_widths(
 ) -> Result<ColumnCut, Error>
     requires { CutFits minimums.now shares.now width }
     ensures cut { IfOk result (λ c. IsColumnCut minimums.now shares.now width c.widths.items c.level c.lowered) }
-    ensures err { IfErr result (λ e. e ≡ Error.OutOfMemory) }
+    ensures err { OnlyOutOfMemory result }
 {
     let mut meter = Meter::default();
     column_widths_metered(alloc, minimums, shares, width, &mut meter)
@@ -76,7 +77,7 @@ pub fn column_widths_metered(
     ensures probes_most { 2 ^ meter.new.probes ≤ 2 * largest_slack minimums.now shares.now + 1 }
     ensures others { meter.new ≡ record meter.old { probes = meter.new.probes } }
 
-    ensures err { IfErr result (λ e. e ≡ Error.OutOfMemory) }
+    ensures err { OnlyOutOfMemory result }
 {
     let totals = sum_up(minimums, shares);
     let needed = wanted(minimums, shares, width, totals);

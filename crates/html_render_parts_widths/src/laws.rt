@@ -54,9 +54,9 @@ fn columns_are_cut_fairly()
 /// It is 0 if the preferred width is 0. Otherwise it is to the width as the column's preferred width is to the sum of all
 /// preferred widths, but at least the minimum width and at most the preferred width.
 fn shares_are_by_size()
-    ensures one { (width total : ℕ) (need : ColumnNeed) → need.least ≤ need.size → share width total need ≡ share_by_size width total need }
+    ensures one { (width total : ℕ) (need : ColumnNeed) → need.min_width ≤ need.preferred_width → share width total need ≡ share_by_size width total need }
     ensures all { (width : ℕ) (needs : List ColumnNeed) → AreWithinSizes needs
-        → shares width needs ≡ map (share_by_size width (sum_by (λ n. n.size) needs)) needs }
+        → shares width needs ≡ map (share_by_size width (sum_by (λ n. n.preferred_width) needs)) needs }
 {}
 
 /// States bounds on columns that are side by side.

@@ -1,6 +1,7 @@
 //! Widths that the columns of a table need for its cells.
 
-ghost use Rattle.std.specs.Prelude.{◌≡◌, ◌<◌, ◌↔◌, ℕ, length, map, slice_index, slice_index_or, IfOk, IfErr, IsTrue};
+ghost use Rattle.std.specs.Prelude.{◌≡◌, ◌<◌, ◌↔◌, ℕ, length, map, slice_index, slice_index_or, IfOk, IsTrue};
+ghost use Rattle.html_render_dom_values.specs.Outcome.{OnlyOutOfMemory};
 ghost use Rattle.html_render_parts_widths.specs.Needs.{no_need, part, column_needs, AreSome, AreCells};
 
 use super::shares::ColumnNeed;
@@ -16,22 +17,22 @@ pub struct CellNeed {
     /// Number of its columns.
     pub count: usize,
     /// Preferred width of its content.
-    pub size: usize,
+    pub preferred_width: usize,
     /// Minimum width of its content.
-    pub least: usize,
+    pub min_width: usize,
 }
 
 /// Returns, for each cell, the part of its preferred width that each of its columns gets.
 fn size_parts(alloc: Global, cells: &[CellNeed]) -> Result<Vec<Span>, AllocError>
     requires { AreSome cells.now }
-    ensures { IfOk result (λ parts. parts.items ≡ map (λ c. part c c.size) cells.now) }
+    ensures { IfOk result (λ parts. parts.items ≡ map (λ c. part c c.preferred_width) cells.now) }
 {
     let mut parts = Vec::with_capacity(alloc, cells.len())?;
     for cell in cells {
         parts.push(Span {
             start: cell.start,
             count: cell.count,
-            value: cell.size / cell.count,
+            value: cell.preferred_width / cell.count,
         })?;
     }
     Ok(parts)
@@ -40,14 +41,14 @@ fn size_parts(alloc: Global, cells: &[CellNeed]) -> Result<Vec<Span>, AllocError
 /// Returns, for each cell, the part of its minimum width that each of its columns gets.
 fn least_parts(alloc: Global, cells: &[CellNeed]) -> Result<Vec<Span>, AllocError>
     requires { AreSome cells.now }
-    ensures { IfOk result (λ parts. parts.items ≡ map (λ c. part c c.least) cells.now) }
+    ensures { IfOk result (λ parts. parts.items ≡ map (λ c. part c c.min_width) cells.now) }
 {
     let mut parts = Vec::with_capacity(alloc, cells.len())?;
     for cell in cells {
         parts.push(Span {
             start: cell.start,
             count: cell.count,
-            value: cell.least / cell.count,
+            value: cell.min_width / cell.count,
         })?;
     }
     Ok(parts)
@@ -58,13 +59,13 @@ fn together(alloc: Global, sizes: &[usize], least: &[usize]) -> Result<Vec<Colum
     requires { length least.now ≡ length sizes.now }
     ensures len { IfOk result (λ needs. length needs.items ≡ length sizes.now) }
     ensures each { IfOk result (λ needs. (k : ℕ) → k < length sizes.now → slice_index_or needs.items k no_need
-        ≡ record { size = slice_index sizes.now k; least = slice_index least.now k }) }
+        ≡ record { preferred_width = slice_index sizes.now k; min_width = slice_index least.now k }) }
 {
     let mut needs = Vec::with_capacity(alloc, sizes.len())?;
     for (at, size) in sizes.iter().enumerate() {
         needs.push(ColumnNeed {
-            size: *size,
-            least: least[at],
+            preferred_width: *size,
+            min_width: least[at],
         })?;
     }
     Ok(needs)
@@ -88,7 +89,7 @@ pub fn column_needs(
 ) -> Result<Vec<ColumnNeed>, Error>
     requires { AreCells columns cells.now }
     ensures ok { IfOk result (λ needs. needs.items ≡ column_needs columns cells.now) }
-    ensures err { IfErr result (λ e. e ≡ Error.OutOfMemory) }
+    ensures err { OnlyOutOfMemory result }
 {
     let sizes = size_parts(alloc, cells)?;
     let sizes = greatest_values(alloc, columns, sizes.as_slice())?;

@@ -1,8 +1,10 @@
 //! Widths of a table's columns that are side by side.
 //!
-//! `widths_across(alloc, &[ColumnNeed { size: 9, least: 3 }, ColumnNeed { size: 3, least: 3 }], 8)` returns 4 and 3.
+//! `widths_across(alloc, &needs, 8)` returns 4 and 3 for two columns with a minimum width of 3 and the preferred widths 9
+//! and 3.
 
-ghost use Rattle.std.specs.Prelude.{◌≡◌, ◌≤◌, option_map, sum_by, IfOk, IfErr};
+ghost use Rattle.std.specs.Prelude.{◌≡◌, ◌≤◌, option_map, sum_by, IfOk};
+ghost use Rattle.html_render_dom_values.specs.Outcome.{OnlyOutOfMemory};
 ghost use Rattle.html_render_parts_widths.specs.Shares.{least_widths, share, shares, stand_side_by_side, widths_across};
 
 use super::cut::column_widths;
@@ -13,32 +15,33 @@ use std::alloc::{AllocError, Global};
 #[derive(Clone, Copy)]
 pub struct ColumnNeed {
     /// Preferred width of its content.
-    pub size: usize,
+    pub preferred_width: usize,
     /// Minimum width of its content.
-    pub least: usize,
+    pub min_width: usize,
 }
 
 /// Returns the sum of the preferred widths.
 fn total_size(needs: &[ColumnNeed]) -> u128
-    ensures { result ≡ sum_by (λ n. n.size) needs.now }
+    ensures { result ≡ sum_by (λ n. n.preferred_width) needs.now }
 {
     let mut total = 0u128;
     for need in needs {
-        total += need.size as u128;
+        total += need.preferred_width as u128;
     }
     total
 }
 
 /// Returns the share of a column in `width`. `total` is the sum of all columns' preferred widths.
 fn share(need: ColumnNeed, width: usize, total: u128) -> usize
-    requires { need.size ≤ total }
+    requires { need.preferred_width ≤ total }
     ensures { result ≡ share width total need }
 {
-    if need.size == 0 {
-        return need.least;
+    if need.preferred_width == 0 {
+        return need.min_width;
     }
-    let part = need.size as u128 * width as u128 / total;
-    part.min(need.size as u128).max(need.least as u128) as usize
+    let part = need.preferred_width as u128 * width as u128 / total;
+    part.min(need.preferred_width as u128)
+        .max(need.min_width as u128) as usize
 }
 
 /// Returns the share of each column in `width`.
@@ -59,7 +62,7 @@ fn least_widths(alloc: Global, needs: &[ColumnNeed]) -> Result<Vec<usize>, Alloc
 {
     let mut all = Vec::with_capacity(alloc, needs.len())?;
     for need in needs {
-        all.push(need.least)?;
+        all.push(need.min_width)?;
     }
     Ok(all)
 }
@@ -73,7 +76,7 @@ pub fn stand_side_by_side(needs: &[ColumnNeed], width: usize) -> bool
 {
     let mut least = 0u128;
     for need in needs {
-        least += need.least as u128;
+        least += need.min_width as u128;
     }
     let separators = needs.len().saturating_sub(1) as u128;
     width != 0 && least + separators <= width as u128
@@ -95,7 +98,7 @@ pub fn widths_across(
     width: usize,
 ) -> Result<Option<Vec<usize>>, Error>
     ensures ok { IfOk result (λ widths. option_map (λ all. all.items) widths ≡ widths_across width needs.now) }
-    ensures err { IfErr result (λ e. e ≡ Error.OutOfMemory) }
+    ensures err { OnlyOutOfMemory result }
 {
     if !stand_side_by_side(needs, width) {
         return Ok(None);

@@ -1,6 +1,7 @@
 //! Greatest value over each column, of values that each cover a range of columns.
 
-ghost use Rattle.std.specs.Prelude.{◌≡◌, ◌≤◌, ◌<◌, ◌+◌, ◌-◌, ◌*◌, ◌==◌, ℕ, length, max, slice_index, if◌then◌else◌, IfOk, IfErr};
+ghost use Rattle.std.specs.Prelude.{◌≡◌, ◌≤◌, ◌<◌, ◌+◌, ◌-◌, ◌*◌, ◌==◌, ℕ, length, max, slice_index, if◌then◌else◌, IfOk};
+ghost use Rattle.html_render_dom_values.specs.Outcome.{OnlyOutOfMemory};
 ghost use Rattle.html_render_parts_widths.specs.Spans.{AreOver, AreGreatest};
 ghost use Rattle.html_render_parts_widths.specs.SpanSteps.{IsSpread, span_at, split_at, raised_at};
 
@@ -123,7 +124,7 @@ fn add_all(values: &mut Vec<usize>, spans: &[Span], columns: usize, longer: usiz
 pub fn greatest_values(alloc: Global, columns: usize, spans: &[Span]) -> Result<Vec<usize>, Error>
     requires { AreOver columns spans.now }
     ensures ok { IfOk result (λ values. AreGreatest columns spans.now values.items) }
-    ensures err { IfErr result (λ e. e ≡ Error.OutOfMemory) }
+    ensures err { OnlyOutOfMemory result }
 {
     let mut values = zeros(alloc, columns)?;
     let mut longer = longest(spans).min(columns) + 1;

@@ -8,9 +8,9 @@ use Rattle.html_render_tree.specs.declared.htree.faults.Fault.{Fault}
 use Rattle.html_render_tree.specs.declared.htree.faults.Fault.TheVariants.{Refused}
 use Rattle.html_render_tree.specs.Faults.{IsFaultOf}
 use Rattle.html_render_dom.specs.Dom.{Dom}
-use Rattle.html_render_parts_decorators.specs.Decorators as decorator
-use Rattle.html_render_parts_decorators.specs.declared.decorate.plain.PlainDecorator.{PlainDecorator}
-use Rattle.html_render_parts_decorators.specs.declared.decorate.rich.RichDecorator.{RichDecorator}
+use Rattle.html_render_parts.specs.Decorators as decorator
+use Rattle.html_render_parts.specs.declared.decorate.plain.PlainDecorator.{PlainDecorator}
+use Rattle.html_render_parts.specs.declared.decorate.rich.RichDecorator.{RichDecorator}
 use Rattle.html_render_tree.specs.declared.htree.words.Preset.{Preset}
 use Rattle.html_render_tree.specs.declared.htree.words.Preset.TheVariants.{Plain, Rich, Bare}
 use Rattle.html_render_tree.specs.declared.htree.words.Settings.{Settings}

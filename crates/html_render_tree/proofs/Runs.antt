@@ -5,8 +5,8 @@ use Rattle.std.proofs.lemmas.Bool.{cond_both}
 use Rattle.std.specs.Str.{is_utf8}
 use Rattle.html_render_dom_values.specs.declared.errors.Error.TheVariants as error
 use Rattle.html_render_dom.specs.Dom.{Dom}
-use Rattle.html_render_parts_decorators.specs.Decoration.{Decoration}
-use Rattle.html_render_parts_decorators.specs.Decorators as decorator
+use Rattle.html_render_parts.specs.Decoration.{Decoration}
+use Rattle.html_render_parts.specs.Decorators as decorator
 use Rattle.html_render_tree_mapping.specs.Results.{render_tree_of}
 use Rattle.html_render_tree_scripts.specs.Scripts.{document_of}
 use Rattle.html_render_tree.specs.declared.htree.faults.Fault.{Fault}

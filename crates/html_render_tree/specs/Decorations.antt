@@ -1,10 +1,10 @@
 -- The rules that decorate plain text: texts before and after emphasis, terms, strong text and code.
 use Rattle.std.specs.Prelude.{ℕ, false, List, [], ◌∷◌, ◌++◌, codes, Some, None}
-use Rattle.html_render_dom_cascade.specs.declared.origins.StyleOrigin.TheVariants as origin
-use Rattle.html_render_dom_rules.specs.declared.rules.PseudoElement.{PseudoElement}
-use Rattle.html_render_dom_rules.specs.declared.rules.PseudoElement.TheVariants.{Before, After}
-use Rattle.html_render_dom_cascade.specs.declared.specificities.Specificity.{Specificity}
-use Rattle.html_render_dom_rules.specs.Rules.{content, Rule}
+use Rattle.html_render_dom_styles.specs.declared.origins.StyleOrigin.TheVariants as origin
+use Rattle.html_render_dom_styles.specs.declared.rules.PseudoElement.{PseudoElement}
+use Rattle.html_render_dom_styles.specs.declared.rules.PseudoElement.TheVariants.{Before, After}
+use Rattle.html_render_dom_styles.specs.declared.specificities.Specificity.{Specificity}
+use Rattle.html_render_dom_styles.specs.Rules.{content, Rule}
 
 -- normal rule of the agent that puts a text before or after the contents of each element of this name
 abbrev pub decoration : (name text : List ℕ) → PseudoElement → Rule

@@ -8,14 +8,14 @@ use Rattle.html_render_layout_nodes.specs.declared.tree.RenderNode.{RenderNode}
 
 -- place of trees: in a table, with its remaining rows; in a row, with its remaining cells; in a node without children; or
 -- anywhere else
-pub data Place : Type 0 where
-  Anywhere : Place
-  Nowhere : Place
-  InTable : (rows : List (List GridCell)) → Place
-  InRow : (cells : List GridCell) → Place
+pub data TreePlace : Type 0 where
+  Anywhere : TreePlace
+  Nowhere : TreePlace
+  InTable : (rows : List (List GridCell)) → TreePlace
+  InRow : (cells : List GridCell) → TreePlace
 
 -- whether no row or cell remains
-abbrev pub is_over : Place → Bool
+abbrev pub is_over : TreePlace → Bool
 is_over (InTable (cells ∷ rows)) = false
 is_over (InRow (cell ∷ cells)) = false
 is_over _ = true
@@ -31,25 +31,25 @@ is_leaf _ = false
 
 -- places around a node: of its children, and of its later siblings
 pub record Around : Type 0 where
-  pub below : Place
-  pub beside : Place
+  pub below : TreePlace
+  pub beside : TreePlace
 
 -- places around a node of a kind that is at a place; none if the kind isn't allowed there
-abbrev pub around : Place → NodeKind → Option Around
-around Anywhere (Table grid) = Some (record { below = InTable grid.cells.rows; beside = Anywhere })
-around Anywhere TableRow = None
-around Anywhere TableCell = None
-around Anywhere kind = Some (record { below = if is_leaf kind then Nowhere else Anywhere; beside = Anywhere })
-around (InTable (cells ∷ rows)) TableRow = Some (record { below = InRow cells; beside = InTable rows })
-around (InRow (cell ∷ cells)) TableCell = Some (record { below = Anywhere; beside = InRow cells })
-around _ _ = None
+abbrev pub places_around : TreePlace → NodeKind → Option Around
+places_around Anywhere (Table grid) = Some (record { below = InTable grid.cells.rows; beside = Anywhere })
+places_around Anywhere TableRow = None
+places_around Anywhere TableCell = None
+places_around Anywhere kind = Some (record { below = if is_leaf kind then Nowhere else Anywhere; beside = Anywhere })
+places_around (InTable (cells ∷ rows)) TableRow = Some (record { below = InRow cells; beside = InTable rows })
+places_around (InRow (cell ∷ cells)) TableCell = Some (record { below = Anywhere; beside = InRow cells })
+places_around _ _ = None
 
 -- GOOD TREES: each table has the number of rows of its grid, and each of these rows its number of cells. No row and no cell
 -- is anywhere else. Leaves have no children.
-abbrev pub are_good_below : (below beside : Place → Bool) → Option Around → Bool
+abbrev pub are_good_below : (below beside : TreePlace → Bool) → Option Around → Bool
 are_good_below below beside None = false
 are_good_below below beside (Some a) = below a.below && beside a.beside
 
-abbrev pub are_good : Place → Forest RenderNode → Bool
+abbrev pub are_good : TreePlace → Forest RenderNode → Bool
 are_good place none = is_over place
-are_good place (node n children others) = are_good_below (λ p. are_good p children) (λ p. are_good p others) (around place n.kind)
+are_good place (node n children others) = are_good_below (λ p. are_good p children) (λ p. are_good p others) (places_around place n.kind)

@@ -32,8 +32,8 @@ pub use Rattle.html_render_layout_tagged.specs.Colouring
 pub use Rattle.html_render_layout_nodes.specs.Kinds
 pub use Rattle.html_render_layout_nodes.specs.Dump
 -- results of a decorator, and those of plain and of rich text, for callers that implement one
-pub use Rattle.html_render_parts_decorators.specs.Decoration
-pub use Rattle.html_render_parts_decorators.specs.Decorators
+pub use Rattle.html_render_parts.specs.Decoration
+pub use Rattle.html_render_parts.specs.Decorators
 -- results of a decorator that changes some results of another one
-pub use Rattle.html_render_parts_decorators.specs.Alteration
-pub use Rattle.html_render_parts_decorators.specs.declared.decorate.place.Place
+pub use Rattle.html_render_parts.specs.Alteration
+pub use Rattle.html_render_parts.specs.declared.decorate.place.Place

@@ -5,8 +5,8 @@ use Rattle.html_render_dom_values.specs.Forest.{Forest, none, node, count}
 use Rattle.html_render_layout_nodes.specs.declared.tree.NodeKind.{NodeKind}
 use Rattle.html_render_layout_nodes.specs.declared.tree.NodeKind.TheVariants.{Superscript, TableCell}
 use Rattle.html_render_layout_nodes.specs.declared.tree.RenderNode.{RenderNode}
-use Rattle.html_render_layout_nodes.specs.Pass.{Visits, Places, bare, placed, through_visit, inside, run_at, is_skipped, visited}
-use Rattle.html_render_layout_states.specs.Layout.{digits_of}
+use Rattle.html_render_layout_nodes.specs.Visitor.{Visits, Places, bare, placed, through_visit, inside, run_at, is_skipped, visited}
+use Rattle.html_render_layout.specs.Layout.{digits_of}
 
 -- nodes of trees in pre-order
 abbrev pub all_nodes : {K : Type 0} → Forest K → List K

@@ -4,8 +4,9 @@
 //! tree, and `render_to_string(alloc, tree, 80)?` is the text of that in 80 columns.
 
 ghost use Rattle.std.specs.Prelude.{◌≡◌, ◌∷◌, ◌++◌, [], Some, true, false, IfOk, IfErr};
+ghost use Rattle.html_render_dom_values.specs.Outcome.{OnlyOutOfMemory};
 ghost use Rattle.html_render_tree_mapping.specs.Results.{render_tree_of};
-ghost use Rattle.html_render_dom_rules.specs.Rules.{rule_of};
+ghost use Rattle.html_render_dom_styles.specs.Rules.{rule_of};
 ghost use Rattle.html_render_layout_estimates.specs.Settings.{default_settings};
 ghost use Rattle.html_render_parts.specs.Refusal.{Fails};
 ghost use Rattle.html_render_tree.specs.GoodTrees.{Anywhere, are_good};
@@ -18,7 +19,7 @@ use html_render_dom::style::StyleRule;
 pub use html_render_layout_estimates::settings::ImageRenderMode;
 use html_render_layout_estimates::settings::LayoutSettings;
 use html_render_layout_nodes::tree::RenderTree;
-use html_render_parts_decorators::decorate::{PlainDecorator, RichDecorator, TextDecorator};
+use html_render_parts::decorate::{PlainDecorator, RichDecorator, TextDecorator};
 use html_render_tree_convert::convert;
 use std::alloc::Global;
 use std::marker::Model;
@@ -38,7 +39,7 @@ pub struct Config<D: TextDecorator> {
 
 impl<D: TextDecorator> Model for Config<D> {
     ghost use Rattle.std.specs.Prelude.{map};
-    ghost use Rattle.html_render_dom_rules.specs.Rules.{rule_of};
+    ghost use Rattle.html_render_dom_styles.specs.Rules.{rule_of};
     ghost use Rattle.html_render_tree.specs.Rendering.{Options};
 
     ghost Value = { Options D };
@@ -63,7 +64,7 @@ pub fn plain(alloc: Global) -> Result<Config<PlainDecorator>, Error>
       rules = decorations;
       settings = record default_settings { link_footnotes = true };
     }) }
-    ensures err { IfErr result (λ e. e ≡ Error.OutOfMemory) }
+    ensures err { OnlyOutOfMemory result }
 {
     let config = plain_no_decorate(alloc).do_decorate(alloc)?;
     Ok(config.link_footnotes(true))
@@ -107,7 +108,7 @@ impl<D: TextDecorator> Config<D> {
     /// `OutOfMemory`. The configuration is then dropped.
     pub fn do_decorate(mut self, alloc: Global) -> Result<Config<D>, Error>
         ensures ok { IfOk result (λ config. config ≡ record self { rules = self.rules ++ decorations }) }
-        ensures err { IfErr result (λ e. e ≡ Error.OutOfMemory) }
+        ensures err { OnlyOutOfMemory result }
     {
         decorations::add_all(alloc, &mut self.rules)?;
         Ok(self)
@@ -120,7 +121,7 @@ impl<D: TextDecorator> Config<D> {
     /// `OutOfMemory`. The configuration and the rule are then dropped.
     pub fn add_style_rule(mut self, _alloc: Global, rule: StyleRule) -> Result<Config<D>, Error>
         ensures ok { IfOk result (λ config. config ≡ record self { rules = self.rules ++ rule_of rule ∷ [] }) }
-        ensures err { IfErr result (λ e. e ≡ Error.OutOfMemory) }
+        ensures err { OnlyOutOfMemory result }
     {
         self.rules.push(rule)?;
         Ok(self)

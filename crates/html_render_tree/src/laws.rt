@@ -1,11 +1,11 @@
 //! Laws of rendering, each the contract of an empty function.
 
 ghost use Rattle.std.specs.Prelude.{◌≡◌, ◌↔◌, None, IfSome, map, replicate};
-ghost use Rattle.html_render_dom_rules.specs.Selectors.{specificity_of};
-ghost use Rattle.html_render_dom_cascade.specs.declared.origins.StyleOrigin.TheVariants as origin;
+ghost use Rattle.html_render_dom_styles.specs.Selectors.{specificity_of};
+ghost use Rattle.html_render_dom_styles.specs.declared.origins.StyleOrigin.TheVariants as origin;
 ghost use Rattle.html_render_dom_values.specs.Forest.{Forest};
 ghost use Rattle.html_render_layout_blocks.specs.declared.block.BlockSetting.{BlockSetting};
-ghost use Rattle.html_render_layout_states.specs.Layout.{layout_lines, mark_names};
+ghost use Rattle.html_render_layout.specs.Layout.{layout_lines, mark_names};
 ghost use Rattle.html_render_layout.specs.Promises.{AreLines};
 ghost use Rattle.html_render_tree.specs.Decorations.{decorations, decoration_specificity};
 
@@ -14,7 +14,7 @@ mod visiting;
 
 use html_render_layout_estimates::settings::{ImageRenderMode, LayoutSettings};
 use html_render_layout_nodes::tree::RenderNode;
-use html_render_parts_decorators::decorate::{RichAnnotation, TextDecorator};
+use html_render_parts::decorate::{RichAnnotation, TextDecorator};
 
 /// The decorations are ten rules of the agent, each with the specificity of an element's name and a pseudo-element.
 fn decorations_are_ten_rules_of_the_agent()

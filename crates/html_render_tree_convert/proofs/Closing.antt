@@ -4,7 +4,7 @@ use Rattle.std.proofs.Common.{refl, sym, ap, subst, ◌∙◌, arith, length-app
 use Rattle.html_render_dom_values.specs.Forest.{Forest, count, followed_by}
 use Rattle.html_render_dom_values.specs.Outcome.{◌>>=◌}
 use Rattle.html_render_dom.specs.Dom.{Dom, IsNode, trees_of}
-use Rattle.html_render_dom_rules.specs.Rules.{Rule as StyleRule}
+use Rattle.html_render_dom_styles.specs.Rules.{Rule as StyleRule}
 use Rattle.html_render_dom_values.specs.declared.errors.Error.{Error}
 use Rattle.html_render_dom_values.specs.declared.errors.Error.TheVariants.{TooNarrow, Fail, OutOfMemory}
 use Rattle.html_render_parts.specs.Refusal.{Fails}
@@ -17,8 +17,8 @@ use Rattle.html_render_tree_insertions.specs.declared.drafts.Draft.{Draft}
 use Rattle.html_render_tree_convert.specs.declared.convert.Open.{Open}
 use Rattle.html_render_tree_convert.specs.Building.{Arrival, Holding, arrivals, arrive_any, closed, closed_by, closed_into, document_drafts, document_of, is_captioned, rows_of, table_stands}
 use Rattle.html_render_tree_convert.specs.Opened.{Closed, IsAfter, IsLast}
-use Rattle.html_render_tree_orders.specs.declared.order.Pick.TheVariants.{All}
-use Rattle.html_render_tree_orders.specs.Order.{children_in}
+use Rattle.html_render_tree_convert.specs.declared.order.Pick.TheVariants.{All}
+use Rattle.html_render_tree_convert.specs.Order.{children_in}
 use Rattle.html_render_tree_convert.specs.Spans.{spans_of_parts}
 use Rattle.html_render_tree_convert.proofs.Coming.{arrive-before, before}
 use Rattle.html_render_tree_convert.proofs.Paths.{AreSound, Converting, Converting-after, Path, Step, ahead_of, elements_of, holding, made_of_path}

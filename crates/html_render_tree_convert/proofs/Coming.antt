@@ -5,15 +5,15 @@ use Rattle.html_render_dom_values.specs.Forest.{Forest, none, node, followed_by}
 use Rattle.html_render_dom_values.specs.Outcome.{◌>>=◌}
 use Rattle.html_render_dom_nodes.specs.Content.{Content}
 use Rattle.html_render_dom.specs.Dom.{Dom, node_count, content_at, below, trees_of}
-use Rattle.html_render_dom_rules.specs.Rules.{Rule as StyleRule}
+use Rattle.html_render_dom_styles.specs.Rules.{Rule as StyleRule}
 use Rattle.html_render_layout_nodes.specs.laws.Splits.{followed_by-followed_by}
 use Rattle.html_render_tree_insertions.specs.declared.drafts.Draft.{Draft}
 use Rattle.html_render_tree_mapping.specs.Outlines.{outline_of}
-use Rattle.html_render_tree_orders.specs.declared.order.Pick.{Pick}
-use Rattle.html_render_tree_orders.specs.declared.order.Pick.TheVariants.{All}
+use Rattle.html_render_tree_convert.specs.declared.order.Pick.{Pick}
+use Rattle.html_render_tree_convert.specs.declared.order.Pick.TheVariants.{All}
 use Rattle.html_render_tree_convert.specs.Building.{Arrival, Holding, arrive, come, arrivals}
 use Rattle.html_render_tree_convert.specs.Elements.{keeps}
-use Rattle.html_render_tree_orders.specs.Order.{picks, picked}
+use Rattle.html_render_tree_convert.specs.Order.{picks, picked}
 
 -- ---- one after the other
 

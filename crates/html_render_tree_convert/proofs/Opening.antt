@@ -8,7 +8,7 @@ use Rattle.std.proofs.lemmas.List.Elements.{All-append, All-filter, Contains-get
 use Rattle.html_render_dom_values.specs.Forest.{Forest, none, count}
 use Rattle.html_render_dom_values.specs.Outcome.{◌>>=◌}
 use Rattle.html_render_dom.specs.Dom.{Dom, IsForest, IsNode, content_at, children_at, trees_of}
-use Rattle.html_render_dom_rules.specs.Rules.{Rule as StyleRule}
+use Rattle.html_render_dom_styles.specs.Rules.{Rule as StyleRule}
 use Rattle.html_render_tree_insertions.specs.declared.drafts.Draft.{Draft}
 use Rattle.html_render_tree_insertions.specs.declared.drafts.Insertions.{Insertions}
 use Rattle.html_render_tree_insertions.specs.Drafts.{draft_of}
@@ -21,12 +21,12 @@ use Rattle.html_render_tree_convert.specs.declared.convert.Open.{Open}
 use Rattle.html_render_tree_convert.specs.declared.elements.Element.{Element}
 use Rattle.html_render_tree_convert.specs.declared.elements.OpenKind.{OpenKind}
 use Rattle.html_render_tree_convert.specs.declared.elements.OpenKind.TheVariants.{Captioned}
-use Rattle.html_render_tree_orders.specs.declared.order.Pick.{Pick}
-use Rattle.html_render_tree_orders.specs.declared.order.Pick.TheVariants.{All as Every, Captions, Feet, Others}
+use Rattle.html_render_tree_convert.specs.declared.order.Pick.{Pick}
+use Rattle.html_render_tree_convert.specs.declared.order.Pick.TheVariants.{All as Every, Captions, Feet, Others}
 use Rattle.html_render_tree_convert.specs.Building.{Holding, arrive, arrivals, closed_into, come, come_of, document_drafts, document_of, document_start, fresh, leaf_arrival, table_start}
 use Rattle.html_render_tree_convert.specs.Elements.{opened_kind}
 use Rattle.html_render_tree_convert.specs.Opened.{IsAfter, IsOpened, opened_elements, other_elements, table_elements}
-use Rattle.html_render_tree_orders.specs.Order.{caption_order, has_own_order, is_named, listed_in, own_count, part_order, picked, picks}
+use Rattle.html_render_tree_convert.specs.Order.{caption_order, has_own_order, is_named, listed_in, own_count, part_order, picked, picks}
 use Rattle.html_render_tree_convert.proofs.Coming.{arrivals-followed_by, arrivals-picked, arrive-before, before, bind-bind, bind-same, chain, trees_of-append}
 use Rattle.html_render_tree_convert.proofs.Paths.{AreSound, Converting, Converting-after, Opening, Path, Step, ahead_of, come_at, elements_of, holding}
 use Rattle.html_render_tree_convert.proofs.Paths.{made_of_path, resumed_from}

@@ -6,14 +6,14 @@ use Rattle.std.proofs.Math.Seq.{take-suc}
 use Rattle.html_render_dom_values.specs.Forest.{Forest, none, count, followed_by}
 use Rattle.html_render_dom_values.specs.Outcome.{◌>>=◌}
 use Rattle.html_render_dom.specs.Dom.{Dom, IsForest, IsNode, content_at, children_at, trees_of, tree_of}
-use Rattle.html_render_dom_rules.specs.Rules.{Rule as StyleRule}
+use Rattle.html_render_dom_styles.specs.Rules.{Rule as StyleRule}
 use Rattle.html_render_dom.specs.laws.Trees.{below-children}
 use Rattle.html_render_tree_insertions.specs.declared.drafts.Draft.{Draft}
 use Rattle.html_render_tree_convert.specs.declared.convert.Open.{Open}
-use Rattle.html_render_tree_orders.specs.declared.order.Pick.TheVariants.{All}
+use Rattle.html_render_tree_convert.specs.declared.order.Pick.TheVariants.{All}
 use Rattle.html_render_tree_convert.specs.Building.{Holding, arrivals, come, closed_into, document_drafts, document_of}
 use Rattle.html_render_tree_convert.specs.Opened.{IsAfter}
-use Rattle.html_render_tree_orders.specs.Order.{children_in}
+use Rattle.html_render_tree_convert.specs.Order.{children_in}
 use Rattle.html_render_tree_mapping.specs.Outlines.{outline_at, outline_of}
 use Rattle.html_render_tree_convert.proofs.Coming.{arrivals-followed_by, before, bind-bind, trees_of-append}
 

@@ -13,11 +13,11 @@ use Rattle.html_render_tree_mapping.specs.declared.mapping.Outline.{Outline}
 use Rattle.html_render_tree_mapping.specs.declared.mapping.Outline.TheVariants.{Nothing, Alone, Over}
 use Rattle.html_render_tree_convert.specs.declared.convert.Open.{Open}
 use Rattle.html_render_tree_convert.specs.declared.elements.Element.{Element}
-use Rattle.html_render_tree_orders.specs.declared.order.Pick.TheVariants.{Captions, Feet, Others}
+use Rattle.html_render_tree_convert.specs.declared.order.Pick.TheVariants.{Captions, Feet, Others}
 use Rattle.html_render_tree_convert.specs.Building.{arrive, fresh, is_captioned, leaf_arrival}
 use Rattle.html_render_tree_convert.specs.Elements.{opened_kind}
 use Rattle.html_render_tree_convert.specs.Opened.{IsOpened, opened_elements, other_elements, table_elements}
-use Rattle.html_render_tree_orders.specs.Order.{children_in, has_own_order, is_named, listed_in, own_count, picked}
+use Rattle.html_render_tree_convert.specs.Order.{children_in, has_own_order, is_named, listed_in, own_count, picked}
 use Rattle.html_render_tree_convert.specs.laws.Parting.{one_name}
 use Rattle.html_render_tree_convert.proofs.Coming.{trees_of-append}
 use Rattle.html_render_tree_convert.proofs.Paths.{remaining}

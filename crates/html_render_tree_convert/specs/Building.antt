@@ -4,7 +4,7 @@ use Rattle.html_render_dom_values.specs.Forest.{Forest, none, node, followed_by}
 use Rattle.html_render_dom_values.specs.Outcome.{◌>>=◌}
 use Rattle.html_render_dom_nodes.specs.Content.{Content}
 use Rattle.html_render_dom.specs.Dom.{Dom, children_at, trees_of}
-use Rattle.html_render_dom_rules.specs.Rules.{Rule as StyleRule}
+use Rattle.html_render_dom_styles.specs.Rules.{Rule as StyleRule}
 use Rattle.html_render_parts.specs.TableCells.{cell_grid_of}
 use Rattle.html_render_tree_mapping.specs.declared.tables.CellSpan.{CellSpan}
 use Rattle.html_render_layout_nodes.specs.declared.tree.NodeKind.{NodeKind}
@@ -28,10 +28,10 @@ use Rattle.html_render_tree_convert.specs.declared.elements.OpenKind.{OpenKind}
 use Rattle.html_render_tree_convert.specs.declared.elements.OpenKind.TheVariants.{Node, Captioned, Table, Rows, Row, Cell, Caption}
 use Rattle.html_render_tree_mapping.specs.Results.{Role}
 use Rattle.html_render_tree_mapping.specs.Results as role
-use Rattle.html_render_tree_orders.specs.declared.order.Pick.{Pick}
-use Rattle.html_render_tree_orders.specs.declared.order.Pick.TheVariants.{All, Captions, Feet, Others}
+use Rattle.html_render_tree_convert.specs.declared.order.Pick.{Pick}
+use Rattle.html_render_tree_convert.specs.declared.order.Pick.TheVariants.{All, Captions, Feet, Others}
 use Rattle.html_render_tree_convert.specs.Elements.{keeps, opened_kind, received, told_of_table}
-use Rattle.html_render_tree_orders.specs.Order.{picks}
+use Rattle.html_render_tree_convert.specs.Order.{picks}
 use Rattle.html_render_tree_convert.specs.Spans.{spans_of_parts}
 
 -- ---- what comes to an element

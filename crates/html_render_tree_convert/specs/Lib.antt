@@ -1,3 +1,6 @@
+-- in which order the children of a table are converted
+pub mod ChildLists
+pub mod Order
 -- the nodes of a document, made in one pass
 pub mod Spans
 pub mod Elements

@@ -11,7 +11,7 @@ use Rattle.html_render_tree_convert.specs.declared.elements.Element.{Element}
 use Rattle.html_render_tree_convert.specs.Elements.{opened_kind}
 use Rattle.html_render_tree_convert.specs.declared.convert.Open.{Open}
 use Rattle.html_render_tree_convert.specs.Building.{Holding, arrive, fresh, is_captioned, leaf_arrival, table_start}
-use Rattle.html_render_tree_orders.specs.Order.{caption_order, children_in, listed_in, own_count, part_order}
+use Rattle.html_render_tree_convert.specs.Order.{caption_order, children_in, listed_in, own_count, part_order}
 
 -- a table within its wrapper: its children come apart, the captions after what is below it
 abbrev pub table_elements : Dom → (handle start : ℕ) → (around : Element) → List Open

@@ -1,12 +1,13 @@
 //! A document as drafts, made in one pass from its last node to its first, each node once.
 
 ghost use Rattle.std.specs.Prelude.{◌≡◌, ◌||◌, ◌≤◌, ◌∷◌, ◌++◌, List, [], length, Some, None, IfSome, IfNone, IfOk, OnOk, IfErr, map, option_map, false, true};
+ghost use Rattle.html_render_dom_values.specs.Outcome.{OnlyOutOfMemory};
 ghost use Rattle.html_render_dom.specs.Dom.{IsForest, IsNode};
 ghost use Rattle.html_render_dom.specs.RuleIndex.{Finds};
-ghost use Rattle.html_render_dom_rules.specs.Rules.{rule_of};
+ghost use Rattle.html_render_dom_styles.specs.Rules.{rule_of};
 ghost use Rattle.html_render_tree_mapping.specs.Outlines.{outline_at};
 ghost use Rattle.html_render_tree_mapping.specs.Results.{render_tree_of};
-ghost use Rattle.html_render_tree_orders.specs.Order.{children_in};
+ghost use Rattle.html_render_tree_convert.specs.Order.{children_in};
 ghost use Rattle.html_render_layout_nodes.specs.Splits.{SplitAt};
 ghost use Rattle.html_render_layout_nodes.specs.RenderNodes.{no_style};
 ghost use Rattle.html_render_layout_nodes.specs.declared.tree.NodeKind.TheVariants as kind;
@@ -22,16 +23,16 @@ ghost use Rattle.html_render_tree_convert.specs.declared.convert.Open.{Open};
 ghost use Rattle.html_render_tree_mapping.specs.Results as role;
 
 use crate::elements::{Element, OpenKind, Role};
+use crate::order::{Children, table_orders};
 use crate::spans::{Gathered, PartRows, RowCells, grid_over};
 use html_render_dom::dom::{Handle, NodeData, RcDom};
 use html_render_dom::style::{RuleIndex, StyleRule};
 use html_render_dom_values::Error;
 use html_render_layout_nodes::text::NodeText;
-use html_render_layout_nodes::tree::{Flat, Grid, NodeKind, NodeStyle, RenderNode};
+use html_render_layout_nodes::tree::{Grid, NodeKind, NodeStyle, PreorderForest, RenderNode};
 use html_render_tree_insertions::drafts::{Draft, Drafts, Inserted};
 use html_render_tree_mapping::mapping::{IfEmpty, Outline, outline_of};
 use html_render_tree_mapping::tables::CellSpan;
-use html_render_tree_orders::order::{Children, table_orders};
 use std::alloc::Global;
 
 /// An element that is open: its children are being converted, from the last to the first.
@@ -60,7 +61,7 @@ fn receive(
         elements.new.items ≡ below ++ record p { element = received (meant role) kind.now has_children is_stray p.element } ∷ []) }
     ensures kept { IfOk result (λ kept. (below : List Open) (p : Open) → IsLast elements.old.items below p →
         kept ≡ keeps p.element.kind (meant role) kind.now) }
-    ensures err { IfErr result (λ e. e ≡ Error.OutOfMemory) }
+    ensures err { OnlyOutOfMemory result }
 {
     match elements.last_mut() {
         Some(parent) => parent.element.receive(role, kind, has_children, is_stray),
@@ -74,7 +75,7 @@ fn receive(
 fn put_alone(draft: Draft, elements: &mut Vec<Open>, drafts: &mut Drafts) -> Result<(), Error>
     ensures ok { OnOk result ((below : List Open) (p : Open) → IsLast elements.old.items below p →
         IsAfter below p elements.new.items drafts.new (arrive (leaf_arrival draft) (record { element = p.element; drafts = drafts.old }))) }
-    ensures err { IfErr result (λ e. e ≡ Error.OutOfMemory) }
+    ensures err { OnlyOutOfMemory result }
 {
     if receive(elements, Role::Contents, &draft.kind, false, false)? {
         drafts.put(draft)?;
@@ -97,7 +98,7 @@ fn put_over(
     requires { SplitAt drafts.old start }
     ensures ok { OnOk result (Comes start elements.old.items drafts.old elements.new.items drafts.new
         (λ kept. λ p. arrive (over_draft (meant role) draft has_children is_stray kept) p)) }
-    ensures err { IfErr result (λ e. e ≡ Error.OutOfMemory) }
+    ensures err { OnlyOutOfMemory result }
 {
     if receive(elements, role, &draft.kind, has_children, is_stray)? {
         drafts.enclose(draft, start)
@@ -135,7 +136,7 @@ fn put_beside(
     requires { SplitAt drafts.old start }
     ensures ok { OnOk result (Comes start elements.old.items drafts.old elements.new.items drafts.new
         (λ kept. λ p. arrive (beside_insertions node is_stray kept) p)) }
-    ensures err { IfErr result (λ e. e ≡ Error.OutOfMemory) }
+    ensures err { OnlyOutOfMemory result }
 {
     let mut around = Draft::from(NodeKind::Container);
     around.inserted = node.inserted;
@@ -178,7 +179,7 @@ fn put_inside(
     requires { SplitAt drafts.old start }
     ensures ok { OnOk result (Comes start elements.old.items drafts.old elements.new.items drafts.new
         (λ kept. λ p. arrive (with_insertions (meant role) node has_children is_stray kept) p)) }
-    ensures err { IfErr result (λ e. e ≡ Error.OutOfMemory) }
+    ensures err { OnlyOutOfMemory result }
 {
     let has_children = either(has_insertions(&node), has_children);
     put_over(role, node, has_children, is_stray, start, elements, drafts)
@@ -197,7 +198,7 @@ fn close_node(
     requires { SplitAt drafts.old start }
     ensures ok { OnOk result (Comes start elements.old.items drafts.old elements.new.items drafts.new
         (λ kept. λ p. arrive (node_made node has_children is_stray kept) p)) }
-    ensures err { IfErr result (λ e. e ≡ Error.OutOfMemory) }
+    ensures err { OnlyOutOfMemory result }
 {
     if goes_beside(&node) {
         return put_beside(node, is_stray, start, elements, drafts);
@@ -224,7 +225,7 @@ fn vanish(
     requires { SplitAt drafts.old start }
     ensures ok { OnOk result (Comes start elements.old.items drafts.old elements.new.items drafts.new
         (λ kept. λ p. arrive_any (mark_left inserted) p)) }
-    ensures err { IfErr result (λ e. e ≡ Error.OutOfMemory) }
+    ensures err { OnlyOutOfMemory result }
 {
     drafts.truncate(start);
     match inserted.into_mark() {
@@ -242,7 +243,7 @@ fn insert_into_kept(
 ) -> Result<(), Error>
     requires { SplitAt drafts.old start }
     ensures ok { OnOk result ((s : SplitAt drafts.old start) → drafts.new ≡ followed_by (insert_first depth inserted s.children) s.beside) }
-    ensures err { IfErr result (λ e. e ≡ Error.OutOfMemory) }
+    ensures err { OnlyOutOfMemory result }
 {
     if drafts.len() == start {
         return Ok(());
@@ -264,7 +265,7 @@ fn put_kept(
     requires { SplitAt drafts.old start }
     ensures ok { OnOk result (Comes start elements.old.items drafts.old elements.new.items drafts.new
         (λ kept. λ p. arrive (kept_arrival (meant role) kind.now has_children is_stray kept) p)) }
-    ensures err { IfErr result (λ e. e ≡ Error.OutOfMemory) }
+    ensures err { OnlyOutOfMemory result }
 {
     if !receive(elements, role, kind, has_children, is_stray)? {
         drafts.truncate(start);
@@ -286,7 +287,7 @@ fn close_row(
     requires { SplitAt drafts.old start }
     ensures ok { OnOk result (Comes start elements.old.items drafts.old elements.new.items drafts.new
         (λ kept. λ p. arrive (row_made cells style inserted has_children is_stray kept) p)) }
-    ensures err { IfErr result (λ e. e ≡ Error.OutOfMemory) }
+    ensures err { OnlyOutOfMemory result }
 {
     insert_into_kept(0, inserted, start, drafts)?;
     let row = Draft {
@@ -320,7 +321,7 @@ fn close_rows(
     requires { SplitAt drafts.old start }
     ensures ok { OnOk result (Comes start elements.old.items drafts.old elements.new.items drafts.new
         (λ kept. λ p. arrive (rows_made behind rows inserted has_children is_stray kept) p)) }
-    ensures err { IfErr result (λ e. e ≡ Error.OutOfMemory) }
+    ensures err { OnlyOutOfMemory result }
 {
     insert_into_kept(1, inserted, start, drafts)?;
     put_kept(
@@ -366,7 +367,7 @@ fn put_table(
     requires { SplitAt drafts.old start }
     ensures ok { OnOk result (Comes start elements.old.items drafts.old elements.new.items drafts.new
         (λ kept. λ p. arrive_any (table_alone is_stray kept) p)) }
-    ensures err { IfErr result (λ e. e ≡ Error.OutOfMemory) }
+    ensures err { OnlyOutOfMemory result }
 {
     let kept = match first_kept(start, drafts) {
         Some(kind) => receive(elements, Role::Contents, kind, true, is_stray)?,
@@ -393,7 +394,7 @@ fn close_captioned(
     requires { SplitAt drafts.old start }
     ensures ok { OnOk result (Comes start elements.old.items drafts.old elements.new.items drafts.new
         (λ kept. λ p. arrive_any (captioned_made style inserted has_captions is_stray kept) p)) }
-    ensures err { IfErr result (λ e. e ≡ Error.OutOfMemory) }
+    ensures err { OnlyOutOfMemory result }
 {
     if has_captions {
         let container = Draft {
@@ -444,7 +445,7 @@ fn close_caption(
     ensures ok { OnOk result (Comes start elements.old.items drafts.old elements.new.items drafts.new
         (λ kept. λ p. arrive (with_insertions role.Caption (draft (caption_kind (is_captioned p.element.kind)) style inserted)
         has_children is_stray kept) p)) }
-    ensures err { IfErr result (λ e. e ≡ Error.OutOfMemory) }
+    ensures err { OnlyOutOfMemory result }
 {
     let caption = Draft {
         kind: caption_kind(is_in_table(elements)),
@@ -485,7 +486,7 @@ fn close_table(
     requires { SplitAt drafts.old start }
     ensures ok { OnOk result (Comes start elements.old.items drafts.old elements.new.items drafts.new
         (λ kept. λ p. table_stands grid has_rows is_stray kept p)) }
-    ensures err { IfErr result (λ e. e ≡ Error.OutOfMemory) }
+    ensures err { OnlyOutOfMemory result }
 {
     if !has_rows {
         drafts.truncate(start);
@@ -506,7 +507,7 @@ fn close_other(
     requires { SplitAt drafts.old start }
     ensures ok { OnOk result (Comes start elements.old.items drafts.old elements.new.items drafts.new
         (λ kept. λ p. arrive_any (closed (is_captioned p.element.kind) (record { element = element; drafts = kept })) p)) }
-    ensures err { IfErr result (λ e. e ≡ Error.OutOfMemory) }
+    ensures err { OnlyOutOfMemory result }
 {
     if element.vanishes() {
         return vanish(element.inserted, start, elements, drafts);
@@ -545,7 +546,7 @@ fn close_standing(
     requires { SplitAt drafts.old start }
     ensures ok { OnOk result (Comes start elements.old.items drafts.old elements.new.items drafts.new
         (λ kept. λ p. arrive_any (made_of (is_captioned p.element.kind) kind style inserted has_children is_stray kept) p)) }
-    ensures err { IfErr result (λ e. e ≡ Error.OutOfMemory) }
+    ensures err { OnlyOutOfMemory result }
 {
     match kind {
         OpenKind::Node(kind) => close_node(
@@ -665,7 +666,7 @@ fn open_table(
     requires { IsNode dom.now handle }
     ensures ok { OnOk result (elements.new.items ≡ elements.old.items
         ++ table_elements dom.now handle start around) }
-    ensures err { IfErr result (λ e. e ≡ Error.OutOfMemory) }
+    ensures err { OnlyOutOfMemory result }
 {
     let (captions, parts) = table_orders(alloc, dom, handle)?;
     let caption_count = captions.own_count();
@@ -696,7 +697,7 @@ fn open_other(
 ) -> Result<(), Error>
     requires { IsNode dom.now handle }
     ensures ok { OnOk result (elements.new.items ≡ elements.old.items ++ other_elements dom.now handle start has_children element) }
-    ensures err { IfErr result (λ e. e ≡ Error.OutOfMemory) }
+    ensures err { OnlyOutOfMemory result }
 {
     let ahead = if has_children {
         dom.child_list(handle).len()
@@ -724,7 +725,7 @@ fn open_element(
 ) -> Result<(), Error>
     requires { IsNode dom.now handle }
     ensures ok { OnOk result (elements.new.items ≡ elements.old.items ++ opened_elements dom.now handle start has_children element) }
-    ensures err { IfErr result (λ e. e ≡ Error.OutOfMemory) }
+    ensures err { OnlyOutOfMemory result }
 {
     if element.kind.is_captioned() {
         open_table(alloc, dom, handle, start, element, elements)
@@ -748,7 +749,7 @@ fn open_node(
     requires node { IsNode dom.now handle }
     ensures ok { OnOk result (IsOpened dom.now handle (outline_at (map rule_of rules.now) dom.now handle)
         elements.old.items drafts.old elements.new.items drafts.new) }
-    ensures err { IfErr result (λ e. e ≡ Error.OutOfMemory) }
+    ensures err { OnlyOutOfMemory result }
 {
     // most nodes are texts, so these take the shortest way
     if let NodeData::Text { contents } = dom.data(handle) {
@@ -869,14 +870,14 @@ pub fn dom_to_render_tree(
     alloc: Global,
     rules: &[StyleRule],
     dom: &RcDom,
-) -> Result<Flat<RenderNode>, Error>
+) -> Result<PreorderForest<RenderNode>, Error>
     ensures ok { IfOk result (λ tree. render_tree_of (map rule_of rules.now) dom.now ≡ Some tree) }
     ensures err { IfErr result (λ e. Fails e (render_tree_of (map rule_of rules.now) dom.now)) }
 {
     drafts_of(alloc, rules, dom)?.into_nodes(alloc)
 }
 
-/// The same, of a document that is dropped before its nodes are made of their drafts, so that it takes no memory beside them.
+/// Like [`dom_to_render_tree`], but drops the document before insertions and depths are written, for a lower peak of memory.
 ///
 /// # Errors
 ///
@@ -885,7 +886,7 @@ pub fn dom_into_render_tree(
     alloc: Global,
     rules: &[StyleRule],
     dom: RcDom,
-) -> Result<Flat<RenderNode>, Error>
+) -> Result<PreorderForest<RenderNode>, Error>
     ensures ok { IfOk result (λ tree. render_tree_of (map rule_of rules.now) dom ≡ Some tree) }
     ensures err { IfErr result (λ e. Fails e (render_tree_of (map rule_of rules.now) dom)) }
 {

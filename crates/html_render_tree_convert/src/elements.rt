@@ -1,6 +1,7 @@
 //! What an element becomes, as far as is known of it while its children are converted, from the last to the first.
 
-ghost use Rattle.std.specs.Prelude.{◌≡◌, false, [], OnOk, IfErr, IfOk, IfNone};
+ghost use Rattle.std.specs.Prelude.{◌≡◌, false, [], OnOk, IfOk, IfNone};
+ghost use Rattle.html_render_dom_values.specs.Outcome.{OnlyOutOfMemory};
 ghost use Rattle.html_render_tree_convert.specs.Elements.{counts, gathered, has_place, keeps, meant, opened_kind, received, told_of_table};
 ghost use Rattle.html_render_tree_mapping.specs.Results.{stands_alone};
 ghost use Rattle.html_render_tree_mapping.specs.Conversion.{vanishes};
@@ -130,7 +131,7 @@ impl OpenKind {
     #[inline(always)]
     fn gather(&mut self, role: Role) -> Result<(), Error>
         ensures ok { OnOk result (self.new ≡ gathered (meant role) self.old) }
-        ensures err { IfErr result (λ e. e ≡ Error.OutOfMemory) }
+        ensures err { OnlyOutOfMemory result }
     {
         match role {
             Role::Rows(_, part) => match self {
@@ -229,7 +230,7 @@ impl Element {
     ) -> Result<bool, Error>
         ensures ok { OnOk result (self.new ≡ received (meant role) kind.now has_children is_stray self.old) }
         ensures kept { IfOk result (λ kept. kept ≡ keeps self.old.kind (meant role) kind.now) }
-        ensures err { IfErr result (λ e. e ≡ Error.OutOfMemory) }
+        ensures err { OnlyOutOfMemory result }
     {
         if !self.has_results {
             self.has_results = self.kind.counts(&role, kind, has_children);

@@ -4,4 +4,5 @@
 pub mod convert;
 pub mod elements;
 mod kinds;
+mod order;
 pub mod spans;

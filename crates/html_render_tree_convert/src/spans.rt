@@ -1,6 +1,7 @@
 //! What the cells of a table span, gathered from the last cell to the first, and the grid of a table that is whole.
 
 ghost use Rattle.std.specs.Prelude.{◌≡◌, ◌+◌, ◌-◌, ◌<◌, ◌^◌, ◌++◌, ◌∷◌, [], IfOk, OnOk, IfErr, Some, option_map, map};
+ghost use Rattle.html_render_dom_values.specs.Outcome.{OnlyOutOfMemory};
 ghost use Rattle.html_render_layout_nodes.specs.Tables.{unmeasured_table};
 ghost use Rattle.html_render_parts.specs.Placement.{lists};
 ghost use Rattle.html_render_parts.specs.TableCells.{cell_grid_of};
@@ -48,7 +49,7 @@ impl<T: Drop> Gathered<T> {
     /// `OutOfMemory`.
     pub fn put(&mut self, item: T) -> Result<(), Error>
         ensures ok { OnOk result (self.new ≡ item ∷ self.old) }
-        ensures err { IfErr result (λ e. e ≡ Error.OutOfMemory) }
+        ensures err { OnlyOutOfMemory result }
     {
         self.items.push(item)?;
         Ok(())
@@ -160,7 +161,7 @@ fn spanned(missing: u128, cell: &CellSpan) -> Span
 fn spanned_row(alloc: Global, widest: u128, cells: &[CellSpan]) -> Result<Vec<Span>, Error>
     requires { widest + 1 < 2 ^ 128 }
     ensures ok { IfOk result (λ spans. spans.items ≡ map (spanned (widest - width_of cells.now)) cells.now) }
-    ensures err { IfErr result (λ e. e ≡ Error.OutOfMemory) }
+    ensures err { OnlyOutOfMemory result }
 {
     let missing = widest.saturating_sub(width_of(cells));
     let spans: Vec<Span> = cells
@@ -173,7 +174,7 @@ fn spanned_row(alloc: Global, widest: u128, cells: &[CellSpan]) -> Result<Vec<Sp
 /// Puts the rows of a part of a table behind others.
 fn push_part(alloc: Global, part: &PartRows, rows: &mut Vec<Vec<Span>>) -> Result<(), Error>
     ensures ok { OnOk result (lists rows.new.items ≡ lists rows.old.items ++ spanned_in (greatest_width part.now) part.now) }
-    ensures err { IfErr result (λ e. e ≡ Error.OutOfMemory) }
+    ensures err { OnlyOutOfMemory result }
 {
     let widest = greatest_width(part.rows.as_slice());
     for row in &part.rows {
@@ -185,7 +186,7 @@ fn push_part(alloc: Global, part: &PartRows, rows: &mut Vec<Vec<Span>>) -> Resul
 /// What the cells of a table of these parts span, row by row.
 fn spans_of_parts(alloc: Global, parts: &[PartRows]) -> Result<Vec<Vec<Span>>, Error>
     ensures ok { IfOk result (λ rows. lists rows.items ≡ spans_of_parts parts.now) }
-    ensures err { IfErr result (λ e. e ≡ Error.OutOfMemory) }
+    ensures err { OnlyOutOfMemory result }
 {
     let mut rows = Vec::new(alloc);
     for part in parts {

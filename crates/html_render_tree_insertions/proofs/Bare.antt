@@ -7,7 +7,7 @@ use Rattle.html_render_dom_values.specs.Forest.{Forest, none, node}
 use Rattle.html_render_layout_nodes.specs.declared.tree.Entry.{Entry}
 use Rattle.html_render_layout_nodes.specs.declared.tree.RenderNode.{RenderNode}
 use Rattle.html_render_layout_nodes.specs.Preorder.{flatten, forest_of}
-use Rattle.html_render_layout_nodes.specs.laws.Preorder.{IsForest, IsForest-flatten}
+use Rattle.html_render_layout_nodes.specs.laws.Preorder.{IsPreorderOf, IsPreorderOf-flatten}
 use Rattle.html_render_layout_nodes.specs.laws.Splits.{followed_by-none}
 use Rattle.html_render_tree_insertions.specs.declared.drafts.Draft.{Draft}
 use Rattle.html_render_tree_insertions.specs.declared.drafts.Noted.{Noted}
@@ -19,7 +19,7 @@ use Rattle.html_render_tree_insertions.proofs.Noting.{bare, IsBare, flat, own_no
 flatten-bare : (t : Forest Draft) → All IsBare (flatten t) → flatten (expanded t) ≡ map bare (flatten t)
 flatten-bare none h = refl
 flatten-bare (node d children others) h =
-    let e : Entry Draft = record { node = d; size = length (flatten children) + 1 } in
+    let e : Entry Draft = record { node = d; subtree_len = length (flatten children) + 1 } in
     let nothing : d.inserted ≡ [] = All-head IsBare e (flatten children ++ flatten others) h in
     let rest = All-tail IsBare e (flatten children ++ flatten others) h in
     let inner : flatten (wrapped d.inserted (expanded children)) ≡ map bare (flatten children) =
@@ -30,9 +30,9 @@ flatten-bare (node d children others) h =
 
 -- where nothing is noted, the nodes that are kept are those of the drafts, from the last to the first
 pub bare_forest : (es : List (Entry RenderNode)) (noted : List Noted) (t : Forest Draft) → IsKept es noted →
-    forest_of (reverse (drafts_of es noted)) ≡ t → noted ≡ [] → IsForest (reverse es) (expanded t)
+    forest_of (reverse (drafts_of es noted)) ≡ t → noted ≡ [] → IsPreorderOf (reverse es) (expanded t)
 bare_forest es noted t kept view nothing =
     let drafts_are : flatten t ≡ reverse (drafts_of es []) = flat view kept ∙ ap (λ l. reverse (drafts_of es l)) nothing in
-    IsForest-flatten (reverse es) (expanded t)
+    IsPreorderOf-flatten (reverse es) (expanded t)
     (ap reverse (sym (own_nodes 0 es kept.not_measured)) ∙ sym (map-reverse bare (drafts_of es [])) ∙ ap (map bare) (sym drafts_are)
     ∙ sym (flatten-bare t (subst (All IsBare) (sym drafts_are) (all_reversed IsBare (drafts_of es []) (none_inserted 0 es)))))

@@ -5,7 +5,7 @@ use Rattle.std.proofs.Math.Seq.{take_at}
 use Rattle.html_render_dom_values.specs.Forest.{Forest, none, node, count}
 use Rattle.html_render_layout_nodes.specs.declared.tree.Entry.{Entry}
 use Rattle.html_render_layout_nodes.specs.Preorder.{flatten}
-use Rattle.html_render_layout_nodes.specs.laws.Preorder.{length-flatten, flatten-followed_by, IsForest, IsForest-flatten}
+use Rattle.html_render_layout_nodes.specs.laws.Preorder.{length-flatten, flatten-followed_by, IsPreorderOf, IsPreorderOf-flatten}
 use Rattle.html_render_layout_nodes.specs.Splits.{SplitAt}
 use Rattle.html_render_layout_nodes.specs.laws.Splits.{count-followed_by}
 
@@ -22,25 +22,25 @@ module _ {K : Type 0} where
   -- a node over what came since
   pub enclosed : (es : List (Entry K)) (t : Forest K) (k : K) (mark many : ℕ) (s : SplitAt t mark) → flatten t ≡ reverse es →
       many ≡ length es →
-      IsForest (reverse (es ++ record { node = k; size = many - mark + 1 } ∷ [])) (node k s.children s.beside)
+      IsPreorderOf (reverse (es ++ record { node = k; subtree_len = many - mark + 1 } ∷ [])) (node k s.children s.beside)
   enclosed es t k mark many s e all =
-      let over : Entry K = record { node = k; size = many - mark + 1 } in
+      let over : Entry K = record { node = k; subtree_len = many - mark + 1 } in
       let long = SplitAt-le es t mark s e in
       let size : many - mark + 1 ≡ length (flatten s.children) + 1 = omega (arith, length-flatten s.children) in
-      IsForest-flatten _ _ (reverse-append es (over ∷ [])
+      IsPreorderOf-flatten _ _ (reverse-append es (over ∷ [])
       ∙ ap (λ l. over ∷ l) (sym e ∙ ap flatten s.is ∙ flatten-followed_by s.children s.beside)
-      ∙ ap (λ n. record { node = k; size = n } ∷ (flatten s.children ++ flatten s.beside)) size)
+      ∙ ap (λ n. record { node = k; subtree_len = n } ∷ (flatten s.children ++ flatten s.beside)) size)
 
   -- a node in front of all
   pub put_front : (es : List (Entry K)) (t : Forest K) (k : K) → flatten t ≡ reverse es →
-      IsForest (reverse (es ++ record { node = k; size = 1 } ∷ [])) (node k none t)
+      IsPreorderOf (reverse (es ++ record { node = k; subtree_len = 1 } ∷ [])) (node k none t)
   put_front es t k e =
-      let one : Entry K = record { node = k; size = 1 } in
-      IsForest-flatten _ _ (reverse-append es (one ∷ []) ∙ ap (λ l. one ∷ l) (sym e))
+      let one : Entry K = record { node = k; subtree_len = 1 } in
+      IsPreorderOf-flatten _ _ (reverse-append es (one ∷ []) ∙ ap (λ l. one ∷ l) (sym e))
 
   -- what stood before the mark
   pub truncated : (es : List (Entry K)) (t : Forest K) (mark : ℕ) (s : SplitAt t mark) → flatten t ≡ reverse es →
-      IsForest (reverse (take mark es)) s.beside
+      IsPreorderOf (reverse (take mark es)) s.beside
   truncated es t mark s e =
       let parts : es ≡ reverse (flatten s.beside) ++ reverse (flatten s.children) =
       sym (reverse-reverse es) ∙ ap reverse (sym e ∙ ap flatten s.is ∙ flatten-followed_by s.children s.beside)
@@ -48,4 +48,4 @@ module _ {K : Type 0} where
       let front : take mark es ≡ reverse (flatten s.beside) =
       ap (take mark) parts ∙ take_at (reverse (flatten s.beside)) (reverse (flatten s.children)) mark
       (omega (arith, s.mark_is, length-flatten s.beside, length-reverse (flatten s.beside))) in
-      IsForest-flatten _ _ (ap reverse front ∙ reverse-reverse (flatten s.beside))
+      IsPreorderOf-flatten _ _ (ap reverse front ∙ reverse-reverse (flatten s.beside))

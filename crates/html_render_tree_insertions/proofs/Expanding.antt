@@ -7,7 +7,7 @@ use Rattle.html_render_dom_values.specs.Forest.{Forest, none, node, followed_by}
 use Rattle.html_render_layout_nodes.specs.declared.tree.Entry.{Entry}
 use Rattle.html_render_layout_nodes.specs.declared.tree.RenderNode.{RenderNode}
 use Rattle.html_render_layout_nodes.specs.Preorder.{flatten}
-use Rattle.html_render_layout_nodes.specs.laws.Preorder.{flatten-followed_by, IsForest, IsForest-flatten}
+use Rattle.html_render_layout_nodes.specs.laws.Preorder.{flatten-followed_by, IsPreorderOf, IsPreorderOf-flatten}
 use Rattle.html_render_tree_insertions.specs.declared.drafts.Draft.{Draft}
 use Rattle.html_render_tree_insertions.specs.declared.drafts.Insertions.{Insertions}
 use Rattle.html_render_tree_insertions.specs.declared.drafts.expansion.Opened.{Opened}
@@ -18,7 +18,7 @@ use Rattle.html_render_tree_insertions.specs.Expansion.{leaves, Closes}
 -- a node is made whole once all behind its children is written
 pub closing : (old out over : List (Entry RenderNode)) (texts : List (List ℕ)) (place many : ℕ) (e : Entry RenderNode) →
     out ++ flatten (leaves (reverse texts)) ≡ old ++ over → length texts ≡ 0 → many ≡ length out → e ≡ get_or out place e →
-    Closes old place over (set out place (record { node = e.node; size = many - place }))
+    Closes old place over (set out place (record { node = e.node; subtree_len = many - place }))
 closing old out over (text ∷ texts) place many e whole none_left all at = λ before top below is here. absurd (omega arith)
 closing old out over [] place many e whole none_left all at = λ before top below is here.
     let behind = below ++ over in
@@ -26,10 +26,10 @@ closing old out over [] place many e whole none_left all at = λ before top belo
     sym (append-nil out) ∙ whole ∙ ap (λ l. l ++ over) is ∙ append_assoc before (top ∷ below) over in
     let own : e ≡ top = at ∙ ap (λ l. get_or l place e) parts ∙ get_or_at before top behind e place (sym here) in
     let size : many - place ≡ length behind + 1 = omega (arith, ap length parts, length-append before (top ∷ behind)) in
-    let made : Entry RenderNode = record { node = e.node; size = many - place } in
+    let made : Entry RenderNode = record { node = e.node; subtree_len = many - place } in
     ap (λ l. set l place made) parts ∙ set_at before top behind made place (sym here)
-    ∙ ap (λ n. before ++ record { node = e.node; size = n } ∷ behind) size
-    ∙ ap (λ (x : Entry RenderNode). before ++ record { node = x.node; size = length behind + 1 } ∷ behind) own
+    ∙ ap (λ n. before ++ record { node = e.node; subtree_len = n } ∷ behind) size
+    ∙ ap (λ (x : Entry RenderNode). before ++ record { node = x.node; subtree_len = length behind + 1 } ∷ behind) own
 
 -- ---- the front, and what waits
 
@@ -89,7 +89,7 @@ frames_of (l ∷ levels) = frames_of levels ++ l.opened ∷ []
 abbrev pub whole : List Level → List (Entry RenderNode) → List (Entry RenderNode)
 whole [] nodes = nodes
 whole (l ∷ levels) nodes =
-    whole levels ((l.done ++ record { node = l.entry.node; size = length (nodes ++ over_of l) + 1 } ∷ (nodes ++ over_of l))
+    whole levels ((l.done ++ record { node = l.entry.node; subtree_len = length (nodes ++ over_of l) + 1 } ∷ (nodes ++ over_of l))
     ++ flatten (expanded l.beside))
 
 -- each open node stands where it says, and is over where it says
@@ -161,7 +161,7 @@ over_at wanted nodes all frames o drafts (l ∷ levels) none inside s taken over
       place_is = s.placed.0;
       then = λ new closes.
           let all = inside ++ over_of l in
-          let made : Entry RenderNode = record { node = l.entry.node; size = length all + 1 } in
+          let made : Entry RenderNode = record { node = l.entry.node; subtree_len = length all + 1 } in
           record {
             trees = l.beside;
             inside = l.done ++ made ∷ all;
@@ -201,24 +201,24 @@ done_at wanted nodes frames left (l ∷ levels) trees inside s not_over empty =
 
 pub all_written : (t : Forest Draft) {nodes : List (Entry RenderNode)} {frames : List Opened} {drafts : List (Entry Draft)} {many : ℕ} →
     Writing (flatten (expanded t)) nodes frames drafts → NoneOver frames many → many ≡ length drafts → length drafts ≡ 0 →
-    IsForest nodes (expanded t)
+    IsPreorderOf nodes (expanded t)
 all_written t {nodes} {frames} {drafts} w not_over all empty =
     let turned = length-reverse drafts in
-    IsForest-flatten nodes (expanded t)
+    IsPreorderOf-flatten nodes (expanded t)
     (done_at (flatten (expanded t)) nodes frames (reverse drafts) w.levels w.trees w.inside w.stands
     (λ outer o is over. not_over outer o is (over ∙ turned ∙ sym all)) (turned ∙ empty))
 
 -- a draft is taken: its node is written
 pub record Opening (wanted nodes : List (Entry RenderNode)) (frames : List Opened) (e : Entry Draft) (left : List (Entry Draft)) : Type 0 where
-  pub some : 1 ≤ e.size
-  pub within : e.size ≤ length left + 1
+  pub some : 1 ≤ e.subtree_len
+  pub within : e.subtree_len ≤ length left + 1
   -- it is whole, where it has no children and nothing is inserted
-  pub bare : (new : List (Entry RenderNode)) → e.size ≡ 1 → e.node.inserted ≡ [] →
-      new ≡ nodes ++ record { node = node_of e.node; size = 1 } ∷ [] → Writing wanted new frames left
+  pub bare : (new : List (Entry RenderNode)) → e.subtree_len ≡ 1 → e.node.inserted ≡ [] →
+      new ≡ nodes ++ record { node = node_of e.node; subtree_len = 1 } ∷ [] → Writing wanted new frames left
   -- or it is open
   pub opens : (o : Opened) (new : List (Entry RenderNode)) (more : List Opened) →
-      new ≡ nodes ++ record { node = node_of e.node; size = e.size } ∷ flatten (front e.node.inserted) →
-      o.place ≡ length nodes → o.left + e.size ≡ length left + 1 → leaves (reverse o.behind.items) ≡ back e.node.inserted →
+      new ≡ nodes ++ record { node = node_of e.node; subtree_len = e.subtree_len } ∷ flatten (front e.node.inserted) →
+      o.place ≡ length nodes → o.left + e.subtree_len ≡ length left + 1 → leaves (reverse o.behind.items) ≡ back e.node.inserted →
       more ≡ frames ++ o ∷ [] → Writing wanted new more left
 
 -- what stands below a node, flat
@@ -227,15 +227,15 @@ flat_wrapped : (inserted : List Insertions) (children : Forest RenderNode) →
 flat_wrapped inserted children = simp (flatten-followed_by, append_assoc)
 
 abbrev over_nodes : (k : RenderNode) → (below : List (Entry RenderNode)) → Entry RenderNode
-over_nodes k below = record { node = k; size = length below + 1 }
+over_nodes k below = record { node = k; subtree_len = length below + 1 }
 
 bare_at : (wanted nodes : List (Entry RenderNode)) (frames : List Opened) (left : List (Entry Draft)) (levels : List Level) (e : Entry Draft)
     (d : Draft) (children beside : Forest Draft) (inside new : List (Entry RenderNode)) →
     Stands wanted nodes frames (e ∷ reverse left) (node d children beside) inside levels → length (flatten children) + 1 ≡ 1 →
-    d.inserted ≡ [] → new ≡ nodes ++ record { node = node_of d; size = 1 } ∷ [] → Writing wanted new frames left
+    d.inserted ≡ [] → new ≡ nodes ++ record { node = node_of d; subtree_len = 1 } ∷ [] → Writing wanted new frames left
 bare_at wanted nodes frames left levels e d (node f below others) beside inside new s single nothing written = absurd (omega arith)
 bare_at wanted nodes frames left levels e d none beside inside new s single nothing written =
-    let leaf : Entry RenderNode = record { node = node_of d; size = 1 } in
+    let leaf : Entry RenderNode = record { node = node_of d; subtree_len = 1 } in
     let below_is : flatten (wrapped d.inserted none) ≡ [] = ap (λ i. flatten (wrapped i none)) nothing in
     record {
       trees = beside;
@@ -259,7 +259,7 @@ opens_at wanted nodes frames left e [] none inside s not_over = absurd (omega (a
 opens_at wanted nodes frames left e (l ∷ levels) none inside s not_over =
     absurd (not_over (frames_of levels) l.opened s.frames_are (s.placed.1 ∙ sym (ap length s.left_are)))
 opens_at wanted nodes frames left e levels (node d children beside) inside s not_over =
-    let one : Entry Draft = record { node = d; size = length (flatten children) + 1 } in
+    let one : Entry Draft = record { node = d; subtree_len = length (flatten children) + 1 } in
     let own : e ≡ one = ap (λ l. get_or l 0 e) s.left_are in
     let ahead : reverse left ≡ flatten children ++ (flatten beside ++ rests levels) =
     ap (drop 1) s.left_are ∙ append_assoc (flatten children) (flatten beside) (rests levels) in
@@ -270,7 +270,7 @@ opens_at wanted nodes frames left e levels (node d children beside) inside s not
       within = omega arith;
       bare = λ new single nothing written. bare_at wanted nodes frames left levels e d children beside inside new s single nothing written;
       opens = λ o new more written place over waits pushed.
-          let entry : Entry RenderNode = record { node = node_of d; size = length (flatten children) + 1 } in
+          let entry : Entry RenderNode = record { node = node_of d; subtree_len = length (flatten children) + 1 } in
           let ahead_of = flatten (front d.inserted) in
           let all = (ahead_of ++ flatten (expanded children)) ++ flatten (leaves (reverse o.behind.items)) in
           let below_is : flatten (wrapped d.inserted (expanded children)) ≡ all =

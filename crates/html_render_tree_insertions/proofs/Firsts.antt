@@ -6,7 +6,7 @@ use Rattle.std.proofs.Math.Seq.{get_or_at, set_at}
 use Rattle.html_render_dom_values.specs.Forest.{Forest, none, node}
 use Rattle.html_render_layout_nodes.specs.declared.tree.Entry.{Entry}
 use Rattle.html_render_layout_nodes.specs.Preorder.{flatten}
-use Rattle.html_render_layout_nodes.specs.laws.Preorder.{length-flatten, IsForest, IsForest-flatten}
+use Rattle.html_render_layout_nodes.specs.laws.Preorder.{length-flatten, IsPreorderOf, IsPreorderOf-flatten}
 use Rattle.html_render_tree_insertions.specs.declared.drafts.Draft.{Draft}
 use Rattle.html_render_tree_insertions.specs.Drafts.{at_first, first_kind, FirstAt}
 use Rattle.html_render_tree_insertions.specs.laws.Drafts.{count-at_first}
@@ -14,7 +14,7 @@ use Rattle.html_render_tree_insertions.proofs.Lists.{turned}
 
 -- the entry of a draft over its children
 abbrev top : Draft → Forest Draft → Entry Draft
-top d children = record { node = d; size = length (flatten children) + 1 }
+top d children = record { node = d; subtree_len = length (flatten children) + 1 }
 
 -- over how many nodes the draft stands that is reached by going down so many times: none, where no draft is there
 abbrev pub size_at : Forest Draft → (depth : ℕ) → ℕ
@@ -29,9 +29,9 @@ record Standing (t : Forest Draft) (depth : ℕ) : Type 0 where
   behind : List (Entry Draft)
   is : flatten t ≡ before ++ there ∷ behind
   depth_is : depth ≡ length before
-  size_is : there.size ≡ size_at t depth
+  size_is : there.subtree_len ≡ size_at t depth
   changed : (change : Draft → Draft) →
-      flatten (at_first depth change t) ≡ before ++ record { node = change there.node; size = there.size } ∷ behind
+      flatten (at_first depth change t) ≡ before ++ record { node = change there.node; subtree_len = there.subtree_len } ∷ behind
 
 standing : (t : Forest Draft) (depth : ℕ) → 1 ≤ size_at t depth → Standing t depth
 standing none depth some = absurd (omega arith)
@@ -55,10 +55,10 @@ standing (node d children others) (suc depth) some =
       depth_is = ap suc s.depth_is;
       size_is = s.size_is;
       changed = λ change.
-          let changed_there : Entry Draft = record { node = change s.there.node; size = s.there.size } in
+          let changed_there : Entry Draft = record { node = change s.there.node; subtree_len = s.there.subtree_len } in
           let below = at_first depth change children in
           let same = length-flatten below ∙ count-at_first depth change children ∙ sym (length-flatten children) in
-          ap (λ n. record { node = d; size = n + 1 } ∷ (flatten below ++ flatten others)) same
+          ap (λ n. record { node = d; subtree_len = n + 1 } ∷ (flatten below ++ flatten others)) same
           ∙ ap (λ l. one ∷ (l ++ flatten others)) (s.changed change)
           ∙ ap (λ l. one ∷ l) (append_assoc s.before (changed_there ∷ s.behind) (flatten others));
     }
@@ -83,10 +83,10 @@ there_is : {t : Forest Draft} {entries : List (Entry Draft)} {depth place : ℕ}
 there_is {t} {entries} {depth} {place} f e at = at ∙ ap (λ l. get_or l place e) f.is ∙ get_or_at f.before f.there f.behind e place (sym f.place_is)
 
 size_there : (t : Forest Draft) (entries : List (Entry Draft)) (depth place : ℕ) (e : Entry Draft) → entries ≡ reverse (flatten t) →
-    place + depth + 1 ≡ length entries → 1 ≤ size_at t depth → e ≡ get_or entries place e → e.size ≡ size_at t depth
+    place + depth + 1 ≡ length entries → 1 ≤ size_at t depth → e ≡ get_or entries place e → e.subtree_len ≡ size_at t depth
 unfolding found standing
 size_there t entries depth place e is at some there =
-    ap (λ (x : Entry Draft). x.size) (there_is (found t entries depth place is at some) e there) ∙ (standing t depth some).size_is
+    ap (λ (x : Entry Draft). x.subtree_len) (there_is (found t entries depth place is at some) e there) ∙ (standing t depth some).size_is
 
 -- the first tree's top, if there is one
 pub some_top : (t : Forest Draft) (entries : List (Entry Draft)) → entries ≡ reverse (flatten t) → 1 ≤ length entries → 1 ≤ size_at t 0
@@ -101,7 +101,7 @@ deeper (node d (node e below beside) others) zero some more = omega arith
 deeper (node d children others) (suc depth) some more = deeper children depth some more
 
 pub one_down : (t : Forest Draft) (entries : List (Entry Draft)) (depth place : ℕ) (e : Entry Draft) → entries ≡ reverse (flatten t) →
-    place + depth + 1 ≡ length entries → 1 ≤ size_at t depth → e ≡ get_or entries place e → e.size ≢ 1 →
+    place + depth + 1 ≡ length entries → 1 ≤ size_at t depth → e ≡ get_or entries place e → e.subtree_len ≢ 1 →
     (1 ≤ place) × (1 ≤ size_at t (depth + 1))
 one_down t entries depth place e is at some there more =
     let next = deeper t depth some (λ one. more (size_there t entries depth place e is at some there ∙ one)) in
@@ -125,7 +125,7 @@ lost_under (node d children others) (suc steps) (suc depth) change single furthe
     ap (λ u. node d u others) (lost_under children steps depth change single (omega arith))
 
 pub lost_below : (t : Forest Draft) (entries : List (Entry Draft)) (steps place depth : ℕ) (e : Entry Draft) → entries ≡ reverse (flatten t) →
-    place + steps + 1 ≡ length entries → 1 ≤ size_at t steps → e ≡ get_or entries place e → e.size ≡ 1 → steps < depth →
+    place + steps + 1 ≡ length entries → 1 ≤ size_at t steps → e ≡ get_or entries place e → e.subtree_len ≡ 1 → steps < depth →
     (change : Draft → Draft) → at_first depth change t ≡ t
 lost_below t entries steps place depth e is at some there single further change =
     lost_under t steps depth change (sym (size_there t entries steps place e is at some there) ∙ single) further
@@ -147,14 +147,14 @@ on_none (Some x) P p = tt
 -- the draft there is changed
 pub changed_in : {t : Forest Draft} {entries : List (Entry Draft)} {depth place : ℕ} → FirstAt t depth entries place →
     (change : Draft → Draft) (e : Entry Draft) → e ≡ get_or entries place e →
-    IsForest (reverse (set entries place (record { node = change e.node; size = e.size }))) (at_first depth change t)
+    IsPreorderOf (reverse (set entries place (record { node = change e.node; subtree_len = e.subtree_len }))) (at_first depth change t)
 changed_in {t} {entries} {depth} {place} f change e at =
-    let changed = λ (x : Entry Draft). let y : Entry Draft = record { node = change x.node; size = x.size } in y in
+    let changed = λ (x : Entry Draft). let y : Entry Draft = record { node = change x.node; subtree_len = x.subtree_len } in y in
     let put_is : changed e ≡ changed f.there = ap changed (there_is f e at) in
     let written : set entries place (changed e) ≡ reverse (flatten (at_first depth change t)) =
     ap (λ l. set l place (changed e)) f.is ∙ set_at f.before f.there f.behind (changed e) place (sym f.place_is)
     ∙ ap (λ x. f.before ++ x ∷ f.behind) put_is ∙ sym (f.changed change) in
-    IsForest-flatten _ _ (ap reverse written ∙ reverse-reverse (flatten (at_first depth change t)))
+    IsPreorderOf-flatten _ _ (ap reverse written ∙ reverse-reverse (flatten (at_first depth change t)))
 
 -- it is within the drafts
 pub within_in : {t : Forest Draft} {entries : List (Entry Draft)} {depth place : ℕ} → FirstAt t depth entries place →

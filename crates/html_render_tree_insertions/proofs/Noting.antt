@@ -11,7 +11,7 @@ use Rattle.html_render_layout_nodes.specs.declared.tree.Entry.{Entry}
 use Rattle.html_render_layout_nodes.specs.declared.tree.NodeStyle.{NodeStyle}
 use Rattle.html_render_layout_nodes.specs.declared.tree.RenderNode.{RenderNode}
 use Rattle.html_render_layout_nodes.specs.Preorder.{flatten, forest_of}
-use Rattle.html_render_layout_nodes.specs.laws.Preorder.{IsForest}
+use Rattle.html_render_layout_nodes.specs.laws.Preorder.{IsPreorderOf}
 use Rattle.html_render_tree_insertions.specs.declared.drafts.Draft.{Draft}
 use Rattle.html_render_tree_insertions.specs.declared.drafts.Insertions.{Insertions}
 use Rattle.html_render_tree_insertions.specs.declared.drafts.Noted.{Noted}
@@ -291,7 +291,7 @@ pub record StandsFor (es : List (Entry RenderNode)) (noted : List Noted) (t : Fo
   pub kept : IsKept es noted
 
 pub stands_for : {es : List (Entry RenderNode)} {noted : List Noted} {drafts : List (Entry Draft)} {t : Forest Draft} →
-    Keeps es noted drafts → IsForest (reverse drafts) t → StandsFor es noted t
+    Keeps es noted drafts → IsPreorderOf (reverse drafts) t → StandsFor es noted t
 stands_for k f = record {
   is = ap (λ l. forest_of (reverse l)) k.is ∙ f.is;
   kept = record {
@@ -315,10 +315,10 @@ length-drafts_of es noted = length-drafts_from 0 es (reverse noted)
 -- a draft is pushed
 pub pushes : {es : List (Entry RenderNode)} {noted : List Noted} {drafts : List (Entry Draft)} (d : Draft) (size : ℕ)
     (new : List (Entry RenderNode)) (new_noted : List Noted) → Keeps es noted drafts →
-    new ≡ es ++ record { node = node_of d; size = size } ∷ [] → new_noted ≡ noted ++ note_of (length es) d.inserted →
-    Keeps new new_noted (drafts ++ record { node = d; size = size } ∷ [])
+    new ≡ es ++ record { node = node_of d; subtree_len = size } ∷ [] → new_noted ≡ noted ++ note_of (length es) d.inserted →
+    Keeps new new_noted (drafts ++ record { node = d; subtree_len = size } ∷ [])
 pushes {es} {noted} {drafts} d size new new_noted k pushed noting =
-    let e : Entry RenderNode = record { node = node_of d; size = size } in
+    let e : Entry RenderNode = record { node = node_of d; subtree_len = size } in
     let p = subst (PutBehind (length es) d.inserted noted) (sym noting) (put_behind d.inserted noted (length es) k.in_order) in
     let longer : length es + 1 ≡ length new = omega (arith, ap length pushed, length-append es (e ∷ [])) in
     record {
@@ -357,11 +357,11 @@ draft_at es noted place e within at =
 -- it gets a style
 pub restyles : (es : List (Entry RenderNode)) (noted : List Noted) (place : ℕ) (e : Entry RenderNode) (style : NodeStyle)
     (new : List (Entry RenderNode)) → Keeps es noted (drafts_of es noted) → place < length es → e ≡ get_or es place e →
-    new ≡ set es place (record { node = record e.node { style = style }; size = e.size }) →
+    new ≡ set es place (record { node = record e.node { style = style }; subtree_len = e.subtree_len }) →
     let d = drafted e (inserted_at place (reverse noted)) in
-    Keeps new noted (set (drafts_of es noted) place (record { node = with_style style d.node; size = d.size }))
+    Keeps new noted (set (drafts_of es noted) place (record { node = with_style style d.node; subtree_len = d.subtree_len }))
 restyles es noted place e style new k within at written =
-    let made : Entry RenderNode = record { node = record e.node { style = style }; size = e.size } in
+    let made : Entry RenderNode = record { node = record e.node { style = style }; subtree_len = e.subtree_len } in
     let start : 0 + place ≡ place = omega arith in
     record {
       is = ap (λ l. drafts_from 0 l (reverse noted)) written
@@ -386,7 +386,7 @@ pub rounds : (es : List (Entry RenderNode)) (noted : List Noted) (place : ℕ) (
     (new_noted : List Noted) → Keeps es noted (drafts_of es noted) → place < length es →
     PutRound place inserted noted new_noted (length es) →
     let d = drafted (get_or es place e) (inserted_at place (reverse noted)) in
-    Keeps es new_noted (set (drafts_of es noted) place (record { node = with_inserted inserted d.node; size = d.size }))
+    Keeps es new_noted (set (drafts_of es noted) place (record { node = with_inserted inserted d.node; subtree_len = d.subtree_len }))
 rounds es noted place e inserted new_noted k within p =
     let there = get_or es place e in
     let start : 0 + place ≡ place = omega arith in
@@ -414,12 +414,12 @@ abbrev pub IsBare : Entry Draft → Type 0
 IsBare e = e.node.inserted ≡ []
 
 abbrev pub bare : Entry Draft → Entry RenderNode
-bare e = record { node = node_of e.node; size = e.size }
+bare e = record { node = node_of e.node; subtree_len = e.subtree_len }
 
 -- a node that isn't measured is that of its draft
 pub own_node : (e : Entry RenderNode) (inserted : List Insertions) → IsUnmeasured e →
     bare (drafted e inserted) ≡ e
-own_node e inserted h = ap (λ m. record { node = record e.node { estimate = m }; size = e.size }) (sym h)
+own_node e inserted h = ap (λ m. record { node = record e.node { estimate = m }; subtree_len = e.subtree_len }) (sym h)
 
 -- where nothing is noted, the nodes are those of the drafts
 pub own_nodes : (place : ℕ) (es : List (Entry RenderNode)) → All IsUnmeasured es → map bare (drafts_from place es []) ≡ es

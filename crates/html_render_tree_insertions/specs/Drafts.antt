@@ -112,4 +112,4 @@ pub record FirstAt (t : Forest Draft) (depth : ℕ) (entries : List (Entry Draft
   pub is : entries ≡ before ++ there ∷ behind
   pub place_is : place ≡ length before
   pub changed : (change : Draft → Draft) →
-      reverse (flatten (at_first depth change t)) ≡ before ++ record { node = change there.node; size = there.size } ∷ behind
+      reverse (flatten (at_first depth change t)) ≡ before ++ record { node = change there.node; subtree_len = there.subtree_len } ∷ behind

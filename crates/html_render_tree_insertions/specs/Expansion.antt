@@ -16,4 +16,4 @@ abbrev pub Closes : (old : List (Entry RenderNode)) → (place : ℕ) → (behin
 Closes old place behind new =
     (before : List (Entry RenderNode)) (top : Entry RenderNode) (below : List (Entry RenderNode)) → old ≡ before ++ top ∷ below →
     place ≡ length before →
-    new ≡ before ++ record { node = top.node; size = length (below ++ behind) + 1 } ∷ (below ++ behind)
+    new ≡ before ++ record { node = top.node; subtree_len = length (below ++ behind) + 1 } ∷ (below ++ behind)

@@ -18,7 +18,7 @@ inserted_at place (n ∷ earlier) = inserted_at place earlier ++ (if n.place == 
 
 -- the draft of a node, into which this is inserted
 abbrev pub drafted : Entry RenderNode → List Insertions → Entry Draft
-drafted e inserted = record { node = draft e.node.kind e.node.style inserted; size = e.size }
+drafted e inserted = record { node = draft e.node.kind e.node.style inserted; subtree_len = e.subtree_len }
 
 -- the drafts of nodes that stand from this place on
 abbrev pub drafts_from : (place : ℕ) → List (Entry RenderNode) → (notes : List Noted) → List (Entry Draft)

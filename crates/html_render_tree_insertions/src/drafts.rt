@@ -5,8 +5,9 @@
 //! draft `c` over `a` and `b`. `insert_first(0, inserted)` then notes an insertion at `c`, and `into_nodes` gives the nodes:
 //! `c` over what is inserted at the front, `a`, `b` and what is inserted at the end.
 
-ghost use Rattle.std.specs.Prelude.{◌≡◌, ◌↔◌, ◌+◌, ◌≤◌, ◌<◌, ℕ, IsTrue, OnOk, OnErr, IfOk, IfErr, IfSome, IfNone, None, Some, List, [], ◌∷◌, ◌++◌, length, reverse, take, drop};
+ghost use Rattle.std.specs.Prelude.{◌≡◌, ◌↔◌, ◌+◌, ◌≤◌, ◌<◌, ℕ, IsTrue, OnOk, OnErr, IfOk, IfSome, IfNone, None, Some, List, [], ◌∷◌, ◌++◌, length, reverse, take, drop};
 ghost use Rattle.std.specs.List.{All};
+ghost use Rattle.html_render_dom_values.specs.Outcome.{OnlyOutOfMemory};
 ghost use Rattle.html_render_dom_values.specs.Forest as forest;
 ghost use Rattle.html_render_dom_values.specs.Forest.{none, count};
 ghost use Rattle.html_render_layout_nodes.specs.Preorder.{flatten};
@@ -75,7 +76,7 @@ impl Inserted {
     /// `OutOfMemory`.
     pub fn of(alloc: Global, insertions: Insertions) -> Result<Inserted, Error>
         ensures ok { IfOk result (λ i. i ≡ insertions ∷ []) }
-        ensures err { IfErr result (λ e. e ≡ Error.OutOfMemory) }
+        ensures err { OnlyOutOfMemory result }
     {
         let mut rounds = Vec::with_capacity(alloc, 1)?;
         rounds.push(insertions)?;
@@ -103,7 +104,7 @@ impl Inserted {
     pub fn wrap(&mut self, other: Inserted) -> Result<(), Error>
         ensures ok { OnOk result (self.new ≡ self.old ++ other) }
         ensures unchanged { OnErr result (self.new ≡ self.old) }
-        ensures err { IfErr result (λ e. e ≡ Error.OutOfMemory) }
+        ensures err { OnlyOutOfMemory result }
     {
         match other.rounds {
             Some(outer) => match &mut self.rounds {
@@ -135,7 +136,7 @@ impl Inserted {
         after: Option<NodeText>,
     ) -> Result<Inserted, Error>
         ensures ok { IfOk result (λ i. i ≡ inserted_of mark before after) }
-        ensures err { IfErr result (λ e. e ≡ Error.OutOfMemory) }
+        ensures err { OnlyOutOfMemory result }
     {
         if mark.is_some() || before.is_some() || after.is_some() {
             Inserted::of(
@@ -250,7 +251,7 @@ impl Drafts {
     /// `OutOfMemory`.
     pub fn with_capacity(alloc: Global, drafts: usize) -> Result<Drafts, Error>
         ensures ok { IfOk result (λ d. d ≡ none) }
-        ensures err { IfErr result (λ e. e ≡ Error.OutOfMemory) }
+        ensures err { OnlyOutOfMemory result }
     {
         let entries = Vec::with_capacity(alloc, drafts)?;
         let noted = Vec::new(alloc);
@@ -274,7 +275,7 @@ impl Drafts {
     pub fn put(&mut self, draft: Draft) -> Result<(), Error>
         ensures ok { OnOk result (self.new ≡ forest.node draft none self.old) }
         ensures unchanged { OnErr result (self.new ≡ self.old) }
-        ensures err { IfErr result (λ e. e ≡ Error.OutOfMemory) }
+        ensures err { OnlyOutOfMemory result }
     {
         push_draft(&mut self.entries, &mut self.noted, draft, 1)?;
         Ok(())
@@ -290,7 +291,7 @@ impl Drafts {
         requires { SplitAt self.old mark }
         ensures ok { OnOk result ((s : SplitAt self.old mark) → self.new ≡ forest.node draft s.children s.beside) }
         ensures unchanged { OnErr result (self.new ≡ self.old) }
-        ensures err { IfErr result (λ e. e ≡ Error.OutOfMemory) }
+        ensures err { OnlyOutOfMemory result }
     {
         let size = self.entries.len() - mark + 1;
         push_draft(&mut self.entries, &mut self.noted, draft, size)?;
@@ -324,7 +325,7 @@ impl Drafts {
     {
         let mut place = self.entries.len().checked_sub(1)?;
         for _ in 0..depth {
-            if self.entries[place].size == 1 {
+            if self.entries[place].subtree_len == 1 {
                 return None;
             }
             place -= 1;
@@ -350,7 +351,7 @@ impl Drafts {
     pub fn insert_first(&mut self, depth: usize, inserted: Inserted) -> Result<(), Error>
         ensures ok { OnOk result (self.new ≡ insert_first depth inserted self.old) }
         ensures unchanged { OnErr result (self.new ≡ self.old) }
-        ensures err { IfErr result (λ e. e ≡ Error.OutOfMemory) }
+        ensures err { OnlyOutOfMemory result }
     {
         if inserted.is_empty() {
             return Ok(());
@@ -373,11 +374,11 @@ fn push_draft(
     draft: Draft,
     size: usize,
 ) -> Result<(), Error>
-    ensures pushed { OnOk result (entries.new.items ≡ entries.old.items ++ record { node = node_of draft; size = size } ∷ []) }
+    ensures pushed { OnOk result (entries.new.items ≡ entries.old.items ++ record { node = node_of draft; subtree_len = size } ∷ []) }
     ensures noted { OnOk result (noted.new.items ≡ noted.old.items ++ note_of (length entries.old.items) draft.inserted) }
     ensures unchanged { OnErr result (entries.new.items ≡ entries.old.items) }
     ensures none_noted { OnErr result (noted.new.items ≡ noted.old.items) }
-    ensures err { IfErr result (λ e. e ≡ Error.OutOfMemory) }
+    ensures err { OnlyOutOfMemory result }
 {
     // most drafts have nothing inserted and there is room for them, so these take the shortest way
     if !draft.inserted.is_empty() || entries.len() == entries.capacity() {
@@ -389,7 +390,10 @@ fn push_draft(
         style,
         estimate: Estimate::default(),
     };
-    entries.push(Entry { node, size })?;
+    entries.push(Entry {
+        node,
+        subtree_len: size,
+    })?;
     Ok(())
 }
 
@@ -401,11 +405,11 @@ fn push_noted(
     draft: Draft,
     size: usize,
 ) -> Result<(), Error>
-    ensures pushed { OnOk result (entries.new.items ≡ entries.old.items ++ record { node = node_of draft; size = size } ∷ []) }
+    ensures pushed { OnOk result (entries.new.items ≡ entries.old.items ++ record { node = node_of draft; subtree_len = size } ∷ []) }
     ensures noted { OnOk result (noted.new.items ≡ noted.old.items ++ note_of (length entries.old.items) draft.inserted) }
     ensures unchanged { OnErr result (entries.new.items ≡ entries.old.items) }
     ensures none_noted { OnErr result (noted.new.items ≡ noted.old.items) }
-    ensures err { IfErr result (λ e. e ≡ Error.OutOfMemory) }
+    ensures err { OnlyOutOfMemory result }
 {
     let Draft {
         kind,
@@ -419,11 +423,17 @@ fn push_noted(
     };
     let place = entries.len();
     if inserted.is_empty() {
-        entries.push(Entry { node, size })?;
+        entries.push(Entry {
+            node,
+            subtree_len: size,
+        })?;
         return Ok(());
     }
     noted.reserve(1)?;
-    entries.push(Entry { node, size })?;
+    entries.push(Entry {
+        node,
+        subtree_len: size,
+    })?;
     noted.push(Noted { place, inserted })?;
     Ok(())
 }

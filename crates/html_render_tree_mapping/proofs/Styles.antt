@@ -1,12 +1,12 @@
 -- What the style of an element says where it is preformatted, and where it isn't displayed.
 use Rattle.std.proofs.Common.{◌≡◌, ℕ, Bool, true, false, if◌then◌else◌, List, [], ◌∷◌, ◌++◌, Option, is_some, option_to_list, sym, ap, ◌∙◌}
-use Rattle.html_render_dom_cascade.specs.Cascade.{value_of, winner}
+use Rattle.html_render_dom_styles.specs.Cascade.{value_of, winner}
 use Rattle.html_render_dom.specs.ElementStyle.{ElementStyle}
-use Rattle.html_render_dom_cascade.specs.Specificities.{no_specificity}
+use Rattle.html_render_dom_styles.specs.Specificities.{no_specificity}
 use Rattle.html_render_dom_values.specs.declared.white_space.WhiteSpace.{WhiteSpace}
-use Rattle.html_render_dom_cascade.specs.declared.specificities.Specificity.{Specificity}
-use Rattle.html_render_dom_cascade.specs.declared.updates.Update.{Update}
-use Rattle.html_render_dom_cascade.specs.laws.Winners.{winner-one}
+use Rattle.html_render_dom_styles.specs.declared.specificities.Specificity.{Specificity}
+use Rattle.html_render_dom_styles.specs.declared.updates.Update.{Update}
+use Rattle.html_render_dom_styles.specs.laws.Winners.{winner-one}
 use Rattle.html_render_tree_insertions.specs.Drafts.{inserted_of}
 use Rattle.html_render_tree_mapping.specs.declared.mapping.ElementKind.{ElementKind}
 use Rattle.html_render_tree_mapping.specs.declared.mapping.ElementKind.TheVariants.{Node}

@@ -7,16 +7,16 @@ use Rattle.std.specs.Str.Parse.{without_leading_sign, signed_digits_value}
 use Rattle.std.specs.List.{list_any, position_or_len}
 use Rattle.html_render_dom_values.specs.declared.white_space.WhiteSpace.{WhiteSpace}
 use Rattle.html_render_dom_values.specs.declared.white_space.WhiteSpace.TheVariants.{Normal, Pre}
-use Rattle.html_render_dom_cascade.specs.declared.origins.StyleOrigin.TheVariants.{Agent}
-use Rattle.html_render_dom_cascade.specs.declared.updates.Update.{Update}
-use Rattle.html_render_dom_cascade.specs.Cascade.{value_of, winner}
+use Rattle.html_render_dom_styles.specs.declared.origins.StyleOrigin.TheVariants.{Agent}
+use Rattle.html_render_dom_styles.specs.declared.updates.Update.{Update}
+use Rattle.html_render_dom_styles.specs.Cascade.{value_of, winner}
 use Rattle.html_render_dom_nodes.specs.Content.{Name, Property, Space, html, svg, Content, is_html}
 use Rattle.html_render_dom.specs.ElementStyle.{ElementStyle, element_style}
 use Rattle.html_render_dom_values.specs.Forest.{Forest}
-use Rattle.html_render_dom_rules.specs.Rules.{Rule as StyleRule}
+use Rattle.html_render_dom_styles.specs.Rules.{Rule as StyleRule}
 use Rattle.html_render_dom.specs.Attributes.{first_value}
-use Rattle.html_render_dom_rules.specs.Selectors.{is_filled}
-use Rattle.html_render_dom_cascade.specs.Specificities.{no_specificity}
+use Rattle.html_render_dom_styles.specs.Selectors.{is_filled}
+use Rattle.html_render_dom_styles.specs.Specificities.{no_specificity}
 use Rattle.html_render_layout_nodes.specs.declared.tree.Emphasis.TheVariants.{Em, Strong, Code}
 use Rattle.html_render_layout_nodes.specs.declared.tree.NodeKind.TheVariants.{Text, Container, Break, Block, Div, Emphasis, Header, BlockQuote, Ul, Ol}
 use Rattle.html_render_layout_nodes.specs.declared.tree.NodeKind.TheVariants.{ListItem, Dl, Dt, Dd, Strikeout, Superscript, Link, Image, Svg}

@@ -4,7 +4,7 @@ use Rattle.std.specs.Str.{bytes_eq}
 use Rattle.html_render_dom_nodes.specs.Content.{Property, Space, svg, Content, text, element}
 use Rattle.html_render_dom.specs.Dom.{is_element}
 use Rattle.html_render_dom_values.specs.Forest.{Forest, none, node}
-use Rattle.html_render_dom_rules.specs.Selectors.{is_filled}
+use Rattle.html_render_dom_styles.specs.Selectors.{is_filled}
 use Rattle.html_render_layout_nodes.specs.declared.tree.ImageParts.{ImageParts}
 
 -- ---- images

@@ -1,11 +1,11 @@
 -- What becomes of a node of a document, its children aside.
 use Rattle.std.specs.Prelude.{ℕ, Bool, true, false, List, [], Option, Some, None, is_some, if◌then◌else◌}
 use Rattle.html_render_dom_values.specs.Forest.{Forest}
-use Rattle.html_render_dom_cascade.specs.Cascade.{value_of}
+use Rattle.html_render_dom_styles.specs.Cascade.{value_of}
 use Rattle.html_render_dom_nodes.specs.Content.{Content, document, doctype, text, comment, element, instruction}
 use Rattle.html_render_dom.specs.Dom.{Dom, content_at, children_at, trees_of}
 use Rattle.html_render_dom.specs.ElementStyle.{ElementStyle}
-use Rattle.html_render_dom_rules.specs.Rules.{Rule as StyleRule}
+use Rattle.html_render_dom_styles.specs.Rules.{Rule as StyleRule}
 use Rattle.html_render_layout_nodes.specs.declared.tree.NodeKind.TheVariants.{Text, Container, FragmentStart}
 use Rattle.html_render_layout_nodes.specs.RenderNodes.{no_style, without_style}
 use Rattle.html_render_tree_insertions.specs.Drafts.{inserted_of}

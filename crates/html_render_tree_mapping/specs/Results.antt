@@ -5,12 +5,12 @@ use Rattle.std.specs.List.{list_all, list_any}
 use Rattle.std.specs.Option.{option_map_or}
 use Rattle.html_render_dom_values.specs.Forest.{Forest, none, node, followed_by}
 use Rattle.html_render_dom_values.specs.Outcome.{◌>>=◌}
-use Rattle.html_render_dom_cascade.specs.Cascade.{value_of}
+use Rattle.html_render_dom_styles.specs.Cascade.{value_of}
 use Rattle.html_render_dom_nodes.specs.Content.{Content, document, text, element}
 use Rattle.html_render_dom.specs.Dom.{Dom, tree_of}
 use Rattle.html_render_dom.specs.ElementStyle.{ElementStyle}
-use Rattle.html_render_dom_rules.specs.Rules.{Rule as StyleRule}
-use Rattle.html_render_dom_rules.specs.Selectors.{is_filled}
+use Rattle.html_render_dom_styles.specs.Rules.{Rule as StyleRule}
+use Rattle.html_render_dom_styles.specs.Selectors.{is_filled}
 use Rattle.html_render_parts.specs.TableCells.{cell_grid_of}
 use Rattle.html_render_parts.specs.declared.table.Span.{Span}
 use Rattle.html_render_tree_mapping.specs.declared.tables.CellSpan.{CellSpan}

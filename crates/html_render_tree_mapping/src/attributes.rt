@@ -1,8 +1,9 @@
 //! What is read of an element's attributes: the first of a name, the number of a list's first item, what a cell of a table
 //! spans, and the name of a mark.
 
-ghost use Rattle.std.specs.Prelude.{◌≡◌, ◌&&◌, IfOk, IfErr, codes, find, map, option_copied, option_map, pos, reverse, string_bytes, unwrap_or};
+ghost use Rattle.std.specs.Prelude.{◌≡◌, ◌&&◌, IfOk, codes, find, map, option_copied, option_map, pos, reverse, string_bytes, unwrap_or};
 ghost use Rattle.std.specs.Str.{bytes_eq};
+ghost use Rattle.html_render_dom_values.specs.Outcome.{OnlyOutOfMemory};
 ghost use Rattle.html_render_dom_nodes.specs.Content.{name_of, property_of, space_of, is_html};
 ghost use Rattle.html_render_dom.specs.Attributes.{first_value};
 ghost use Rattle.html_render_tree_mapping.specs.Conversion.{number_of, start_of};
@@ -129,7 +130,7 @@ pub fn mark_of(
     attributes: &[Attribute],
 ) -> Result<Option<NodeText>, Error>
     ensures ok { IfOk result (λ mark. mark ≡ mark_of (name_of element.now) (map property_of attributes.now)) }
-    ensures err { IfErr result (λ e. e ≡ Error.OutOfMemory) }
+    ensures err { OnlyOutOfMemory result }
 {
     match mark_attribute(element, attributes) {
         Some(attribute) => {

@@ -1,14 +1,15 @@
 //! Which render node a node of a document becomes.
 
-ghost use Rattle.std.specs.Prelude.{◌≡◌, ◌&&◌, [], None, IfOk, IfErr, codes, if◌then◌else◌, map};
+ghost use Rattle.std.specs.Prelude.{◌≡◌, ◌&&◌, [], None, IfOk, codes, if◌then◌else◌, map};
 ghost use Rattle.std.specs.Str.{bytes_eq};
+ghost use Rattle.html_render_dom_values.specs.Outcome.{OnlyOutOfMemory};
 ghost use Rattle.html_render_dom_nodes.specs.Content.{name_of, property_of, space_of, is_html};
 ghost use Rattle.html_render_dom.specs.Dom.{IsForest, IsNode, children_at, trees_of};
 ghost use Rattle.html_render_dom.specs.ElementStyle.{style_by, style_of};
 ghost use Rattle.html_render_dom.specs.RuleIndex.{Finds};
-ghost use Rattle.html_render_dom_rules.specs.Rules.{rule_of};
+ghost use Rattle.html_render_dom_styles.specs.Rules.{rule_of};
 ghost use Rattle.html_render_dom.specs.Attributes.{first_value};
-ghost use Rattle.html_render_dom_rules.specs.Selectors.{is_filled};
+ghost use Rattle.html_render_dom_styles.specs.Selectors.{is_filled};
 ghost use Rattle.html_render_layout_nodes.specs.RenderNodes.{without_style};
 ghost use Rattle.html_render_tree_mapping.specs.Images.{image_parts};
 ghost use Rattle.html_render_tree_mapping.specs.Marks.{mark_of};
@@ -144,7 +145,7 @@ fn html_mapping(name: &str, attributes: &[Attribute]) -> Mapping
 /// What becomes of an `a`, by its attributes: a link to its first `href`, if it has one.
 fn link_mapping(alloc: Global, attributes: &[Attribute]) -> Result<Mapping, Error>
     ensures ok { IfOk result (λ mapping. mapping ≡ link_mapping (first_value (codes "href") (map property_of attributes.now))) }
-    ensures err { IfErr result (λ e. e ≡ Error.OutOfMemory) }
+    ensures err { OnlyOutOfMemory result }
 {
     match first_value(attributes, "href") {
         Some(target) => {
@@ -159,7 +160,7 @@ fn link_mapping(alloc: Global, attributes: &[Attribute]) -> Result<Mapping, Erro
 fn image_mapping(alloc: Global, source: &str, title: &str) -> Result<Mapping, Error>
     ensures ok { IfOk result (λ mapping. mapping ≡ (if is_filled source.now
         then Mapping.Leaf (NodeKind.Image (record { source = source.now; title = title.now })) else Mapping.Nothing)) }
-    ensures err { IfErr result (λ e. e ≡ Error.OutOfMemory) }
+    ensures err { OnlyOutOfMemory result }
 {
     if source.is_empty() {
         return Ok(Mapping::Nothing);
@@ -177,7 +178,7 @@ fn html_element_mapping(
     attributes: &[Attribute],
 ) -> Result<Mapping, Error>
     ensures ok { IfOk result (λ mapping. mapping ≡ html_element_mapping name.now (map property_of attributes.now)) }
-    ensures err { IfErr result (λ e. e ≡ Error.OutOfMemory) }
+    ensures err { OnlyOutOfMemory result }
 {
     match name {
         "a" => link_mapping(alloc, attributes),
@@ -206,7 +207,7 @@ fn element_mapping(
     requires node { IsNode dom.now element }
     ensures ok { IfOk result (λ mapping. mapping ≡ element_mapping (space_of name.now.ns) name.now.local
         (map property_of attributes.now) (trees_of dom.now (children_at dom.now element))) }
-    ensures err { IfErr result (λ e. e ≡ Error.OutOfMemory) }
+    ensures err { OnlyOutOfMemory result }
 {
     match name.ns {
         Namespace::Html => html_element_mapping(alloc, name.local.as_str(), attributes),
@@ -269,7 +270,7 @@ fn styled_outline(
     style: ComputedStyle,
 ) -> Result<Outline, Error>
     ensures ok { IfOk result (λ outline. outline ≡ styled_outline mapping mark (style_of style)) }
-    ensures err { IfErr result (λ e. e ≡ Error.OutOfMemory) }
+    ensures err { OnlyOutOfMemory result }
 {
     if style.display.val().is_some() {
         return Ok(Outline::Nothing);
@@ -322,7 +323,7 @@ fn unstyled_outline(
     mark: Option<NodeText>,
 ) -> Result<Outline, Error>
     ensures ok { IfOk result (λ outline. outline ≡ styled_outline mapping mark (style_by [])) }
-    ensures err { IfErr result (λ e. e ≡ Error.OutOfMemory) }
+    ensures err { OnlyOutOfMemory result }
 {
     let Some(name) = mark else {
         return Ok(bare_outline(mapping));
@@ -356,7 +357,7 @@ fn computed_outline(
     requires { Finds index.now (map rule_of rules.now) }
     ensures ok { IfOk result (λ outline. outline ≡ styled_outline mapping mark
         (own_style (map rule_of rules.now) (name_of name.now) (map property_of attributes.now))) }
-    ensures err { IfErr result (λ e. e ≡ Error.OutOfMemory) }
+    ensures err { OnlyOutOfMemory result }
 {
     let mut style = index.computed_style(alloc, rules, name.local.as_str(), attributes)?;
     if is_preformatted(name) {
@@ -378,7 +379,7 @@ fn attributed_outline(
     requires { Finds index.now (map rule_of rules.now) }
     ensures ok { IfOk result (λ outline. outline ≡ styled_outline mapping (mark_of (name_of name.now) (map property_of attributes.now))
         (own_style (map rule_of rules.now) (name_of name.now) (map property_of attributes.now))) }
-    ensures err { IfErr result (λ e. e ≡ Error.OutOfMemory) }
+    ensures err { OnlyOutOfMemory result }
 {
     let mark = mark_of(alloc, name, attributes)?;
     if is_preformatted(name) || index.may_select(name.local.as_str(), attributes) {
@@ -399,7 +400,7 @@ fn element_outline(
     requires { Finds index.now (map rule_of rules.now) }
     ensures ok { IfOk result (λ outline. outline ≡ styled_outline mapping (mark_of (name_of name.now) (map property_of attributes.now))
         (own_style (map rule_of rules.now) (name_of name.now) (map property_of attributes.now))) }
-    ensures err { IfErr result (λ e. e ≡ Error.OutOfMemory) }
+    ensures err { OnlyOutOfMemory result }
 {
     // most elements have no attributes, so these take the shortest way
     if attributes.is_empty()
@@ -414,7 +415,7 @@ fn element_outline(
 /// What becomes of a text.
 fn text_node(alloc: Global, contents: &str) -> Result<RenderNode, Error>
     ensures ok { IfOk result (λ node. node ≡ without_style (NodeKind.Text contents.now)) }
-    ensures err { IfErr result (λ e. e ≡ Error.OutOfMemory) }
+    ensures err { OnlyOutOfMemory result }
 {
     let text = NodeText::from_str(alloc, contents)?;
     Ok(RenderNode::from(NodeKind::Text(text)))
@@ -436,7 +437,7 @@ pub fn outline_of(
     requires forest { IsForest dom.now }
     requires node { IsNode dom.now node }
     ensures ok { IfOk result (λ outline. outline ≡ outline_at (map rule_of rules.now) dom.now node) }
-    ensures err { IfErr result (λ e. e ≡ Error.OutOfMemory) }
+    ensures err { OnlyOutOfMemory result }
 {
     match dom.data(node) {
         NodeData::Document => Ok(Outline::Over {

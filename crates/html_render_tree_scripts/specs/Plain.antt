@@ -7,5 +7,5 @@ abbrev pub Lacks : (byte : ℕ) → List ℕ → Type 0
 Lacks byte bs = All (λ b. (b == byte) ≡ false) bs
 
 -- text with more text at its end; none if that is none
-abbrev pub with_more : List ℕ → Option (List ℕ) → Option (List ℕ)
-with_more bs more = option_map (λ cs. bs ++ cs) more
+abbrev pub text_followed_by : List ℕ → Option (List ℕ) → Option (List ℕ)
+text_followed_by bs more = option_map (λ cs. bs ++ cs) more

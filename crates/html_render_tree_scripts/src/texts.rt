@@ -3,7 +3,7 @@
 ghost use Rattle.std.specs.Prelude.{◌≡◌, ◌<◌, ◌∷◌, [], length, IfOk, MatchOption, false, true, Some, None, if◌then◌else◌, option_map, unwrap_or, string_bytes};
 ghost use Rattle.std.specs.Str.{IsUtf8};
 ghost use Rattle.html_render_tree_scripts.specs.Commands.{unescaped};
-ghost use Rattle.html_render_tree_scripts.specs.Plain.{Lacks, with_more};
+ghost use Rattle.html_render_tree_scripts.specs.Plain.{Lacks, text_followed_by};
 
 use crate::splits::split_at_byte;
 use std::alloc::{AllocError, Global};
@@ -44,7 +44,7 @@ impl Texts {
     #[inline(always)]
     pub fn add(&mut self, text: &str, is_plain: bool) -> Result<bool, AllocError>
         requires { is_plain ≡ true → Lacks 92 text.now }
-        ensures { IfOk result (λ known. MatchOption (with_more (unwrap_or self.old []) (unescaped text.now)) (known ≡ false)
+        ensures { IfOk result (λ known. MatchOption (text_followed_by (unwrap_or self.old []) (unescaped text.now)) (known ≡ false)
             (λ all. (known ≡ true) × (self.new ≡ Some all))) }
     {
         self.is_any = true;
@@ -82,7 +82,7 @@ impl Texts {
 /// and a backslash is itself. Returns `None` for any other escape.
 fn escape_of(after: &str) -> Option<(char, &str)>
     ensures { MatchOption result (unescaped (92 ∷ after.now) ≡ None) (λ x. (x.0 < 128) × (length x.1.now < length after.now) × IsUtf8 x.1.now
-        × (unescaped (92 ∷ after.now) ≡ with_more (x.0 ∷ []) (unescaped x.1.now))) }
+        × (unescaped (92 ∷ after.now) ≡ text_followed_by (x.0 ∷ []) (unescaped x.1.now))) }
 {
     if let Some(more) = after.strip_prefix('n') {
         return Some(('\n', more));
@@ -95,7 +95,7 @@ fn escape_of(after: &str) -> Option<(char, &str)>
 
 /// Appends a text with its escapes resolved. Returns whether all of them are known.
 fn push_unescaped(text: &str, plain: &mut String) -> Result<bool, AllocError>
-    ensures { IfOk result (λ known. with_more (string_bytes plain.old) (unescaped text.now) ≡ (if known then Some (string_bytes plain.new) else None)) }
+    ensures { IfOk result (λ known. text_followed_by (string_bytes plain.old) (unescaped text.now) ≡ (if known then Some (string_bytes plain.new) else None)) }
 {
     let mut rest = text;
     while let Some((before, after)) = split_at_byte(b'\\', rest) {

@@ -1,7 +1,7 @@
 //! Results of decorators, as cases print them.
 
 use crate::texts::push_escaped;
-use html_render_parts_decorators::decorate::RichAnnotation;
+use html_render_parts::decorate::RichAnnotation;
 use std::alloc::{AllocError, Global};
 
 /// An annotation that a case can print.

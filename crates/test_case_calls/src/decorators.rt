@@ -7,7 +7,7 @@ use crate::texts::{number, split_word};
 use crate::watch::Watch;
 use html_render_dom_values::Error;
 use html_render_dom_values::text::Text;
-use html_render_parts_decorators::decorate::{PlainDecorator, RichDecorator, TextDecorator};
+use html_render_parts::decorate::{PlainDecorator, RichDecorator, TextDecorator};
 use std::alloc::Global;
 
 /// The kind of result that a call of a decorator returns.

@@ -8,8 +8,8 @@
 
 pub mod annotations;
 pub mod answers;
-pub mod calls;
 pub mod decorators;
+pub mod edits;
 pub mod faults;
 pub mod pages;
 pub mod rules;

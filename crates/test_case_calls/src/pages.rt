@@ -3,7 +3,7 @@
 ghost use Rattle.std.specs.Prelude.{IfSome};
 ghost use Rattle.html_render_dom.specs.Dom.{IsNode};
 
-use crate::calls::make;
+use crate::edits::make;
 use crate::faults::Fault;
 use crate::seen::seen;
 use crate::tags::Tag;

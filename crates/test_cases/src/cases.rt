@@ -6,7 +6,7 @@ use crate::{programs, scripts};
 use html_render_tree::Error;
 use std::alloc::{AllocError, Global};
 use std::mem;
-use test_case_calls::calls::is_call;
+use test_case_calls::edits::is_call;
 use test_case_calls::faults::Fault;
 use test_case_calls::pages::Page;
 use test_case_calls::seen::seen;

@@ -1,8 +1,8 @@
 //! Configurations, by the names of their calls.
 
+use crate::settings::{DecoratorName, Preset, Setting};
 use html_render_tree::config::ImageRenderMode;
 use html_render_tree::text::Text;
-use htree_configs::calls::{DecoratorName, Preset, Setting};
 use std::alloc::Global;
 use test_case_calls::faults::Fault;
 use test_case_calls::rules::rule;

@@ -48,7 +48,7 @@
 //! | `render_coloured refusing` | a width and a text for which the colour map returns `OutOfMemory` |
 //! | `dom_to_render_tree`, `try_clone` | the display of the render tree, or of its copy |
 //! | `dom_into_render_tree` | a script; the display of the render tree |
-//! | `sweep` | checks of the text at each width from 1 to 40, for the characters of all texts; a line for each fault |
+//! | `sweep` | checks of the text at each width from 1 to 40, for the characters of all texts; a line for each width with a fault, its first |
 //! | each query of `RcDom` | names of nodes and numbers; nodes by their names, `true` or `false`, or lines of text |
 //! | `computed_style`, `RuleIndex::of`, `RuleIndex::computed_style` | an element; each property of its style |
 //! | `specificity`, `for_element` | a rule, an element name; the specificity |
@@ -75,11 +75,13 @@
 
 mod cases;
 mod configs;
+mod decorators;
 mod display;
 mod programs;
 mod refusing;
 mod rendering;
 mod scripts;
+mod settings;
 mod sweeps;
 
 use cases::Played;

@@ -1,6 +1,7 @@
 //! A decorator with a call that is out of memory.
 
-ghost use Rattle.std.specs.Prelude.{◌≡◌, refl, IfErr, IfOk};
+ghost use Rattle.std.specs.Prelude.{◌≡◌, refl, IfOk};
+ghost use Rattle.html_render_dom_values.specs.Outcome.{OnlyOutOfMemory};
 ghost use Rattle.html_render_tree.specs.Alteration.{unchanged};
 
 use html_render_tree::Error;
@@ -53,7 +54,7 @@ impl Refusing<'_> {
     /// Returns this result, unless the call is the refused one.
     fn unless_refused<T: Drop>(&self, call: &str, answer: T) -> Result<T, Error>
         ensures ok { IfOk result (λ r. r ≡ answer) }
-        ensures err { IfErr result (λ e. e ≡ Error.OutOfMemory) }
+        ensures err { OnlyOutOfMemory result }
     {
         if self.call == call {
             return Err(Error::OutOfMemory);

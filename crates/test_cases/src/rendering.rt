@@ -1,11 +1,13 @@
 //! Questions about the conversion and the rendering of a document under a configuration.
 
-ghost use Rattle.std.specs.Prelude.{◌≡◌, IfErr};
+ghost use Rattle.std.specs.Prelude.{◌≡◌};
+ghost use Rattle.html_render_dom_values.specs.Outcome.{OnlyOutOfMemory};
 
 use crate::configs::{NamedSettings, preset, settings};
 use crate::display::displayed;
 use crate::refusing::plain_but;
 use crate::scripts::document;
+use crate::settings::{DecoratorName, Preset, with_settings};
 use crate::sweeps::{Kept, sweep};
 use html_render_tree::Error;
 use html_render_tree::block::{TaggedLine, TaggedLineElement};
@@ -14,7 +16,6 @@ use html_render_tree::decorate::{PlainDecorator, RichDecorator, TextDecorator};
 use html_render_tree::dom::RcDom;
 use html_render_tree::tree::RenderTree;
 use html_render_tree::widths::Meter;
-use htree_configs::calls::{DecoratorName, Preset, with_settings};
 use std::alloc::{AllocError, Global};
 use test_case_calls::annotations::Shown;
 use test_case_calls::faults::Fault;
@@ -285,7 +286,7 @@ fn in_angles<A>(
     text: &str,
     refused: &str,
 ) -> Result<String, Error>
-    ensures err { IfErr result (λ e. e ≡ Error.OutOfMemory) }
+    ensures err { OnlyOutOfMemory result }
 {
     if text == refused {
         return Err(Error::OutOfMemory);

@@ -1,6 +1,7 @@
 //! Checks of a document at each width from 1 to 40, with overflow and without.
 
-ghost use Rattle.std.specs.Prelude.{◌≡◌, IfErr};
+ghost use Rattle.std.specs.Prelude.{◌≡◌};
+ghost use Rattle.html_render_dom_values.specs.Outcome.{OnlyOutOfMemory};
 
 use html_render_tree::Error;
 use html_render_tree::config::Config;
@@ -114,7 +115,7 @@ fn text_of_lines<D: TextDecorator>(
 
 /// Returns a copy of a text.
 fn same(alloc: Global, text: &str) -> Result<String, Error>
-    ensures err { IfErr result (λ e. e ≡ Error.OutOfMemory) }
+    ensures err { OnlyOutOfMemory result }
 {
     Ok(String::from_str(alloc, text)?)
 }

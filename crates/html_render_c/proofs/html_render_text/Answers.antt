@@ -1,6 +1,6 @@
 -- The result of the call has the outcome of the rendering.
-use Rattle.html_render_c.specs.Pages.{IsPlainText, IsRichText}
-use Rattle.html_render_c.proofs.Outcomes.{returned}
+use Rattle.html_render_tree_records.specs.Pages.{IsPlainText, IsRichText}
+use Rattle.html_render_tree_records.proofs.Outcomes.{returned}
 use Rattle.html_render_c.proofs.html_render_text.Goals as goal
 
 pub returns-clause-plain : goal.returns-clause-plain

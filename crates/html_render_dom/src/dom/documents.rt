@@ -1,6 +1,7 @@
 //! [`RcDom`], the arena of a document's nodes, with queries of its structure.
 
-ghost use Rattle.std.specs.Prelude.{◌≡◌, ◌↔◌, map, string_bytes, IsTrue, IsSome, IfOk, IfErr, IfSome, All};
+ghost use Rattle.std.specs.Prelude.{◌≡◌, ◌↔◌, map, string_bytes, IsTrue, IsSome, IfOk, IfSome, All};
+ghost use Rattle.html_render_dom_values.specs.Outcome.{OnlyOutOfMemory};
 ghost use Rattle.html_render_dom_nodes.specs.Content.{content_of};
 ghost use Rattle.html_render_dom.specs.Dom.{empty_dom, IsForest, IsNode, IsElement, IsInclusiveAncestor, content_at, children_at, parent_at};
 ghost use Rattle.html_render_dom_nodes.specs.Nodes.{node_in, node_of};
@@ -47,7 +48,7 @@ impl RcDom {
     /// Returns `OutOfMemory` if an allocation is refused.
     pub fn new(alloc: Global) -> Result<RcDom, Error>
         ensures ok { IfOk result (λ dom. dom ≡ empty_dom) }
-        ensures err { IfErr result (λ e. e ≡ Error.OutOfMemory) }
+        ensures err { OnlyOutOfMemory result }
     {
         let mut nodes = Vec::new(alloc);
         nodes.push(Node::lone(alloc, NodeData::Document))?;
@@ -145,7 +146,7 @@ impl RcDom {
     pub fn children(&self, alloc: Global, node: Handle) -> Result<Vec<Handle>, Error>
         requires { IsNode self.now node }
         ensures ok { IfOk result (λ list. list.items ≡ children_at self.now node) }
-        ensures err { IfErr result (λ e. e ≡ Error.OutOfMemory) }
+        ensures err { OnlyOutOfMemory result }
     {
         Ok(Vec::from_slice(alloc, self.child_list(node))?)
     }

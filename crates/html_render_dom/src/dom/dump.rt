@@ -1,10 +1,11 @@
 //! Dumps of nodes as lines of text, for debugging: a `p` with the text `x` gives the lines `<p>`, ` Text:x` and `</p>`.
 
-ghost use Rattle.std.specs.Prelude.{◌≡◌, ◌+◌, ◌*◌, ◌<◌, ◌≤◌, ◌++◌, ◌∷◌, [], All, IfOk, IfErr, OnOk, codes, replicate, string_bytes};
+ghost use Rattle.std.specs.Prelude.{◌≡◌, ◌+◌, ◌*◌, ◌<◌, ◌≤◌, ◌++◌, ◌∷◌, [], All, IfOk, OnOk, codes, replicate, string_bytes};
+ghost use Rattle.html_render_dom_values.specs.Outcome.{OnlyOutOfMemory};
 ghost use Rattle.html_render_dom_values.specs.Forest.{count, depth};
 ghost use Rattle.html_render_dom.specs.Dom.{IsForest, IsNode, content_at, node_count, tree_of};
-ghost use Rattle.html_render_dom.specs.Dump.{dump, line, text_line};
-ghost use Rattle.html_render_dom.specs.Frames.{FrameFits, end_of, rest, rest_of, steps, steps_of};
+ghost use Rattle.html_render_dom.specs.Dump.{dump, dump_line, text_line};
+ghost use Rattle.html_render_dom.specs.Frames.{FrameFits, closing_line, rest, rest_of, steps, steps_of};
 
 use super::documents::RcDom;
 use html_render_dom_nodes::{Handle, NodeData};
@@ -41,7 +42,7 @@ impl RcDom {
     pub fn node_as_dom_string(&self, alloc: Global, node: Handle) -> Result<String, Error>
         requires { IsNode self.now node }
         ensures ok { IfOk result (λ text. string_bytes text ≡ dump 0 (tree_of self.now node)) }
-        ensures err { IfErr result (λ e. e ≡ Error.OutOfMemory) }
+        ensures err { OnlyOutOfMemory result }
     {
         // naming a field gives the proof the invariant that the nodes are a forest
         let _ = &self.nodes;
@@ -61,7 +62,7 @@ impl RcDom {
     /// Returns `OutOfMemory` if an allocation is refused.
     pub fn as_dom_string(&self, alloc: Global) -> Result<String, Error>
         ensures ok { IfOk result (λ text. string_bytes text ≡ dump 0 (tree_of self.now 0)) }
-        ensures err { IfErr result (λ e. e ≡ Error.OutOfMemory) }
+        ensures err { OnlyOutOfMemory result }
     {
         self.node_as_dom_string(alloc, self.get_document())
     }
@@ -130,7 +131,7 @@ impl RcDom {
     fn write_end(&self, text: &mut String, node: Handle, indent: usize) -> Result<(), AllocError>
         requires { IsNode self.now node }
         ensures { OnOk result (string_bytes text.new
-            ≡ string_bytes text.old ++ end_of indent (content_at self.now node)) }
+            ≡ string_bytes text.old ++ closing_line indent (content_at self.now node)) }
     {
         match self.data(node) {
             NodeData::Element { name, .. } => {
@@ -179,7 +180,7 @@ fn write_line(
     last: &str,
 ) -> Result<(), AllocError>
     ensures { OnOk result (string_bytes text.new
-        ≡ string_bytes text.old ++ line indent (first.now ++ (middle.now ++ last.now))) }
+        ≡ string_bytes text.old ++ dump_line indent (first.now ++ (middle.now ++ last.now))) }
 {
     write_indent(text, indent)?;
     text.push_str(first)?;

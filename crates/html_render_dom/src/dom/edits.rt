@@ -1,7 +1,8 @@
 //! Calls that add nodes, attributes and messages to a document. Each makes its allocations before it changes anything, so a
 //! refused call leaves the document unchanged.
 
-ghost use Rattle.std.specs.Prelude.{◌≡◌, ◌≤◌, ◌++◌, ◌∷◌, [], None, OnOk, OnErr, IfOk, IfErr, map, string_bytes};
+ghost use Rattle.std.specs.Prelude.{◌≡◌, ◌≤◌, ◌++◌, ◌∷◌, [], None, OnOk, OnErr, IfOk, map, string_bytes};
+ghost use Rattle.html_render_dom_values.specs.Outcome.{OnlyOutOfMemory};
 ghost use Rattle.html_render_dom_nodes.specs.Content.{name_of, property_of, content_of, doctype, comment, instruction};
 ghost use Rattle.html_render_dom.specs.Dom.{IsNode, IsElement, node_count, content_at};
 ghost use Rattle.html_render_dom_nodes.specs.Elements.{completed, contents_in};
@@ -32,7 +33,7 @@ impl RcDom {
         requires child { CanAppend self.old parent child }
         ensures ok { OnOk result (self.new ≡ appended self.old parent child) }
         ensures unchanged { OnErr result (self.new ≡ self.old) }
-        ensures err { IfErr result (λ e. e ≡ Error.OutOfMemory) }
+        ensures err { OnlyOutOfMemory result }
         ensures grows { node_count self.old ≤ node_count self.new }
     {
         match child {
@@ -77,7 +78,7 @@ impl RcDom {
         ensures ok { let nodes = self.old.nodes in OnOk result (self.new
             ≡ record self.old { nodes = text_put nodes parent (last_text nodes parent) text.now }) }
         ensures unchanged { OnErr result (self.new ≡ self.old) }
-        ensures err { IfErr result (λ e. e ≡ Error.OutOfMemory) }
+        ensures err { OnlyOutOfMemory result }
         ensures grows { node_count self.old ≤ node_count self.new }
     {
         self.copy_text(alloc, parent, text)?;
@@ -114,7 +115,7 @@ impl RcDom {
         ensures ok { OnOk result (self.new ≡ element_appended self.old parent (html_name name.now)) }
         ensures is_node { IfOk result (λ made. IsNode self.new made) }
         ensures unchanged { OnErr result (self.new ≡ self.old) }
-        ensures err { IfErr result (λ e. e ≡ Error.OutOfMemory) }
+        ensures err { OnlyOutOfMemory result }
         ensures grows { node_count self.old ≤ node_count self.new }
     {
         let name = QualName::html(LocalName::from_str(alloc, name)?);
@@ -144,7 +145,7 @@ impl RcDom {
             ≡ record self.old { nodes = element_created self.old.nodes (name_of name) (map property_of attrs.items) flags }) }
         ensures fresh { IfOk result (IsFresh self.old self.new) }
         ensures unchanged { OnErr result (self.new ≡ self.old) }
-        ensures err { IfErr result (λ e. e ≡ Error.OutOfMemory) }
+        ensures err { OnlyOutOfMemory result }
         ensures grows { node_count self.old ≤ node_count self.new }
     {
         let number = self.nodes.len();
@@ -163,7 +164,7 @@ impl RcDom {
             ≡ record self.old { nodes = created self.old.nodes (comment (string_bytes contents)) }) }
         ensures fresh { IfOk result (IsFresh self.old self.new) }
         ensures unchanged { OnErr result (self.new ≡ self.old) }
-        ensures err { IfErr result (λ e. e ≡ Error.OutOfMemory) }
+        ensures err { OnlyOutOfMemory result }
         ensures grows { node_count self.old ≤ node_count self.new }
     {
         Ok(self.create(alloc, NodeData::Comment { contents })?)
@@ -185,7 +186,7 @@ impl RcDom {
             { nodes = created self.old.nodes (instruction (string_bytes target) (string_bytes contents)) }) }
         ensures fresh { IfOk result (IsFresh self.old self.new) }
         ensures unchanged { OnErr result (self.new ≡ self.old) }
-        ensures err { IfErr result (λ e. e ≡ Error.OutOfMemory) }
+        ensures err { OnlyOutOfMemory result }
         ensures grows { node_count self.old ≤ node_count self.new }
     {
         Ok(self.create(alloc, NodeData::ProcessingInstruction { target, contents })?)
@@ -221,7 +222,7 @@ impl RcDom {
         ensures ok { let made = doctype (string_bytes name) (string_bytes public_id) (string_bytes system_id) in
             OnOk result (self.new ≡ record self.old { nodes = attached_new self.old.nodes made 0 }) }
         ensures unchanged { OnErr result (self.new ≡ self.old) }
-        ensures err { IfErr result (λ e. e ≡ Error.OutOfMemory) }
+        ensures err { OnlyOutOfMemory result }
         ensures grows { node_count self.old ≤ node_count self.new }
     {
         let doctype = NodeData::Doctype {
@@ -251,7 +252,7 @@ impl RcDom {
         ensures ok { OnOk result (self.new ≡ record self.old
             { nodes = with_content self.old.nodes node (completed (content_at self.old node) (map property_of attrs.items)) }) }
         ensures unchanged { OnErr result (self.new ≡ self.old) }
-        ensures err { IfErr result (λ e. e ≡ Error.OutOfMemory) }
+        ensures err { OnlyOutOfMemory result }
         ensures grows { node_count self.old ≤ node_count self.new }
     {
         nodes::complete(&mut self.nodes, node, attrs)?;
@@ -267,7 +268,7 @@ impl RcDom {
         ensures ok { OnOk result (self.new
             ≡ record self.old { messages = self.old.messages ++ string_bytes message ∷ [] }) }
         ensures unchanged { OnErr result (self.new ≡ self.old) }
-        ensures err { IfErr result (λ e. e ≡ Error.OutOfMemory) }
+        ensures err { OnlyOutOfMemory result }
     {
         self.errors.push(message)?;
         Ok(())

@@ -1,10 +1,11 @@
 //! Calls that move nodes between lists of children. Each makes its allocations before it changes anything, so a refused call
 //! leaves the document unchanged.
 
-ghost use Rattle.std.specs.Prelude.{◌≡◌, ◌≤◌, OnOk, OnErr, IfErr, IfSome, IsSome, Some, string_bytes};
+ghost use Rattle.std.specs.Prelude.{◌≡◌, ◌≤◌, OnOk, OnErr, IfSome, IsSome, Some, string_bytes};
+ghost use Rattle.html_render_dom_values.specs.Outcome.{OnlyOutOfMemory};
 ghost use Rattle.html_render_dom.specs.Dom.{IsNode, IsInclusiveAncestor, node_count, parent_at};
 ghost use Rattle.html_render_dom.specs.Moves.{CanAppendBefore, CanPutByParent, appended_before, put_by_parent};
-ghost use Rattle.html_render_dom_nodes.specs.Moves.{placed, reparented, taken_out, text_before, text_placed};
+ghost use Rattle.html_render_dom_nodes.specs.Moves.{inserted_before, reparented, taken_out, text_before, text_placed};
 
 use super::documents::RcDom;
 use html_render_dom_nodes::{Handle, NodeData, NodeOrText, lists};
@@ -44,7 +45,7 @@ impl RcDom {
         requires child { CanAppendBefore self.old sibling child }
         ensures ok { OnOk result (self.new ≡ appended_before self.old sibling child) }
         ensures unchanged { OnErr result (self.new ≡ self.old) }
-        ensures err { IfErr result (λ e. e ≡ Error.OutOfMemory) }
+        ensures err { OnlyOutOfMemory result }
         ensures grows { node_count self.old ≤ node_count self.new }
     {
         let parent = self.parent_of(sibling);
@@ -73,7 +74,7 @@ impl RcDom {
         requires parent { parent_at self.old sibling ≡ Some parent }
         requires child { CanAppendBefore self.old sibling (NodeOrText.AppendNode child) }
         ensures ok { OnOk result (self.new ≡ record self.old
-            { nodes = placed (taken_out self.old.nodes (parent_at self.old child) child) parent sibling child }) }
+            { nodes = inserted_before (taken_out self.old.nodes (parent_at self.old child) child) parent sibling child }) }
         ensures unchanged { OnErr result (self.new ≡ self.old) }
         ensures grows { node_count self.old ≤ node_count self.new }
     {
@@ -131,7 +132,7 @@ impl RcDom {
         ensures ok { OnOk result
             (self.new ≡ put_by_parent self.old (parent_at self.old element) element prev_element child) }
         ensures unchanged { OnErr result (self.new ≡ self.old) }
-        ensures err { IfErr result (λ e. e ≡ Error.OutOfMemory) }
+        ensures err { OnlyOutOfMemory result }
         ensures grows { node_count self.old ≤ node_count self.new }
     {
         match self.get_parent(element) {
@@ -158,7 +159,7 @@ impl RcDom {
         requires away { ¬ IsInclusiveAncestor self.old node new_parent }
         ensures ok { OnOk result (self.new ≡ record self.old { nodes = reparented self.old.nodes node new_parent }) }
         ensures unchanged { OnErr result (self.new ≡ self.old) }
-        ensures err { IfErr result (λ e. e ≡ Error.OutOfMemory) }
+        ensures err { OnlyOutOfMemory result }
         ensures count { node_count self.new ≡ node_count self.old }
     {
         lists::move_children(alloc, &mut self.nodes, node, new_parent)?;

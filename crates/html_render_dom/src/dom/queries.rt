@@ -1,8 +1,9 @@
 //! Queries of handles and single nodes: identity, the number of nodes, names of elements, contents of templates, and
 //! integration points.
 
-ghost use Rattle.std.specs.Prelude.{◌≡◌, ◌↔◌, IsTrue, IsSome, IfOk, IfErr, Some, string_bytes};
+ghost use Rattle.std.specs.Prelude.{◌≡◌, ◌↔◌, IsTrue, IsSome, IfOk, Some, string_bytes};
 ghost use Rattle.std.specs.Option.{option_map};
+ghost use Rattle.html_render_dom_values.specs.Outcome.{OnlyOutOfMemory};
 ghost use Rattle.html_render_dom_nodes.specs.Content.{name_of};
 ghost use Rattle.html_render_dom.specs.Dom.{IsNode, IsElement, content_at, node_count};
 ghost use Rattle.html_render_dom_nodes.specs.Elements.{name_in, local_name_in, contents_in, is_integration_point};
@@ -78,7 +79,7 @@ impl RcDom {
         requires { IsNode self.now node }
         ensures ok { IfOk result
             (λ name. option_map string_bytes name ≡ local_name_in (content_at self.now node)) }
-        ensures err { IfErr result (λ e. e ≡ Error.OutOfMemory) }
+        ensures err { OnlyOutOfMemory result }
     {
         match self.data(node) {
             NodeData::Element { name, .. } => Ok(Some(String::from_str(

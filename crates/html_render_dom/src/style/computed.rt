@@ -1,20 +1,22 @@
 //! Computed styles of elements.
 
-ghost use Rattle.std.specs.Prelude.{◌≡◌, [], ◌∷◌, ◌++◌, IfErr, IfOk, None, OnOk, Some, filter, map, option_copied, option_to_list, string_bytes};
+ghost use Rattle.std.specs.Prelude.{◌≡◌, [], ◌∷◌, ◌++◌, IfOk, None, OnOk, Some, filter, map, option_copied, option_to_list, string_bytes};
 ghost use Rattle.std.specs.List.{flat_map};
 ghost use Rattle.std.specs.List.Sorted.{IsNonDecreasing};
+ghost use Rattle.html_render_dom_values.specs.Outcome.{OnlyOutOfMemory};
 ghost use Rattle.html_render_dom_values.specs.declared.errors.Error.TheVariants.{OutOfMemory};
 ghost use Rattle.html_render_dom_nodes.specs.Content.{property_of};
-ghost use Rattle.html_render_dom_cascade.specs.Cascade.{winner};
+ghost use Rattle.html_render_dom_styles.specs.Cascade.{winner};
 ghost use Rattle.html_render_dom.specs.ElementStyle.{applied, element_style, style_by, style_of, with_declarations};
 ghost use Rattle.html_render_dom.specs.RuleIndex.{HasSelected};
-ghost use Rattle.html_render_dom_rules.specs.Rules.{declared_of, rule_of};
-ghost use Rattle.html_render_dom_rules.specs.Selectors.{selects};
+ghost use Rattle.html_render_dom_styles.specs.Rules.{declared_of, rule_of};
+ghost use Rattle.html_render_dom_styles.specs.Selectors.{selects};
 
 use super::attributes::first_value;
-use html_render_dom_cascade::{Specificity, StyleOrigin, WithSpec};
 use html_render_dom_nodes::Attribute;
-use html_render_dom_rules::{Declaration, Display, PseudoElement, Style, StyleRule};
+use html_render_dom_styles::{
+    Declaration, Display, PseudoElement, Specificity, Style, StyleOrigin, StyleRule, WithSpec,
+};
 use html_render_dom_values::Error;
 use html_render_dom_values::colours::Colour;
 use html_render_dom_values::small_text::SmallText;
@@ -201,7 +203,7 @@ pub fn computed_style(
     attrs: &[Attribute],
 ) -> Result<ComputedStyle, Error>
     ensures ok { IfOk result (λ style. style_of style ≡ element_style (map rule_of rules.now) element.now (map property_of attrs.now)) }
-    ensures err { IfErr result (λ e. e ≡ OutOfMemory) }
+    ensures err { OnlyOutOfMemory result }
 {
     let id = first_value(attrs, "id");
     let classes = first_value(attrs, "class");

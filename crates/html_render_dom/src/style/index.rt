@@ -1,34 +1,35 @@
 //! An index of rules by the texts that they state. With it, only few of many rules are tested for an element.
 
-ghost use Rattle.std.specs.Prelude.{◌≡◌, ◌<◌, ◌||◌, ◌&&◌, [], ◌∷◌, ◌++◌, filter, if◌then◌else◌, IfErr, IfOk, length, List, ℕ, map, OnOk, option_copied, option_map, set, string_bytes, true};
+ghost use Rattle.std.specs.Prelude.{◌≡◌, ◌<◌, ◌||◌, ◌&&◌, [], ◌∷◌, ◌++◌, filter, if◌then◌else◌, IfOk, length, List, ℕ, map, OnOk, option_copied, option_map, set, string_bytes, true};
 ghost use Rattle.std.specs.Borrow.{Bor};
 ghost use Rattle.std.specs.List.{Contains};
 ghost use Rattle.std.specs.List.Sorted.{IsNonDecreasing};
 ghost use Rattle.std.specs.Bool.{OnFalse};
 ghost use Rattle.std.specs.Str.{bytes_eq};
+ghost use Rattle.html_render_dom_values.specs.Outcome.{OnlyOutOfMemory};
 ghost use Rattle.html_render_dom_nodes.specs.Content.{property_of};
 ghost use Rattle.html_render_dom.specs.ElementStyle.{element_style, style_by, style_of};
-ghost use Rattle.html_render_dom.specs.RuleIndex.{asks_attributes, Finds, is_told, key_of, numbers_under, stated_text, texts_of};
-ghost use Rattle.html_render_dom_rules.specs.Rules.{Rule, rule_of};
-ghost use Rattle.html_render_dom_rules.specs.Selectors.{is_filled};
+ghost use Rattle.html_render_dom.specs.RuleIndex.{asks_attributes, Finds, is_told, text_key, numbers_under, stated_text, texts_of};
+ghost use Rattle.html_render_dom_styles.specs.Rules.{Rule, rule_of};
+ghost use Rattle.html_render_dom_styles.specs.Selectors.{is_filled};
 
 use super::attributes::first_value;
 use super::computed::{ComputedStyle, computed_style, style_of_rules};
 use html_render_dom_nodes::Attribute;
-use html_render_dom_rules::StyleRule;
+use html_render_dom_styles::StyleRule;
 use html_render_dom_values::Error;
 use std::alloc::{AllocError, Global};
 use std::collections::BTreeMap;
 
 /// Maximum number of rules that are all tested, without a lookup in the index.
-const FEW: usize = 16;
+const SCANNED_RULES_MAX: usize = 16;
 
 /// Number of keys.
 const KEYS: usize = 64;
 
 /// Returns the key of a text, a hash of its length and its first byte that is less than `KEYS`.
-fn key_of(text: &str) -> usize
-    ensures key { result ≡ key_of text.now }
+fn text_key(text: &str) -> usize
+    ensures key { result ≡ text_key text.now }
     ensures small { result < 64 }
 {
     let first = match text.as_bytes().first() {
@@ -83,7 +84,7 @@ impl RuleIndex {
     /// Returns `OutOfMemory` if an allocation is refused.
     pub fn of(alloc: Global, rules: &[StyleRule]) -> Result<RuleIndex, Error>
         ensures ok { IfOk result (λ index. Finds index (map rule_of rules.now)) }
-        ensures err { IfErr result (λ e. e ≡ Error.OutOfMemory) }
+        ensures err { OnlyOutOfMemory result }
     {
         let mut index = RuleIndex {
             keys: vec![in alloc; false; KEYS]?,
@@ -104,13 +105,13 @@ impl RuleIndex {
     /// Adds the number of a rule under a text.
     fn put(&mut self, text: &String, number: usize) -> Result<(), AllocError>
         requires { length self.old.keys.items ≡ 64 }
-        ensures keys { OnOk result (self.new.keys.items ≡ set self.old.keys.items (key_of (string_bytes text.now)) true) }
+        ensures keys { OnOk result (self.new.keys.items ≡ set self.old.keys.items (text_key (string_bytes text.now)) true) }
         ensures numbers { OnOk result ((t : List ℕ) → numbers_under self.new t
             ≡ (if bytes_eq t (string_bytes text.now) then numbers_under self.old t ++ number ∷ [] else numbers_under self.old t)) }
         ensures general { OnOk result (self.new.general.items ≡ self.old.general.items) }
         ensures asks { self.new.asks_attributes ≡ self.old.asks_attributes }
     {
-        self.keys[key_of(text.as_str())] = true;
+        self.keys[text_key(text.as_str())] = true;
         let numbers = self.by_text.entry(text.clone()?)?.or_default();
         numbers.push(number)?;
         Ok(())
@@ -122,7 +123,7 @@ impl RuleIndex {
         ensures { OnOk result (map (λ t. t.now) texts.new.items
             ≡ map (λ t. t.now) texts.old.items ++ filter (is_told self.now.keys.items) (text.now ∷ [])) }
     {
-        if self.keys[key_of(text)] {
+        if self.keys[text_key(text)] {
             texts.push(text)?;
         }
         Ok(())
@@ -195,7 +196,7 @@ impl RuleIndex {
         ensures unstyled { OnFalse result ((rules : List Rule) → Finds self.now rules →
             element_style rules element.now (map property_of attrs.now) ≡ style_by []) }
     {
-        self.keys[key_of(element)]
+        self.keys[text_key(element)]
             || !self.general.is_empty()
             || (self.asks_attributes && !attrs.is_empty())
     }
@@ -217,9 +218,9 @@ impl RuleIndex {
     ) -> Result<ComputedStyle, Error>
         requires { Finds self.now (map rule_of rules.now) }
         ensures ok { IfOk result (λ style. style_of style ≡ element_style (map rule_of rules.now) element.now (map property_of attrs.now)) }
-        ensures err { IfErr result (λ e. e ≡ Error.OutOfMemory) }
+        ensures err { OnlyOutOfMemory result }
     {
-        if rules.len() <= FEW {
+        if rules.len() <= SCANNED_RULES_MAX {
             return computed_style(alloc, rules, element, attrs);
         }
         let id = first_value(attrs, "id");

@@ -5,7 +5,7 @@ use Rattle.std.proofs.Common.{IfSome, IsSome}
 use Rattle.std.proofs.lemmas.Bool.{eqb-true}
 use Rattle.std.proofs.lemmas.Option.{IfSome_then, same_Some}
 use Rattle.html_render_dom_values.specs.Forest.{Forest}
-use Rattle.html_render_parts_decorators.specs.Decoration.{Decoration}
+use Rattle.html_render_parts.specs.Decoration.{Decoration}
 use Rattle.html_render_layout_lines.specs.Line.{Line, AllWithinWidth}
 use Rattle.html_render_layout_lines.specs.laws.Cases.{if_cases}
 use Rattle.html_render_layout_nodes.specs.declared.tree.RenderNode.{RenderNode}
@@ -22,8 +22,8 @@ use Rattle.html_render_layout_blocks.specs.laws.Beside.{Holds, Blocks, operation
 use Rattle.html_render_layout_blocks.specs.laws.BlockHolds.{OwnWithin, PictureWithin, within, answers, refines}
 use Rattle.html_render_layout_blocks.specs.laws.TableWithin.{OpenWithin}
 use Rattle.html_render_layout_estimates.specs.declared.settings.LayoutSettings.{LayoutSettings}
-use Rattle.html_render_layout_states.specs.Layout.{by_stacks, shown_after, Defined, empty_state, estimated, layout_lines, mark_names}
-use Rattle.html_render_layout_states.specs.Working.{padding}
+use Rattle.html_render_layout.specs.Layout.{by_stacks, shown_after, Defined, empty_state, estimated, layout_lines, mark_names}
+use Rattle.html_render_layout.specs.Working.{padding}
 use Rattle.html_render_layout.specs.laws.Related.{Other, with_other, shown-related}
 
 -- two layouts of a tree, whose overflow g relates: stacks are equal, and a claim about the lines of blocks holds of the

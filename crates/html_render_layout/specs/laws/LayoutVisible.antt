@@ -9,7 +9,7 @@ use Rattle.std.proofs.lemmas.List.Sums.{sum_by-cons, sum_by-append}
 use Rattle.std.proofs.lemmas.Option.{IfSome_then}
 use Rattle.html_render_dom_values.specs.Forest.{Forest, none, node}
 use Rattle.html_render_dom_values.specs.declared.white_space.WhiteSpace.TheVariants.{Normal}
-use Rattle.html_render_parts_decorators.specs.Decoration.{Decoration}
+use Rattle.html_render_parts.specs.Decoration.{Decoration}
 use Rattle.html_render_layout_lines.specs.Character.{is_collapsible}
 use Rattle.html_render_layout_lines.specs.Line.{Line}
 use Rattle.html_render_layout_lines.specs.Visible.{if_visible, visible_in_lines}
@@ -18,8 +18,8 @@ use Rattle.html_render_layout_nodes.specs.declared.tree.Estimate.{Estimate}
 use Rattle.html_render_layout_nodes.specs.declared.tree.NodeKind.{NodeKind}
 use Rattle.html_render_layout_nodes.specs.declared.tree.NodeKind.TheVariants.{Text}
 use Rattle.html_render_layout_nodes.specs.declared.tree.RenderNode.{RenderNode}
-use Rattle.html_render_layout_nodes.specs.Pass.{Place, Bare, Skipped, Within, is_skipped, Places, bare, Visit, Leaf, Inner, through_visit, inside, followed}
-use Rattle.html_render_layout_nodes.specs.Pass.{placed, run_at, run, nodes_at}
+use Rattle.html_render_layout_nodes.specs.Visitor.{NodePlace, Bare, Skipped, Within, is_skipped, Places, bare, Visit, Leaf, Inner, through_visit, inside, followed}
+use Rattle.html_render_layout_nodes.specs.Visitor.{placed, run_at, run, nodes_at}
 use Rattle.html_render_layout_nodes.specs.laws.Visits.{from, from_state}
 use Rattle.html_render_layout_blocks.specs.declared.block.BlockSetting.{BlockSetting}
 use Rattle.html_render_layout_blocks.specs.Definition as definition
@@ -30,17 +30,17 @@ use Rattle.html_render_layout_pictures.specs.Visible.{count}
 use Rattle.html_render_layout_pictures.specs.laws.Lines.{count-append}
 use Rattle.html_render_layout_blocks.specs.laws.Operations.{Counts}
 use Rattle.html_render_layout_blocks.specs.laws.Closing.{IsClear, finish_count, closed_count}
-use Rattle.html_render_layout_states.specs.declared.nesting.OwnBlock.{OwnBlock}
-use Rattle.html_render_layout_states.specs.declared.nesting.OwnBlock.TheVariants.{Shared, Prefixed, Indented}
-use Rattle.html_render_layout_states.specs.declared.state.LayoutState.{LayoutState}
+use Rattle.html_render_layout.specs.declared.nesting.OwnBlock.{OwnBlock}
+use Rattle.html_render_layout.specs.declared.nesting.OwnBlock.TheVariants.{Shared, Prefixed, Indented}
+use Rattle.html_render_layout.specs.declared.state.LayoutState.{LayoutState}
 use Rattle.html_render_layout_estimates.specs.declared.settings.LayoutSettings.{LayoutSettings}
 use Rattle.html_render_layout.specs.Kept.{visited_nodes, node_characters, KeepsTexts}
-use Rattle.html_render_layout_states.specs.Layout.{Means, Step, Write, WriteNumber, Annotate, Treat, Strike, Unstrike, Restore, NewLine, NewLineHard}
-use Rattle.html_render_layout_states.specs.Layout.{StartBlock, EndBlock, Fence, BeginTable, EndTable, AddTarget, AddMark}
-use Rattle.html_render_layout_states.specs.Layout.{Shape, Steps, Around, Items, Cells, block_of, shape_of, style_steps}
-use Rattle.html_render_layout_states.specs.Layout.{annotated, struck, on_block, text_style, write, perform, perform_all, joined, appended, appended_block}
-use Rattle.html_render_layout_states.specs.Layout.{block_place, cell_place, shape_layout, kind_layout, layout_of, Defined, defined, by_stacks, empty_state, estimated, layout_lines}
-use Rattle.html_render_layout_states.specs.Ending.{closing_texts, ended}
+use Rattle.html_render_layout.specs.Layout.{Algebra, Step, Write, WriteNumber, Annotate, Treat, Strike, Unstrike, Restore, NewLine, NewLineHard}
+use Rattle.html_render_layout.specs.Layout.{StartBlock, EndBlock, Fence, BeginTable, EndTable, AddTarget, AddMark}
+use Rattle.html_render_layout.specs.Layout.{Shape, Steps, Around, Items, Cells, block_of, shape_of, style_steps}
+use Rattle.html_render_layout.specs.Layout.{annotated, struck, on_block, text_style, write, perform, perform_all, joined, appended, appended_block}
+use Rattle.html_render_layout.specs.Layout.{block_place, cell_place, shape_layout, kind_layout, layout_of, Defined, defined, by_stacks, empty_state, estimated, layout_lines}
+use Rattle.html_render_layout.specs.Ending.{closing_texts, ended}
 
 -- a claim about all values of f holds of a mapped option
 whatever : {X Y : Type 0} (Q : Y → Type 0) (o : Option X) (f : X → Y) → ((x : X) → Q (f x)) → IfSome (option_map f o) Q
@@ -49,7 +49,7 @@ whatever Q (Some x) f k = k x
 
 -- v counts in a block, and w in a text. Adding a text adds at least its count, and no operation lowers a count. w counts no
 -- less in a struck-out text than in the text.
-module _ {S A K T B : Type 0} (m : Means S A K T B) (v : B → ℕ) (w : List ℕ → ℕ) (h : Counts v w m.operations) (empty : w [] ≡ 0)
+module _ {S A K T B : Type 0} (m : Algebra S A K T B) (v : B → ℕ) (w : List ℕ → ℕ) (h : Counts v w m.operations) (empty : w [] ≡ 0)
     (no_less : (cs : List ℕ) → w cs ≤ w (struck cs)) where
   abbrev State : Type 0
   State = LayoutState S K T B
@@ -132,7 +132,7 @@ module _ {S A K T B : Type 0} (m : Means S A K T B) (v : B → ℕ) (w : List �
       (λ c a. omega (arith, h.end_block c)))) (λ b a. (refl, (refl, a)))
 
   -- whether a place keeps the treatment of texts of s and lowers no count
-  abbrev PlaceAdds : State → Place State → Type 0
+  abbrev PlaceAdds : State → NodePlace State → Type 0
   PlaceAdds s Bare = Unit {0}
   PlaceAdds s (Skipped t) = Left s (counted s) t
   PlaceAdds s (Within before after) = IfSome before (λ q. q.text ≡ s.text) × Joins s after
@@ -167,8 +167,8 @@ module _ {S A K T B : Type 0} (m : Means S A K T B) (v : B → ℕ) (w : List �
   block-adds : (b : OwnBlock) (s : State) (visit : State → Visit State) →
       ((q : State) → Adds (Has q.decorator) (counted q) (visit q)) → Adds (Has s.decorator) (counted s) (placed (block_place m b s) visit s)
   block-adds Shared s visit adds = adds s
-  block-adds (Prefixed prefix least) s visit adds = inside-adds s _ _ visit (block-joins s prefix) adds
-  block-adds (Indented prefix columns least) s visit adds = inside-adds s _ _ visit (appended-joins s prefix columns) adds
+  block-adds (Prefixed prefix min_width) s visit adds = inside-adds s _ _ visit (block-joins s prefix) adds
+  block-adds (Indented prefix columns min_width) s visit adds = inside-adds s _ _ visit (appended-joins s prefix columns) adds
 
   -- a shape lowers no count
   shape-adds : (x : Shape S A) (s : State) → Adds (Has s.decorator) (counted s) (shape_layout m x s)
@@ -178,9 +178,9 @@ module _ {S A K T B : Type 0} (m : Means S A K T B) (v : B → ℕ) (w : List �
         steps-keep s ys s.decorator (counted s + k) r (b.0 ∙ a.0, omega (arith, a.1, b.1))),
     λ number q. tt,
   )
-  shape-adds (Items prefix columns least) s =
+  shape-adds (Items prefix columns min_width) s =
       let c = columns s.decorator in
-      (λ k r a. a, λ number q. (whatever _ (m.operations.sub_block q.block c least) _ (λ b. refl), appended-joins q _ c))
+      (λ k r a. a, λ number q. (whatever _ (m.operations.sub_block q.block c min_width) _ (λ b. refl), appended-joins q _ c))
   shape-adds Cells s = (
     λ k r a. on_block-keeps m.operations.end_row h.end_row (λ b c le. le) s.decorator (counted s + k) r
         (a.0, omega (arith, a.1, h.begin_row s.block)),
@@ -217,10 +217,10 @@ module _ {S A K T B : Type 0} (m : Means S A K T B) (v : B → ℕ) (w : List �
           (λ k r b. (refl, (b.0 ∙ a.0, omega (arith, a.1, b.1)))) (kind-adds n.kind n.estimate trees q)
 
   -- nodes that count in a place: the node, unless it is skipped
-  abbrev own : Place State → RenderNode → List RenderNode
+  abbrev own : NodePlace State → RenderNode → List RenderNode
   own p n = if not (is_skipped p) then n ∷ [] else []
 
-  placed-adds : (p : Place State) (n : RenderNode) (trees : Forest RenderNode) (s : State) → PlaceAdds s p →
+  placed-adds : (p : NodePlace State) (n : RenderNode) (trees : Forest RenderNode) (s : State) → PlaceAdds s p →
       Adds (Left s) (counted s + sum_by node_count (own p n)) (placed p (layout_of m n trees) s)
   placed-adds Bare n trees s a = subst (λ k. Adds (Left s) k (layout_of m n trees s)) (omega arith) (node-adds n trees s)
   placed-adds (Skipped t) n trees s a = (a.0, (a.1.0, omega (arith, a.1.1)))

@@ -6,7 +6,7 @@ use Rattle.std.proofs.lemmas.Bool.{ne_eqb}
 use Rattle.std.proofs.Math.Seq.{get_or-append_seam}
 use Rattle.html_render_dom_values.specs.declared.errors.Error.{Error}
 use Rattle.html_render_dom_values.specs.Forest.{Forest}
-use Rattle.html_render_parts_decorators.specs.Decoration.{Decoration}
+use Rattle.html_render_parts.specs.Decoration.{Decoration}
 use Rattle.html_render_parts_widths.specs.declared.Meter.{Meter}
 use Rattle.html_render_layout_lines.specs.declared.line.Element.{Element}
 use Rattle.html_render_layout_lines.specs.declared.line.Element.TheVariants.{Character, Mark}
@@ -26,14 +26,14 @@ use Rattle.html_render_layout_blocks.specs.laws.Related.{OptionTags}
 use Rattle.html_render_layout_tagged.specs.Stacks.{stack_at}
 use Rattle.html_render_layout_tagged.specs.LaidOut.{tagged}
 use Rattle.html_render_layout_nodes.specs.Counts.{CountsNodes}
-use Rattle.html_render_layout_nodes.specs.Pass.{visited, most_open}
+use Rattle.html_render_layout_nodes.specs.Visitor.{visited, most_open}
 use Rattle.html_render_layout_nodes.specs.laws.Counts.{counts-same}
 use Rattle.html_render_layout_estimates.specs.declared.settings.LayoutSettings.{LayoutSettings}
-use Rattle.html_render_layout_states.specs.Layout.{by_stacks, layout_of, shown_after, Defined, defined, begin_with, empty_state}
-use Rattle.html_render_layout_states.specs.Layout.{estimated, layout, layout_lines, mark_names, unannotated}
+use Rattle.html_render_layout.specs.Layout.{by_stacks, layout_of, shown_after, Defined, defined, begin_with, empty_state}
+use Rattle.html_render_layout.specs.Layout.{estimated, layout, layout_lines, mark_names, unannotated}
 use Rattle.html_render_layout.specs.laws.Related.{Other}
 use Rattle.html_render_layout.specs.laws.Sizes.{shown-needed, counts-needed}
-use Rattle.html_render_layout_states.specs.Working.{padding, by_tags, Worked, tabled, work_lines, work_names, Untagged, untagged, untagged_work}
+use Rattle.html_render_layout.specs.Working.{padding, by_tags, Worked, tabled, work_lines, work_names, Untagged, untagged, untagged_work}
 use Rattle.html_render_layout.specs.laws.Representation.{Represents, walk-represented, lines-represented, names-represented}
 
 -- ---- a map of tags that changes none

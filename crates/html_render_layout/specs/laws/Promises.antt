@@ -6,13 +6,13 @@ use Rattle.html_render_dom_values.specs.declared.errors.Error.{Error}
 use Rattle.html_render_dom_values.specs.declared.errors.Error.TheVariants.{TooNarrow}
 use Rattle.html_render_dom_values.specs.Outcome.{Refuses}
 use Rattle.html_render_dom_values.specs.Forest.{Forest}
-use Rattle.html_render_parts_decorators.specs.Decoration.{Decoration}
+use Rattle.html_render_parts.specs.Decoration.{Decoration}
 use Rattle.html_render_layout_lines.specs.Line.{Line, AllWithinWidth}
 use Rattle.html_render_layout_nodes.specs.declared.tree.RenderNode.{RenderNode}
 use Rattle.html_render_layout_estimates.specs.declared.settings.LayoutSettings.{LayoutSettings}
 use Rattle.html_render_layout_blocks.specs.declared.block.BlockSetting.{BlockSetting}
 use Rattle.html_render_layout.specs.Kept.{visited_nodes, KeepsTexts}
-use Rattle.html_render_layout_states.specs.Layout.{layout_lines, mark_names, unannotated}
+use Rattle.html_render_layout.specs.Layout.{layout_lines, mark_names, unannotated}
 use Rattle.html_render_layout.specs.Promises.{AreLines, Lines, HasLines, LeavesTexts}
 use Rattle.html_render_layout.specs.laws.LayoutLaws.{layout_within, layout_succeeds, layout_same, names_same, same_answer}
 use Rattle.html_render_layout.specs.laws.LayoutVisible.{layout_keeps_texts, layout_leaves}

@@ -11,22 +11,22 @@ use Rattle.html_render_layout_nodes.specs.declared.tree.Estimate.{Estimate}
 use Rattle.html_render_layout_nodes.specs.declared.tree.NodeKind.{NodeKind}
 use Rattle.html_render_layout_nodes.specs.declared.tree.RenderNode.{RenderNode}
 use Rattle.html_render_layout_estimates.specs.Estimates.{prefix_columns}
-use Rattle.html_render_layout_nodes.specs.Pass.{Place, Bare, Skipped, Within, Places, bare, Visit, Leaf, Inner, through_visit, inside, followed}
-use Rattle.html_render_layout_nodes.specs.Pass.{placed, run_at, run, nodes_at, visited, open_at, most_open}
+use Rattle.html_render_layout_nodes.specs.Visitor.{NodePlace, Bare, Skipped, Within, Places, bare, Visit, Leaf, Inner, through_visit, inside, followed}
+use Rattle.html_render_layout_nodes.specs.Visitor.{placed, run_at, run, nodes_at, visited, open_at, most_open}
 use Rattle.html_render_layout_nodes.specs.laws.Visits.{from, from_state}
 use Rattle.html_render_layout_paragraphs.specs.laws.Answers.{Both, Both-then, Both-map, Both-weaken}
 use Rattle.html_render_layout_blocks.specs.Operations.{Operations, DocumentEnd}
 use Rattle.html_render_layout_blocks.specs.laws.Related.{Relates, RelatesEnds}
-use Rattle.html_render_layout_states.specs.declared.nesting.OwnBlock.{OwnBlock}
-use Rattle.html_render_layout_states.specs.declared.nesting.OwnBlock.TheVariants.{Shared, Prefixed, Indented}
-use Rattle.html_render_layout_states.specs.declared.state.LayoutState.{LayoutState}
-use Rattle.html_render_layout_states.specs.declared.state.TextContext.{TextContext}
-use Rattle.html_render_layout_states.specs.Ending.{closing_texts, ended}
-use Rattle.html_render_layout_states.specs.Layout.{Means, Step, Write, WriteNumber, Annotate, Treat, Strike, Unstrike, Restore, NewLine, NewLineHard}
-use Rattle.html_render_layout_states.specs.Layout.{StartBlock, EndBlock, Fence, BeginTable, EndTable, AddTarget, AddMark, Shape, Steps, Around, Items}
-use Rattle.html_render_layout_states.specs.Layout.{Cells, spaces, padded, block_of, shape_of, style_steps, struck, white_space_in, on_block}
-use Rattle.html_render_layout_states.specs.Layout.{text_style, add_styled, write, annotated, fence, perform, perform_all, within, nested, joined, appended}
-use Rattle.html_render_layout_states.specs.Layout.{appended_block, block_place, cell_place, shape_layout, kind_layout, layout_of, shown_after}
+use Rattle.html_render_layout.specs.declared.nesting.OwnBlock.{OwnBlock}
+use Rattle.html_render_layout.specs.declared.nesting.OwnBlock.TheVariants.{Shared, Prefixed, Indented}
+use Rattle.html_render_layout.specs.declared.state.LayoutState.{LayoutState}
+use Rattle.html_render_layout.specs.declared.state.TextContext.{TextContext}
+use Rattle.html_render_layout.specs.Ending.{closing_texts, ended}
+use Rattle.html_render_layout.specs.Layout.{Algebra, Step, Write, WriteNumber, Annotate, Treat, Strike, Unstrike, Restore, NewLine, NewLineHard}
+use Rattle.html_render_layout.specs.Layout.{StartBlock, EndBlock, Fence, BeginTable, EndTable, AddTarget, AddMark, Shape, Steps, Around, Items}
+use Rattle.html_render_layout.specs.Layout.{Cells, spaces, padded, block_of, shape_of, style_steps, struck, white_space_in, on_block}
+use Rattle.html_render_layout.specs.Layout.{text_style, add_styled, write, annotated, fence, perform, perform_all, within, nested, joined, appended}
+use Rattle.html_render_layout.specs.Layout.{appended_block, block_place, cell_place, shape_layout, kind_layout, layout_of, shown_after}
 
 -- treatment of texts under another tag
 abbrev pub context : {T U : Type 0} → TextContext T → U → TextContext U
@@ -57,7 +57,7 @@ with_other s v =
 -- m and n are the means of the two sides, with one decoration. Tags relates tags and Blocks relates blocks, with the stacks
 -- of both sides; each block has an index in I. Later relates stacks to later ones, with which tags and blocks stay related.
 -- N holds if both sides refuse, M if only the first does.
-module _ {S A K T B L U C I : Type 0} (m : Means S A K T B) (pull : L → U → A → L × U) (p : Operations C U ℕ) (N M : Type 0) (weak : M → N)
+module _ {S A K T B L U C I : Type 0} (m : Algebra S A K T B) (pull : L → U → A → L × U) (p : Operations C U ℕ) (N M : Type 0) (weak : M → N)
     (Later : K × L → K × L → Type 0) (stays : (w : K × L) → Later w w)
     (goes : (w v u : K × L) → Later w v → Later v u → Later w u)
     (Tags : K × L → T → U → Type 0) (tags_later : (w v : K × L) (t : T) (u : U) → Tags w t u → Later w v → Tags v t u)
@@ -68,7 +68,7 @@ module _ {S A K T B L U C I : Type 0} (m : Means S A K T B) (pull : L → U → 
     Tags ((m.push k t a).0, (pull l u a).0) (m.push k t a).1 (pull l u a).1)
     (h : Relates m.operations p N M Later Tags Blocks) where
   -- means of the other side
-  abbrev n : Means S A L U C
+  abbrev n : Algebra S A L U C
   n = record { decoration = m.decoration; push = pull; operations = p }
 
   abbrev State : Type 0
@@ -248,11 +248,11 @@ module _ {S A K T B L U C I : Type 0} (m : Means S A K T B) (pull : L → U → 
 
   -- ---- sub-blocks
 
-  nested-related : (prefix least : ℕ) (i : I) (s : State) (v : Different) → Holds i s v →
-      Both N M (Deeper (stacks_of s v)) (nested m prefix least s) (nested n prefix least (with_other s v))
-  nested-related prefix least i s v k =
-      Both-map N M (λ e f. (j : I) × Blocks j (stacks_of s v) e f) (Deeper (stacks_of s v)) _ _ (m.operations.sub_block s.block prefix least)
-      (p.sub_block v.block prefix least) (h.sub_block i (stacks_of s v) prefix least s.block v.block k.1.1) (λ b c z.
+  nested-related : (prefix min_width : ℕ) (i : I) (s : State) (v : Different) → Holds i s v →
+      Both N M (Deeper (stacks_of s v)) (nested m prefix min_width s) (nested n prefix min_width (with_other s v))
+  nested-related prefix min_width i s v k =
+      Both-map N M (λ e f. (j : I) × Blocks j (stacks_of s v) e f) (Deeper (stacks_of s v)) _ _ (m.operations.sub_block s.block prefix min_width)
+      (p.sub_block v.block prefix min_width) (h.sub_block i (stacks_of s v) prefix min_width s.block v.block k.1.1) (λ b c z.
       (z.0, here z.0 (within m b s) (record v { block = c }) (k.0, (k.1.0, z.1))))
 
   -- whether f and g, which make a block of an outer block and a sub-block, keep blocks related
@@ -291,7 +291,7 @@ module _ {S A K T B L U C I : Type 0} (m : Means S A K T B) (pull : L → U → 
       Both N M (Reached i (stacks_of r u)) (f r) (g (with_other r u))))
 
   -- whether two places are related, from the stacks w
-  abbrev PlaceRelated : I → K × L → Place State → Place OtherState → Type 0
+  abbrev PlaceRelated : I → K × L → NodePlace State → NodePlace OtherState → Type 0
   PlaceRelated i w Bare Bare = Unit {0}
   PlaceRelated i w (Skipped t) (Skipped e) = Reached i w t e
   PlaceRelated i w (Within a f) (Within b g) = Both N M (λ q e. After i w q e f g) a b
@@ -367,7 +367,7 @@ module _ {S A K T B L U C I : Type 0} (m : Means S A K T B) (pull : L → U → 
   -- a visit that is related in all related states is related in related places
   placed-related : (f : State → Visit State) (g : OtherState → Visit OtherState) →
       ((j : I) (q : State) (u : Different) → Holds j q u → Related j (stacks_of q u) (f q) (g (with_other q u))) →
-      (x : Place State) (y : Place OtherState) (i : I) (s : State) (v : Different) → Holds i s v → PlaceRelated i (stacks_of s v) x y →
+      (x : NodePlace State) (y : NodePlace OtherState) (i : I) (s : State) (v : Different) → Holds i s v → PlaceRelated i (stacks_of s v) x y →
       Related i (stacks_of s v) (placed x f s) (placed y g (with_other s v))
   placed-related f g same Bare Bare i s v k c = same i s v k
   placed-related f g same (Skipped t) (Skipped e) i s v k c = c
@@ -404,12 +404,12 @@ module _ {S A K T B L U C I : Type 0} (m : Means S A K T B) (pull : L → U → 
   bare-related : PlacesRelated bare bare
   bare-related number i s v k = tt
 
-  indent-related : (prefix : List ℕ) (columns least : ℕ) (i : I) (s : State) (v : Different) → Holds i s v →
+  indent-related : (prefix : List ℕ) (columns min_width : ℕ) (i : I) (s : State) (v : Different) → Holds i s v →
       Both N M (λ q e. After i (stacks_of s v) q e (appended m s prefix columns) (appended n (with_other s v) prefix columns))
-      (nested m columns least s) (nested n columns least (with_other s v))
-  indent-related prefix columns least i s v k =
+      (nested m columns min_width s) (nested n columns min_width (with_other s v))
+  indent-related prefix columns min_width i s v k =
       deeper-related i (stacks_of s v) _ _ (appended m s prefix columns) (appended n (with_other s v) prefix columns)
-      (nested-related columns least i s v k) (λ j r u l z.
+      (nested-related columns min_width i s v k) (λ j r u l z.
       joined-related (λ b c. m.operations.append b c s.text.tag (chars prefix) (spaces columns))
       (λ b c. p.append b c v.tag (chars prefix) (spaces columns)) i j s v k (appends-related prefix columns i s v k) r u l z)
 
@@ -437,11 +437,11 @@ module _ {S A K T B L U C I : Type 0} (m : Means S A K T B) (pull : L → U → 
   block_place-related : (x : OwnBlock) (i : I) (s : State) (v : Different) → Holds i s v →
       PlaceRelated i (stacks_of s v) (block_place m x s) (block_place n x (with_other s v))
   block_place-related Shared i s v k = tt
-  block_place-related (Prefixed prefix least) i s v k =
+  block_place-related (Prefixed prefix min_width) i s v k =
       deeper-related i (stacks_of s v) _ _ (joined m (appended_block m s.text.tag prefix) s) (joined n (appended_block n v.tag prefix) (with_other s v))
-      (nested-related (prefix_columns prefix) least i s v k) (λ j r u l z.
+      (nested-related (prefix_columns prefix) min_width i s v k) (λ j r u l z.
       joined-related (appended_block m s.text.tag prefix) (appended_block n v.tag prefix) i j s v k (block-related prefix i s v k) r u l z)
-  block_place-related (Indented prefix columns least) i s v k = indent-related prefix columns least i s v k
+  block_place-related (Indented prefix columns min_width) i s v k = indent-related prefix columns min_width i s v k
 
   shape-related : (x : Shape S A) (i : I) (s : State) (v : Different) → Holds i s v →
       Related i (stacks_of s v) (shape_layout m x s) (shape_layout n x (with_other s v))
@@ -452,9 +452,9 @@ module _ {S A K T B L U C I : Type 0} (m : Means S A K T B) (pull : L → U → 
         steps-related ys s v i r u (tags_later (stacks_of s v) (stacks_of r u) s.text.tag v.tag k.0 l) z),
     bare-related,
   )
-  shape-related (Items prefix columns least) i s v k = (
+  shape-related (Items prefix columns min_width) i s v k = (
     around-related i (stacks_of s v) (Some s) (Some (with_other s v)) (λ r. Some r) (λ r. Some r) (here i s v k) (λ r u l z. here i r u z),
-    λ number j r u z. let c = columns s.decorator in indent-related (padded c (prefix r.decorator number)) c least j r u z,
+    λ number j r u z. let c = columns s.decorator in indent-related (padded c (prefix r.decorator number)) c min_width j r u z,
   )
   shape-related Cells i s v k = (
     around-related i (stacks_of s v) (Some (record s { block = m.operations.begin_row s.block }))

@@ -3,20 +3,20 @@
 use Rattle.std.proofs.Common.{◌≡◌, ℕ, List, ◌∷◌, [], ◌++◌, Option, Some, None, refl, ap, ◌∙◌, option_map}
 use Rattle.std.proofs.lemmas.Iterator.Adapters.{option_map_id}
 use Rattle.html_render_dom_values.specs.Forest.{Forest}
-use Rattle.html_render_parts_decorators.specs.Decoration.{Decoration}
+use Rattle.html_render_parts.specs.Decoration.{Decoration}
 use Rattle.html_render_layout_lines.specs.Line.{Line}
 use Rattle.html_render_layout_lines.specs.Tags.{lines_with}
 use Rattle.html_render_layout_nodes.specs.declared.tree.RenderNode.{RenderNode}
-use Rattle.html_render_layout_nodes.specs.Pass.{visited, most_open}
+use Rattle.html_render_layout_nodes.specs.Visitor.{visited, most_open}
 use Rattle.html_render_layout_blocks.specs.Definition as definition
 use Rattle.html_render_layout_blocks.specs.Definition.{DefinedBlock}
 use Rattle.html_render_layout_blocks.specs.Machine as machine
 use Rattle.html_render_layout_blocks.specs.Machine.{MachineBlock}
 use Rattle.html_render_layout_paragraphs.specs.laws.Answers.{Both}
 use Rattle.html_render_layout_blocks.specs.laws.BlockSeen.{Tags, Blocks, operations-seen, ends-seen, later-seen, lines-seen}
-use Rattle.html_render_layout_states.specs.declared.state.LayoutState.{LayoutState}
-use Rattle.html_render_layout_states.specs.Layout.{by_stacks, layout_of, shown_after, Defined, defined}
-use Rattle.html_render_layout_states.specs.Working.{by_tags}
+use Rattle.html_render_layout.specs.declared.state.LayoutState.{LayoutState}
+use Rattle.html_render_layout.specs.Layout.{by_stacks, layout_of, shown_after, Defined, defined}
+use Rattle.html_render_layout.specs.Working.{by_tags}
 use Rattle.html_render_layout.specs.laws.Related.{Other, with_other, walked-related, shown-related}
 
 -- `push` adds an annotation on top of a tag, in a store K; `shown` is the view of a tag and `seen` that of a stack. Later

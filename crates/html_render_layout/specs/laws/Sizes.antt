@@ -10,15 +10,15 @@ use Rattle.html_render_layout_nodes.specs.declared.tree.NodeKind.{NodeKind}
 use Rattle.html_render_layout_nodes.specs.declared.tree.NodeKind.TheVariants.{BlockQuote, Superscript, Table}
 use Rattle.html_render_layout_nodes.specs.declared.tree.RenderNode.{RenderNode}
 use Rattle.html_render_layout_nodes.specs.Counts.{CountsNodes}
-use Rattle.html_render_layout_nodes.specs.Pass.{Place, Bare, Skipped, Within, Places, bare, through_visit, inside, followed}
-use Rattle.html_render_layout_nodes.specs.Pass.{placed, run_at, run, nodes_at, open_at}
+use Rattle.html_render_layout_nodes.specs.Visitor.{NodePlace, Bare, Skipped, Within, Places, bare, through_visit, inside, followed}
+use Rattle.html_render_layout_nodes.specs.Visitor.{placed, run_at, run, nodes_at, open_at}
 use Rattle.html_render_layout_nodes.specs.laws.Visits.{from, from_state, count_from, length-from}
 use Rattle.html_render_layout_estimates.specs.Passes.{is_table, has_table, without_size, without_sizes, with_needed_sizes}
 use Rattle.html_render_layout_blocks.specs.Operations.{DocumentEnd}
-use Rattle.html_render_layout_states.specs.declared.state.LayoutState.{LayoutState}
+use Rattle.html_render_layout.specs.declared.state.LayoutState.{LayoutState}
 use Rattle.html_render_layout_estimates.specs.declared.settings.LayoutSettings.{LayoutSettings}
-use Rattle.html_render_layout_states.specs.Layout.{Means, digits_of, superscript, block_of, shape_of, style_steps, perform_all, block_place, shape_layout}
-use Rattle.html_render_layout_states.specs.Layout.{kind_layout, layout_of, shown_after}
+use Rattle.html_render_layout.specs.Layout.{Algebra, digits_of, superscript, block_of, shape_of, style_steps, perform_all, block_place, shape_layout}
+use Rattle.html_render_layout.specs.Layout.{kind_layout, layout_of, shown_after}
 
 -- node without its preferred width
 abbrev unsized : RenderNode → RenderNode
@@ -38,7 +38,7 @@ depth-same : (t : Forest RenderNode) → depth (without_sizes t) ≡ depth t
 depth-same none = refl
 depth-same (node n children beside) = omega (arith, depth-same children, depth-same beside)
 
-module _ {S A K T B : Type 0} (m : Means S A K T B) where
+module _ {S A K T B : Type 0} (m : Algebra S A K T B) where
   abbrev State : Type 0
   State = LayoutState S K T B
 
@@ -65,7 +65,7 @@ module _ {S A K T B : Type 0} (m : Means S A K T B) where
   node-same n trees s plain = λ i. from_state (perform_all m s (style_steps m.decoration n.style) s) (λ q.
       followed (kind_layout-same n.kind n.estimate trees q plain i) (λ r. Some (record r { text = s.text })))
 
-  placed-same : (p : Place State) (n : RenderNode) (trees : Forest RenderNode) (s : State) → is_table n.kind ≡ false →
+  placed-same : (p : NodePlace State) (n : RenderNode) (trees : Forest RenderNode) (s : State) → is_table n.kind ≡ false →
       placed p (layout_of m (unsized n) (without_sizes trees)) s ≡ placed p (layout_of m n trees) s
   placed-same Bare n trees s plain = node-same n trees s plain
   placed-same (Skipped t) n trees s plain = refl
@@ -77,7 +77,7 @@ module _ {S A K T B : Type 0} (m : Means S A K T B) where
   behind t places s = run_at (layout_of m) places 0 t s
 
   -- the states after a node are equal if those after its children are
-  behind-same : (p : Place State) (n : RenderNode) (children : Forest RenderNode) (s : State) → is_table n.kind ≡ false →
+  behind-same : (p : NodePlace State) (n : RenderNode) (children : Forest RenderNode) (s : State) → is_table n.kind ≡ false →
       ((places : Places State) (q : State) → behind (without_sizes children) places q ≡ behind children places q) →
       through_visit (placed p (layout_of m (unsized n) (without_sizes children)) s) (behind (without_sizes children))
       ≡ through_visit (placed p (layout_of m n children) s) (behind children)
@@ -93,7 +93,7 @@ module _ {S A K T B : Type 0} (m : Means S A K T B) where
       (behind-same (places number s) n children s front.0 (λ below q. run-same children below 0 q rest.0) i)
 
   -- counts of the children of a node and of its later siblings are equal
-  below-same : (f g : Places State × State → ℕ) (p : Place State) (n : RenderNode) (children : Forest RenderNode) (s : State) →
+  below-same : (f g : Places State × State → ℕ) (p : NodePlace State) (n : RenderNode) (children : Forest RenderNode) (s : State) →
       is_table n.kind ≡ false → ((x : Places State × State) → f x ≡ g x) →
       count_from f (inside (placed p (layout_of m (unsized n) (without_sizes children)) s)) ≡ count_from g (inside (placed p (layout_of m n children) s))
   below-same f g p n children s plain same = λ i. count_from (λ x. same x i) (inside (placed-same p n children s plain i))

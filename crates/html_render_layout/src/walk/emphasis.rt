@@ -2,16 +2,16 @@
 
 ghost use Rattle.std.specs.Prelude.{◌≡◌, Some, OnOk, IfOk, IfErr, string_bytes};
 ghost use Rattle.std.specs.Str.{chars};
-ghost use Rattle.html_render_dom_values.specs.Outcome.{Refuses};
-ghost use Rattle.html_render_layout_states.specs.Layout.{emphasis_decoration, start, annotated, write, perform_all};
-ghost use Rattle.html_render_layout_states.specs.Working.{by_tags};
+ghost use Rattle.html_render_dom_values.specs.Outcome.{OnlyOutOfMemory, Refuses};
+ghost use Rattle.html_render_layout.specs.Layout.{emphasis_decoration, start, annotated, write, perform_all};
+ghost use Rattle.html_render_layout.specs.Working.{by_tags};
 
 use super::texts::add_text;
+use crate::tagging::Tagging;
+use crate::working::State;
 use html_render_dom_values::Error;
 use html_render_layout_nodes::tree::Emphasis;
-use html_render_layout_states::tagging::Tagging;
-use html_render_layout_states::working::State;
-use html_render_parts_decorators::decorate::TextDecorator;
+use html_render_parts::decorate::TextDecorator;
 use std::alloc::Global;
 
 /// Returns the decorator's text before an emphasis, and the annotation of the emphasis.
@@ -22,7 +22,7 @@ fn start_of<D: TextDecorator>(
 ) -> Result<(String, D::Annotation), Error>
     ensures text { IfOk result (λ r. string_bytes r.0 ≡ ((emphasis_decoration D.decoration emphasis).start decorator.now).text) }
     ensures annotation { IfOk result (λ r. r.1 ≡ ((emphasis_decoration D.decoration emphasis).start decorator.now).annotation) }
-    ensures err { IfErr result (λ e. e ≡ Error.OutOfMemory) }
+    ensures err { OnlyOutOfMemory result }
 {
     match emphasis {
         Emphasis::Em => decorator.decorate_em_start(alloc),
@@ -42,7 +42,7 @@ pub fn end_of<D: TextDecorator>(
     emphasis: Emphasis,
 ) -> Result<String, Error>
     ensures ok { IfOk result (λ text. string_bytes text ≡ (emphasis_decoration D.decoration emphasis).end decorator.now) }
-    ensures err { IfErr result (λ e. e ≡ Error.OutOfMemory) }
+    ensures err { OnlyOutOfMemory result }
 {
     match emphasis {
         Emphasis::Em => decorator.decorate_em_end(alloc),

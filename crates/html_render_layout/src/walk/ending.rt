@@ -3,15 +3,15 @@
 ghost use Rattle.std.specs.Prelude.{◌≡◌, ◌++◌, [], Some, codes, map, string_bytes, if◌then◌else◌};
 ghost use Rattle.std.specs.Fmt.{decimal};
 ghost use Rattle.std.specs.Prelude.{OnOk, IfOk, IfErr};
-ghost use Rattle.html_render_dom_values.specs.Outcome.{Refuses};
+ghost use Rattle.html_render_dom_values.specs.Outcome.{OnlyOutOfMemory, Refuses};
 ghost use Rattle.html_render_layout_blocks.specs.Machine as machine;
-ghost use Rattle.html_render_layout_states.specs.Ending.{footnotes, closing_texts, ended};
+ghost use Rattle.html_render_layout.specs.Ending.{footnotes, closing_texts, ended};
 
+use crate::tagging::Tagging;
+use crate::working::State;
 use html_render_dom_values::Error;
 use html_render_dom_values::text::Text;
-use html_render_layout_states::tagging::Tagging;
-use html_render_layout_states::working::State;
-use html_render_parts_decorators::decorate::TextDecorator;
+use html_render_parts::decorate::TextDecorator;
 use std::alloc::{AllocError, Global};
 
 /// Greatest number of bytes of a footnote before its target: a number of 20 digits, `[` and `]: `.
@@ -63,7 +63,7 @@ fn closing_texts<D: TextDecorator>(
     targets: &[Text],
 ) -> Result<Vec<String>, Error>
     ensures ok { IfOk result (λ texts. map string_bytes texts.items ≡ closing_texts D.decoration link_footnotes decorator.now targets.now) }
-    ensures err { IfErr result (λ e. e ≡ Error.OutOfMemory) }
+    ensures err { OnlyOutOfMemory result }
 {
     let mut texts = chosen_footnotes(alloc, link_footnotes, targets)?;
     let mut more = decorator.finalise(alloc, targets)?;

@@ -2,16 +2,16 @@
 
 ghost use Rattle.std.specs.Prelude.{◌≡◌, Some, OnOk, IfErr, option_map};
 ghost use Rattle.html_render_dom_values.specs.Outcome.{Refuses};
-ghost use Rattle.html_render_layout_states.specs.Images.{file_name, shown_title};
-ghost use Rattle.html_render_layout_states.specs.Layout.{image, perform_all};
-ghost use Rattle.html_render_layout_states.specs.Working.{by_tags};
+ghost use Rattle.html_render_layout.specs.Images.{file_name, shown_title};
+ghost use Rattle.html_render_layout.specs.Layout.{image, perform_all};
+ghost use Rattle.html_render_layout.specs.Working.{by_tags};
 
 use super::emphasis::begin;
+use crate::tagging::Tagging;
+use crate::working::State;
 use html_render_dom_values::Error;
 use html_render_layout_estimates::settings::ImageRenderMode;
-use html_render_layout_states::tagging::Tagging;
-use html_render_layout_states::working::State;
-use html_render_parts_decorators::decorate::TextDecorator;
+use html_render_parts::decorate::TextDecorator;
 use std::alloc::Global;
 
 /// Returns the part of an address after its last slash, or the whole address if it has none.

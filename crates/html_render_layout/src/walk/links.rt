@@ -1,19 +1,19 @@
 //! Links with their numbers, and fragment marks.
 
 ghost use Rattle.std.specs.Prelude.{◌≡◌, ◌∷◌, Some, OnOk, IfErr};
-ghost use Rattle.html_render_dom_values.specs.Outcome.{Refuses};
-ghost use Rattle.html_render_parts_decorators.specs.Decoration.{link};
-ghost use Rattle.html_render_layout_states.specs.Layout.{AddTarget, AddMark, start, perform, perform_all, write_number};
-ghost use Rattle.html_render_layout_states.specs.Opening.{kind_closed};
-ghost use Rattle.html_render_layout_states.specs.Working.{by_tags};
+ghost use Rattle.html_render_dom_values.specs.Outcome.{OnlyOutOfMemory, Refuses};
+ghost use Rattle.html_render_parts.specs.Decoration.{link};
+ghost use Rattle.html_render_layout.specs.Layout.{AddTarget, AddMark, start, perform, perform_all, write_number};
+ghost use Rattle.html_render_layout.specs.Opening.{kind_closed};
+ghost use Rattle.html_render_layout.specs.Working.{by_tags};
 
 use super::emphasis::begin;
 use super::texts::add_text;
+use crate::state::{CloseAction, TextContext};
+use crate::tagging::Tagging;
+use crate::working::State;
 use html_render_dom_values::Error;
-use html_render_layout_states::state::{KindClosing, TextContext};
-use html_render_layout_states::tagging::Tagging;
-use html_render_layout_states::working::State;
-use html_render_parts_decorators::decorate::TextDecorator;
+use html_render_parts::decorate::TextDecorator;
 use std::alloc::Global;
 
 /// Adds a fragment mark to the open paragraph, and its name to the state's names.
@@ -26,7 +26,7 @@ pub fn add_mark<D: TextDecorator, G: Tagging<D::Annotation>>(
     state: &mut State<D, G>,
 ) -> Result<(), Error>
     ensures ok { OnOk result (perform (by_tags D.decoration G.annotated) state.old (AddMark name.now) state.old ≡ Some state.new) }
-    ensures err { IfErr result (λ e. e ≡ Error.OutOfMemory) }
+    ensures err { OnlyOutOfMemory result }
 {
     state.block.held.add_mark(state.names.len())?;
     state.names.push(name)
@@ -83,8 +83,8 @@ pub fn close_link<D: TextDecorator, G: Tagging<D::Annotation>>(
     number: usize,
     state: &mut State<D, G>,
 ) -> Result<(), Error>
-    ensures ok { OnOk result (kind_closed (by_tags D.decoration G.annotated) (KindClosing.EndLink text number) state.old ≡ Some state.new) }
-    ensures err { IfErr result (λ e. Refuses e (kind_closed (by_tags D.decoration G.annotated) (KindClosing.EndLink text number) state.old)) }
+    ensures ok { OnOk result (kind_closed (by_tags D.decoration G.annotated) (CloseAction.EndLink text number) state.old ≡ Some state.new) }
+    ensures err { IfErr result (λ e. Refuses e (kind_closed (by_tags D.decoration G.annotated) (CloseAction.EndLink text number) state.old)) }
 {
     let end = state.decorator.decorate_link_end(alloc)?;
     add_text(alloc, end.as_str(), state)?;

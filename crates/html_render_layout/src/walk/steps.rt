@@ -1,47 +1,47 @@
 //! Opening and closing of nodes, kind by kind.
 
 ghost use Rattle.std.specs.Prelude.{◌≡◌, ◌+◌, ◌-◌, ◌++◌, ◌∷◌, [], length, Some, OnOk, IfOk, IfErr, option_copied};
-ghost use Rattle.html_render_dom_values.specs.Outcome.{Refuses};
+ghost use Rattle.html_render_dom_values.specs.Outcome.{OnlyOutOfMemory, Refuses};
 ghost use Rattle.html_render_layout_blocks.specs.Machine as machine;
-ghost use Rattle.html_render_layout_nodes.specs.Pass.{way};
+ghost use Rattle.html_render_layout_nodes.specs.Visitor.{way};
 ghost use Rattle.html_render_layout_nodes.specs.Preorder.{flatten, forest_of};
-ghost use Rattle.html_render_parts_decorators.specs.Decoration.{link};
+ghost use Rattle.html_render_parts.specs.Decoration.{link};
 ghost use Rattle.html_render_layout_estimates.specs.Estimates.{prefix_columns, number_columns};
-ghost use Rattle.html_render_layout_states.specs.Layout.{AddTarget, BeginTable, Fence, NewLine, StartBlock, Strike, block_of, perform_all};
-ghost use Rattle.html_render_layout_states.specs.Layout.{start};
-ghost use Rattle.html_render_layout_states.specs.Opening.{child_block, continued};
-ghost use Rattle.html_render_layout_states.specs.Opening.{kind_opened, kind_closed, opened_in, text_opened, cell_opened, block_opened, opened_below};
-ghost use Rattle.html_render_layout_states.specs.Opening.{opened, closed};
-ghost use Rattle.html_render_layout_states.specs.Working.{by_tags};
+ghost use Rattle.html_render_layout.specs.Layout.{AddTarget, BeginTable, Fence, NewLine, StartBlock, Strike, block_of, perform_all};
+ghost use Rattle.html_render_layout.specs.Layout.{start};
+ghost use Rattle.html_render_layout.specs.Opening.{child_block, continued};
+ghost use Rattle.html_render_layout.specs.Opening.{kind_opened, kind_closed, opened_in, text_opened, cell_opened, block_opened, opened_below};
+ghost use Rattle.html_render_layout.specs.Opening.{opened, closed};
+ghost use Rattle.html_render_layout.specs.Working.{by_tags};
 
 use super::emphasis::{begin_emphasis, begin_strikeout, begin_superscript, end_of};
 use super::images::add_image;
 use super::links::{add_mark, begin_link, close_link};
-use super::superscripts::{digits_of, write_raised};
+use super::superscripts::{digits_of, write_superscript};
 use super::tables::{begin_cell, begin_table, end_cell, end_table};
 use super::texts::add_text;
+use crate::items::child_block;
+use crate::nesting::{OwnBlock, begin_block, close_indent, close_quote};
+use crate::state::{CloseAction, OpenNode, Suspended};
+use crate::styles::begin_style;
+use crate::tagging::Tagging;
+use crate::working::{Kept, KindKept, State};
 use html_render_dom_values::Error;
 use html_render_dom_values::text::Text;
-use html_render_layout_blocks::held::HeldBlock;
+use html_render_layout_blocks::held::BoxedBlock;
 use html_render_layout_estimates::estimate::number_columns;
 use html_render_layout_estimates::text::columns;
 use html_render_layout_nodes::tree::{
     Emphasis, Entry, Estimate, Grid, NodeKind, NodeStyle, RenderNode,
 };
-use html_render_layout_states::items::child_block;
-use html_render_layout_states::nesting::{OwnBlock, begin_block, close_indent, close_quote};
-use html_render_layout_states::state::{Closing, Interruption, KindClosing};
-use html_render_layout_states::styles::begin_style;
-use html_render_layout_states::tagging::Tagging;
-use html_render_layout_states::working::{Kept, KindKept, State};
-use html_render_parts_decorators::decorate::TextDecorator;
+use html_render_parts::decorate::TextDecorator;
 use std::alloc::Global;
 
 /// Returns the minimum width of a node without its prefix, in columns.
 fn inner_least(estimate: &Estimate) -> usize
-    ensures { result ≡ estimate.now.least - estimate.now.prefix }
+    ensures { result ≡ estimate.now.min_width - estimate.now.prefix }
 {
-    estimate.least.saturating_sub(estimate.prefix)
+    estimate.min_width.saturating_sub(estimate.prefix)
 }
 
 /// Opens an unordered list. Returns its closing action, by which its children become items.
@@ -50,14 +50,14 @@ fn open_bullets<D: TextDecorator, G: Tagging<D::Annotation>>(
     decorator: &D,
     estimate: &Estimate,
 ) -> Result<Option<KindKept<D, G>>, Error>
-    ensures ok { IfOk result (λ c. c ≡ Some (KindClosing.Bullets
-        (prefix_columns (D.decoration.unordered_item_prefix decorator.now)) (estimate.now.least - estimate.now.prefix))) }
-    ensures err { IfErr result (λ e. e ≡ Error.OutOfMemory) }
+    ensures ok { IfOk result (λ c. c ≡ Some (CloseAction.Bullets
+        (prefix_columns (D.decoration.unordered_item_prefix decorator.now)) (estimate.now.min_width - estimate.now.prefix))) }
+    ensures err { OnlyOutOfMemory result }
 {
     let bullet = decorator.unordered_item_prefix(alloc)?;
-    Ok(Some(KindClosing::Bullets {
+    Ok(Some(CloseAction::Bullets {
         columns: columns(bullet.as_str()),
-        least: inner_least(estimate),
+        min_width: inner_least(estimate),
     }))
 }
 
@@ -69,15 +69,15 @@ fn open_numbers<D: TextDecorator, G: Tagging<D::Annotation>>(
     first: i64,
     estimate: &Estimate,
 ) -> Result<Option<KindKept<D, G>>, Error>
-    ensures ok { IfOk result (λ c. c ≡ Some (KindClosing.Numbers first
-        (number_columns D.decoration decorator.now first estimate.now.children) (estimate.now.least - estimate.now.prefix))) }
-    ensures err { IfErr result (λ e. e ≡ Error.OutOfMemory) }
+    ensures ok { IfOk result (λ c. c ≡ Some (CloseAction.Numbers first
+        (number_columns D.decoration decorator.now first estimate.now.children) (estimate.now.min_width - estimate.now.prefix))) }
+    ensures err { OnlyOutOfMemory result }
 {
     let columns = number_columns(alloc, decorator, first, estimate.children)?;
-    Ok(Some(KindClosing::Numbers {
+    Ok(Some(CloseAction::Numbers {
         first,
         columns,
-        least: inner_least(estimate),
+        min_width: inner_least(estimate),
     }))
 }
 
@@ -114,7 +114,7 @@ fn strike<D: TextDecorator, G: Tagging<D::Annotation>>(
 #[tactic(auto, using(html_render_dom_values::specs::laws::Outcome::refusals))]
 fn open_superscript<D: TextDecorator, G: Tagging<D::Annotation>>(
     alloc: Global,
-    own: Interruption<D, G::Tag, HeldBlock<G::Tag, usize>>,
+    own: Suspended<D, G::Tag, BoxedBlock<G::Tag, usize>>,
     estimate: &Estimate,
     children: &[Entry<RenderNode>],
     state: &mut State<D, G>,
@@ -126,12 +126,12 @@ fn open_superscript<D: TextDecorator, G: Tagging<D::Annotation>>(
 {
     match digits_of(children) {
         Some(digits) => {
-            write_raised(alloc, digits, state)?;
+            write_superscript(alloc, digits, state)?;
             Ok(None)
         }
         None => {
             begin_superscript(alloc, state)?;
-            Ok(Some(KindClosing::EndSuperscript))
+            Ok(Some(CloseAction::EndSuperscript))
         }
     }
 }
@@ -145,32 +145,32 @@ fn open_link<D: TextDecorator, G: Tagging<D::Annotation>>(
 ) -> Result<Option<KindKept<D, G>>, Error>
     ensures ok { OnOk result (perform_all (by_tags D.decoration G.annotated) state.old
         (AddTarget target.now ∷ start D.decoration (link D.decoration target.now)) state.old ≡ Some state.new) }
-    ensures kept { IfOk result (λ c. c ≡ Some (KindClosing.EndLink state.old.text (length state.old.targets + 1))) }
+    ensures kept { IfOk result (λ c. c ≡ Some (CloseAction.EndLink state.old.text (length state.old.targets + 1))) }
     ensures err { IfErr result (λ e. Refuses e (perform_all (by_tags D.decoration G.annotated) state.old
         (AddTarget target.now ∷ start D.decoration (link D.decoration target.now)) state.old)) }
 {
     let text = state.text;
     begin_link(alloc, target, state)?;
-    Ok(Some(KindClosing::EndLink(text, state.targets.len())))
+    Ok(Some(CloseAction::EndLink(text, state.targets.len())))
 }
 
 /// Opens a table, where `own` is the block that it suspends. Returns its closing action.
 #[inline(never)]
 #[tactic(auto, using(html_render_dom_values::specs::laws::Outcome::refusals))]
 fn open_table<D: TextDecorator, G: Tagging<D::Annotation>>(
-    own: Interruption<D, G::Tag, HeldBlock<G::Tag, usize>>,
+    own: Suspended<D, G::Tag, BoxedBlock<G::Tag, usize>>,
     grid: &Grid,
     state: &mut State<D, G>,
 ) -> Result<Option<KindKept<D, G>>, Error>
     ensures ok { OnOk result (perform_all (by_tags D.decoration G.annotated) state.old
         (StartBlock ∷ (Fence ∷ (BeginTable grid.now.cells grid.now.needs ∷ []))) state.old ≡ Some state.new) }
-    ensures kept { IfOk result (λ c. c ≡ Some (KindClosing.EndTable own state.old.in_table)) }
+    ensures kept { IfOk result (λ c. c ≡ Some (CloseAction.EndTable own state.old.in_table)) }
     ensures err { IfErr result (λ e. Refuses e (perform_all (by_tags D.decoration G.annotated) state.old
         (StartBlock ∷ (Fence ∷ (BeginTable grid.now.cells grid.now.needs ∷ []))) state.old)) }
 {
     let in_table = state.in_table;
     begin_table(grid, state)?;
-    Ok(Some(KindClosing::EndTable(own, in_table)))
+    Ok(Some(CloseAction::EndTable(own, in_table)))
 }
 
 /// Opens the next row of a table. Returns its closing action.
@@ -178,11 +178,11 @@ fn open_row<D: TextDecorator, G: Tagging<D::Annotation>>(
     state: &mut State<D, G>,
 ) -> Result<Option<KindKept<D, G>>, Error>
     ensures ok { OnOk result (state.new ≡ record state.old { block = machine.operations.begin_row state.old.block }) }
-    ensures kept { IfOk result (λ c. c ≡ Some KindClosing.EndRow) }
-    ensures err { IfErr result (λ e. e ≡ Error.OutOfMemory) }
+    ensures kept { IfOk result (λ c. c ≡ Some CloseAction.EndRow) }
+    ensures err { OnlyOutOfMemory result }
 {
     state.block.held.begin_row()?;
-    Ok(Some(KindClosing::EndRow))
+    Ok(Some(CloseAction::EndRow))
 }
 
 /// Returns the block that a node of a kind is laid out into.
@@ -194,22 +194,22 @@ fn block_of<D: TextDecorator, G: Tagging<D::Annotation>>(
     state: &State<D, G>,
 ) -> Result<OwnBlock, Error>
     ensures ok { IfOk result (λ b. b ≡ block_of D.decoration state.now.settings state.now.decorator kind.now estimate.now) }
-    ensures err { IfErr result (λ e. e ≡ Error.OutOfMemory) }
+    ensures err { OnlyOutOfMemory result }
 {
-    let least = inner_least(estimate);
+    let min_width = inner_least(estimate);
     match kind {
         NodeKind::Header(level) => {
             let prefix = Text::from(state.decorator.header_prefix(alloc, *level)?);
-            Ok(OwnBlock::Prefixed { prefix, least })
+            Ok(OwnBlock::Prefixed { prefix, min_width })
         }
         NodeKind::BlockQuote => {
             let prefix = Text::from(state.decorator.quote_prefix(alloc)?);
-            Ok(OwnBlock::Prefixed { prefix, least })
+            Ok(OwnBlock::Prefixed { prefix, min_width })
         }
         NodeKind::Dd => Ok(OwnBlock::Indented {
             prefix: Text::from_str(alloc, "  ")?,
             columns: 2,
-            least,
+            min_width,
         }),
         _ => Ok(OwnBlock::Shared),
     }
@@ -220,7 +220,7 @@ fn block_of<D: TextDecorator, G: Tagging<D::Annotation>>(
 #[tactic(auto, using(html_render_dom_values::specs::laws::Outcome::refusals))]
 fn open_kind<D: TextDecorator, G: Tagging<D::Annotation>>(
     alloc: Global,
-    own: Interruption<D, G::Tag, HeldBlock<G::Tag, usize>>,
+    own: Suspended<D, G::Tag, BoxedBlock<G::Tag, usize>>,
     kind: &NodeKind,
     estimate: &Estimate,
     children: &[Entry<RenderNode>],
@@ -241,7 +241,7 @@ fn open_kind<D: TextDecorator, G: Tagging<D::Annotation>>(
         | NodeKind::Header(_)
         | NodeKind::BlockQuote
         | NodeKind::Dd
-        | NodeKind::TableCell => Ok(Some(KindClosing::Nothing(own))),
+        | NodeKind::TableCell => Ok(Some(CloseAction::Nothing(own))),
         NodeKind::Table(grid) => open_table(own, grid, state),
         NodeKind::TableRow => open_row(state),
         NodeKind::Break => {
@@ -250,30 +250,30 @@ fn open_kind<D: TextDecorator, G: Tagging<D::Annotation>>(
         }
         NodeKind::Block | NodeKind::ListItem => {
             state.block.held.start_block()?;
-            Ok(Some(KindClosing::EndBlock))
+            Ok(Some(CloseAction::EndBlock))
         }
         NodeKind::Div => {
             state.block.held.new_line()?;
-            Ok(Some(KindClosing::NewLine))
+            Ok(Some(CloseAction::NewLine))
         }
         NodeKind::Emphasis(emphasis) => {
             begin_emphasis(alloc, *emphasis, state)?;
-            Ok(Some(KindClosing::EndEmphasis(*emphasis)))
+            Ok(Some(CloseAction::EndEmphasis(*emphasis)))
         }
         NodeKind::Ul => open_bullets::<D, G>(alloc, &state.decorator, estimate),
         NodeKind::Ol(first) => open_numbers::<D, G>(alloc, &state.decorator, *first, estimate),
         NodeKind::Dl => {
             state.block.held.start_block()?;
-            Ok(Some(KindClosing::Nothing(own)))
+            Ok(Some(CloseAction::Nothing(own)))
         }
         NodeKind::Dt => {
             begin_term(alloc, state)?;
-            Ok(Some(KindClosing::EndEmphasis(Emphasis::Em)))
+            Ok(Some(CloseAction::EndEmphasis(Emphasis::Em)))
         }
         NodeKind::Strikeout => {
             let before = state.text.struck_out;
             strike(alloc, state)?;
-            Ok(Some(KindClosing::EndStrikeout(before)))
+            Ok(Some(CloseAction::EndStrikeout(before)))
         }
         NodeKind::Superscript => open_superscript(alloc, own, estimate, children, state),
         NodeKind::Link(target) => open_link(alloc, target.as_str(), state),
@@ -300,36 +300,36 @@ fn open_kind<D: TextDecorator, G: Tagging<D::Annotation>>(
 /// Resumes a suspended block, if there is one.
 #[inline(never)]
 #[tactic(auto, using(html_render_dom_values::specs::laws::Outcome::refusals))]
-fn end_block<D: TextDecorator, G: Tagging<D::Annotation>>(
+fn resume_block<D: TextDecorator, G: Tagging<D::Annotation>>(
     alloc: Global,
-    interrupted: Interruption<D, G::Tag, HeldBlock<G::Tag, usize>>,
+    interrupted: Suspended<D, G::Tag, BoxedBlock<G::Tag, usize>>,
     state: &mut State<D, G>,
 ) -> Result<(), Error>
     ensures ok { OnOk result (continued (by_tags D.decoration G.annotated) interrupted state.old ≡ Some state.new) }
     ensures err { IfErr result (λ e. Refuses e (continued (by_tags D.decoration G.annotated) interrupted state.old)) }
 {
     match interrupted {
-        Interruption::NoBlock => Ok(()),
-        Interruption::Quoted(outer) => close_quote(outer, state),
-        Interruption::Indented(outer) => close_indent(alloc, outer, state),
-        Interruption::Cell(outer) => end_cell(outer, state),
+        Suspended::NoBlock => Ok(()),
+        Suspended::Quoted(outer) => close_quote(outer, state),
+        Suspended::Indented(outer) => close_indent(alloc, outer, state),
+        Suspended::Cell(outer) => end_cell(outer, state),
     }
 }
 
 /// Resumes a suspended block, if there is one. Most nodes suspend none: they take no call.
 #[inline(always)]
-fn go_on<D: TextDecorator, G: Tagging<D::Annotation>>(
+fn resume_outer<D: TextDecorator, G: Tagging<D::Annotation>>(
     alloc: Global,
-    interrupted: Interruption<D, G::Tag, HeldBlock<G::Tag, usize>>,
+    interrupted: Suspended<D, G::Tag, BoxedBlock<G::Tag, usize>>,
     state: &mut State<D, G>,
 ) -> Result<(), Error>
     ensures ok { OnOk result (continued (by_tags D.decoration G.annotated) interrupted state.old ≡ Some state.new) }
     ensures err { IfErr result (λ e. Refuses e (continued (by_tags D.decoration G.annotated) interrupted state.old)) }
 {
-    if let Interruption::NoBlock = interrupted {
+    if let Suspended::NoBlock = interrupted {
         return Ok(());
     }
-    end_block(alloc, interrupted, state)
+    resume_block(alloc, interrupted, state)
 }
 
 /// Does the closing action of a kind of node.
@@ -343,35 +343,35 @@ fn close_kind<D: TextDecorator, G: Tagging<D::Annotation>>(
     ensures err { IfErr result (λ e. Refuses e (kind_closed (by_tags D.decoration G.annotated) closing state.old)) }
 {
     match closing {
-        KindClosing::Nothing(own) => go_on(alloc, own, state),
-        KindClosing::Bullets { .. } | KindClosing::Numbers { .. } => Ok(()),
-        KindClosing::EndBlock => {
+        CloseAction::Nothing(own) => resume_outer(alloc, own, state),
+        CloseAction::Bullets { .. } | CloseAction::Numbers { .. } => Ok(()),
+        CloseAction::EndBlock => {
             state.block.held.end_block();
             Ok(())
         }
-        KindClosing::NewLine => {
+        CloseAction::NewLine => {
             state.block.held.new_line()?;
             Ok(())
         }
-        KindClosing::EndEmphasis(emphasis) => {
+        CloseAction::EndEmphasis(emphasis) => {
             let end = end_of(alloc, &state.decorator, emphasis)?;
             add_text(alloc, end.as_str(), state)
         }
-        KindClosing::EndStrikeout(struck_out) => {
+        CloseAction::EndStrikeout(struck_out) => {
             let end = state.decorator.decorate_strikeout_end(alloc)?;
             state.text.struck_out = struck_out;
             add_text(alloc, end.as_str(), state)
         }
-        KindClosing::EndSuperscript => {
+        CloseAction::EndSuperscript => {
             let end = state.decorator.decorate_superscript_end(alloc)?;
             add_text(alloc, end.as_str(), state)
         }
-        KindClosing::EndLink(text, number) => close_link(alloc, text, number, state),
-        KindClosing::EndTable(own, in_table) => {
+        CloseAction::EndLink(text, number) => close_link(alloc, text, number, state),
+        CloseAction::EndTable(own, in_table) => {
             end_table(in_table, state)?;
-            go_on(alloc, own, state)
+            resume_outer(alloc, own, state)
         }
-        KindClosing::EndRow => {
+        CloseAction::EndRow => {
             state.block.held.end_row()?;
             Ok(())
         }
@@ -384,7 +384,7 @@ fn close_kind<D: TextDecorator, G: Tagging<D::Annotation>>(
 #[tactic(auto, using(html_render_dom_values::specs::laws::Outcome::refusals))]
 fn open_in<D: TextDecorator, G: Tagging<D::Annotation>>(
     alloc: Global,
-    item: Interruption<D, G::Tag, HeldBlock<G::Tag, usize>>,
+    item: Suspended<D, G::Tag, BoxedBlock<G::Tag, usize>>,
     node: &RenderNode,
     children: &[Entry<RenderNode>],
     state: &mut State<D, G>,
@@ -399,10 +399,10 @@ fn open_in<D: TextDecorator, G: Tagging<D::Annotation>>(
     let block = block_of(alloc, &node.kind, &node.estimate, state)?;
     let own = begin_block(alloc, block, state)?;
     match open_kind(alloc, own, &node.kind, &node.estimate, children, state)? {
-        Some(kind) => Ok(Some(Closing { item, text, kind })),
+        Some(kind) => Ok(Some(OpenNode { item, text, kind })),
         None => {
             state.text = text;
-            go_on(alloc, item, state)?;
+            resume_outer(alloc, item, state)?;
             Ok(None)
         }
     }
@@ -437,25 +437,25 @@ fn open_shared<D: TextDecorator, G: Tagging<D::Annotation>>(
     state: &mut State<D, G>,
 ) -> Result<Option<Kept<D, G>>, Error>
     requires { flatten (forest_of children.now) ≡ children.now }
-    ensures ok { IfOk result (λ c. opened_in (by_tags D.decoration G.annotated) Interruption.NoBlock node.now (forest_of children.now) state.old
+    ensures ok { IfOk result (λ c. opened_in (by_tags D.decoration G.annotated) Suspended.NoBlock node.now (forest_of children.now) state.old
         ≡ Some (way state.new c)) }
-    ensures err { IfErr result (λ e. Refuses e (opened_in (by_tags D.decoration G.annotated) Interruption.NoBlock node.now (forest_of children.now)
+    ensures err { IfErr result (λ e. Refuses e (opened_in (by_tags D.decoration G.annotated) Suspended.NoBlock node.now (forest_of children.now)
         state.old)) }
 {
     if let NodeKind::Text(text) = &node.kind {
         return open_text(alloc, text.as_str(), &node.style, state);
     }
-    open_in(alloc, Interruption::NoBlock, node, children, state)
+    open_in(alloc, Suspended::NoBlock, node, children, state)
 }
 
 /// Returns the block for the next cell of a row; `None` if the cell is skipped.
 #[inline(always)]
 fn next_cell<D: TextDecorator, G: Tagging<D::Annotation>>(
     state: &mut State<D, G>,
-) -> Result<Option<HeldBlock<G::Tag, usize>>, Error>
+) -> Result<Option<BoxedBlock<G::Tag, usize>>, Error>
     ensures same { OnOk result (state.new ≡ state.old) }
     ensures ok { IfOk result (λ cell. cell ≡ machine.operations.cell_block state.old.block) }
-    ensures err { IfErr result (λ e. e ≡ Error.OutOfMemory) }
+    ensures err { OnlyOutOfMemory result }
 {
     state.block.cell_block()
 }
@@ -481,7 +481,7 @@ fn open_cell<D: TextDecorator, G: Tagging<D::Annotation>>(
         return Ok(None);
     };
     let outer = begin_cell(alloc, cell, state)?;
-    open_in(alloc, Interruption::Cell(outer), node, children, state)
+    open_in(alloc, Suspended::Cell(outer), node, children, state)
 }
 
 /// Opens a node as the child number `number`, from 0, of a list with this closing action.
@@ -533,8 +533,8 @@ pub fn open<D: TextDecorator, G: Tagging<D::Annotation>>(
 {
     if let Some(parent) = parent {
         match parent.kind {
-            KindClosing::EndRow => return open_cell(alloc, node, children, state),
-            KindClosing::Bullets { .. } | KindClosing::Numbers { .. } => {
+            CloseAction::EndRow => return open_cell(alloc, node, children, state),
+            CloseAction::Bullets { .. } | CloseAction::Numbers { .. } => {
                 return open_listed(alloc, node, children, &parent.kind, number, state);
             }
             _ => {}
@@ -560,5 +560,5 @@ pub fn close<D: TextDecorator, G: Tagging<D::Annotation>>(
 {
     close_kind(alloc, closing.kind, state)?;
     state.text = closing.text;
-    go_on(alloc, closing.item, state)
+    resume_outer(alloc, closing.item, state)
 }

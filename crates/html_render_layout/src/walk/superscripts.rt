@@ -6,15 +6,15 @@ ghost use Rattle.std.specs.List.{list_all};
 ghost use Rattle.std.specs.Str.{chars};
 ghost use Rattle.html_render_dom_values.specs.Outcome.{Refuses};
 ghost use Rattle.html_render_layout_nodes.specs.Preorder.{flatten, forest_of};
-ghost use Rattle.html_render_layout_states.specs.Layout.{write, digits_of_kind, digits_of, raised};
-ghost use Rattle.html_render_layout_states.specs.Working.{by_tags};
+ghost use Rattle.html_render_layout.specs.Layout.{write, digits_of_kind, digits_of, raised};
+ghost use Rattle.html_render_layout.specs.Working.{by_tags};
 
 use super::texts::add_text;
+use crate::tagging::Tagging;
+use crate::working::State;
 use html_render_dom_values::Error;
 use html_render_layout_nodes::tree::{Entry, NodeKind, RenderNode};
-use html_render_layout_states::tagging::Tagging;
-use html_render_layout_states::working::State;
-use html_render_parts_decorators::decorate::TextDecorator;
+use html_render_parts::decorate::TextDecorator;
 use std::alloc::{AllocError, Global};
 
 /// Superscript characters of the digits 0 to 9.
@@ -86,7 +86,7 @@ fn raised_text(alloc: Global, digits: &str) -> Result<String, AllocError>
 ///
 /// `TooNarrow` and `OutOfMemory`, as for [`add_text`].
 #[tactic(auto, using(html_render_dom_values::specs::laws::Outcome::refusals))]
-pub fn write_raised<D: TextDecorator, G: Tagging<D::Annotation>>(
+pub fn write_superscript<D: TextDecorator, G: Tagging<D::Annotation>>(
     alloc: Global,
     digits: &str,
     state: &mut State<D, G>,

@@ -2,20 +2,20 @@
 
 ghost use Rattle.std.specs.Prelude.{◌≡◌, [], ◌∷◌, Some, OnOk, IfOk, IfErr, codes};
 ghost use Rattle.std.specs.Str.{chars};
-ghost use Rattle.html_render_dom_values.specs.Outcome.{Refuses};
-ghost use Rattle.html_render_layout_states.specs.Layout.{StartBlock, Fence, BeginTable, fence, perform, perform_all, within};
-ghost use Rattle.html_render_layout_states.specs.Opening.{cell_closed, table_closed};
-ghost use Rattle.html_render_layout_states.specs.Working.{by_tags};
+ghost use Rattle.html_render_dom_values.specs.Outcome.{OnlyOutOfMemory, Refuses};
+ghost use Rattle.html_render_layout.specs.Layout.{StartBlock, Fence, BeginTable, fence, perform, perform_all, within};
+ghost use Rattle.html_render_layout.specs.Opening.{cell_closed, table_closed};
+ghost use Rattle.html_render_layout.specs.Working.{by_tags};
 
+use crate::state::OuterTable;
+use crate::tagging::Tagging;
+use crate::working::State;
 use html_render_dom_values::Error;
 use html_render_dom_values::white_space::WhiteSpace;
-use html_render_layout_blocks::held::HeldBlock;
+use html_render_layout_blocks::held::BoxedBlock;
 use html_render_layout_lines::character::TextStyle;
 use html_render_layout_nodes::tree::Grid;
-use html_render_layout_states::state::OuterTable;
-use html_render_layout_states::tagging::Tagging;
-use html_render_layout_states::working::State;
-use html_render_parts_decorators::decorate::TextDecorator;
+use html_render_parts::decorate::TextDecorator;
 use std::alloc::Global;
 use std::mem;
 
@@ -123,12 +123,12 @@ pub fn end_table<D: TextDecorator, G: Tagging<D::Annotation>>(
 #[inline(always)]
 pub fn begin_cell<D: TextDecorator, G: Tagging<D::Annotation>>(
     alloc: Global,
-    cell: HeldBlock<G::Tag, usize>,
+    cell: BoxedBlock<G::Tag, usize>,
     state: &mut State<D, G>,
-) -> Result<OuterTable<D, HeldBlock<G::Tag, usize>>, Error>
+) -> Result<OuterTable<D, BoxedBlock<G::Tag, usize>>, Error>
     ensures ok { OnOk result (state.new ≡ within (by_tags D.decoration G.annotated) cell state.old) }
     ensures outer { IfOk result (λ outer. outer ≡ record { decorator = state.old.decorator; block = state.old.block }) }
-    ensures err { IfErr result (λ e. e ≡ Error.OutOfMemory) }
+    ensures err { OnlyOutOfMemory result }
 {
     let decorator = state.decorator.make_subblock_decorator(alloc)?;
     Ok(OuterTable {
@@ -145,7 +145,7 @@ pub fn begin_cell<D: TextDecorator, G: Tagging<D::Annotation>>(
 #[inline(always)]
 #[tactic(auto, using(html_render_dom_values::specs::laws::Outcome::refusals))]
 pub fn end_cell<D: TextDecorator, G: Tagging<D::Annotation>>(
-    outer: OuterTable<D, HeldBlock<G::Tag, usize>>,
+    outer: OuterTable<D, BoxedBlock<G::Tag, usize>>,
     state: &mut State<D, G>,
 ) -> Result<(), Error>
     ensures ok { OnOk result (cell_closed (by_tags D.decoration G.annotated) outer state.old ≡ Some state.new) }

@@ -2,16 +2,16 @@
 
 ghost use Rattle.std.specs.Prelude.{◌≡◌, [], ◌∷◌, ◌++◌, true, Some, OnOk, IfOk, IfErr, string_bytes, if◌then◌else◌};
 ghost use Rattle.std.specs.Str.{chars, encode_utf8_all};
-ghost use Rattle.html_render_dom_values.specs.Outcome.{Refuses};
+ghost use Rattle.html_render_dom_values.specs.Outcome.{OnlyOutOfMemory, Refuses};
 ghost use Rattle.html_render_layout_blocks.specs.Machine as machine;
-ghost use Rattle.html_render_layout_states.specs.Layout.{struck, on_block, text_style, add_styled, write};
-ghost use Rattle.html_render_layout_states.specs.Working.{by_tags};
+ghost use Rattle.html_render_layout.specs.Layout.{struck, on_block, text_style, add_styled, write};
+ghost use Rattle.html_render_layout.specs.Working.{by_tags};
 
+use crate::tagging::Tagging;
+use crate::working::State;
 use html_render_dom_values::Error;
 use html_render_layout_lines::character::{TextStyle, is_collapsible};
-use html_render_layout_states::tagging::Tagging;
-use html_render_layout_states::working::State;
-use html_render_parts_decorators::decorate::TextDecorator;
+use html_render_parts::decorate::TextDecorator;
 use std::alloc::{AllocError, Global};
 
 /// The combining long stroke overlay, which follows a struck-out character.
@@ -87,7 +87,7 @@ fn preformatted_style<D: TextDecorator, G: Tagging<D::Annotation>>(
     }) }
     ensures style { IfOk result (λ style.
         style ≡ (text_style (by_tags D.decoration G.annotated) state.old.decorator state.old.stacks state.old.text true).1) }
-    ensures err { IfErr result (λ e. e ≡ Error.OutOfMemory) }
+    ensures err { OnlyOutOfMemory result }
 {
     let first = state.decorator.decorate_preformat_first(alloc)?;
     let first = state.stacks.annotate(state.text.tag, first)?;

@@ -5,7 +5,7 @@ use Rattle.html_render_layout_lines.specs.declared.character.Item.{Item}
 use Rattle.html_render_layout_lines.specs.Line.{Line}
 use Rattle.html_render_layout_lines.specs.TaggedText.{under}
 use Rattle.html_render_layout_lines.specs.Character.{width_of}
-use Rattle.html_render_layout_paragraphs.specs.Paragraph.{Page, Setting, paragraph, all_lines}
+use Rattle.html_render_layout_paragraphs.specs.Paragraph.{LineBuffer, Setting, paragraph, all_lines}
 use Rattle.html_render_layout_paragraphs.specs.CutText.{text_lines}
 use Rattle.html_render_layout_paragraphs.specs.Stream.{styled}
 use Rattle.html_render_parts.specs.declared.table.PlacedCell.{PlacedCell}
@@ -118,8 +118,8 @@ module _ {T W : Type 0} (g : Bool → Bool) (N M : Type 0) (Tags : W → T → T
       (sym k.0)
       (Both-weaken N M _ _ (paragraph p.setting p.waiting p.items)
       (paragraph (record p.setting { overflow = g p.setting.overflow }) p.waiting p.items) (h.page v p.setting p.waiting p.items l.1) (λ x y m. (
-        (ap (λ (z : Page T ℕ). filled padding v (all_lines z)) m.0, m.1 padding),
-        ((ap (λ (z : Page T ℕ). definition.next (other_own p) z.waiting) m.0, l.1), refl),
+        (ap (λ (z : LineBuffer T ℕ). filled padding v (all_lines z)) m.0, m.1 padding),
+        ((ap (λ (z : LineBuffer T ℕ). definition.next (other_own p) z.waiting) m.0, l.1), refl),
       ))))))
 
   pub parts-beside : RelatesParts definition definition N M Tags Settings Lines Paragraphs Clear Pictures RowsBeside

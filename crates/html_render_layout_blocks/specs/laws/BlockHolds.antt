@@ -10,7 +10,7 @@ use Rattle.std.proofs.lemmas.List.Sums.{sum_by-cons}
 use Rattle.html_render_layout_lines.specs.declared.character.Item.{Item}
 use Rattle.html_render_layout_lines.specs.Line.{Line, columns, AllWithinWidth}
 use Rattle.html_render_layout_paragraphs.specs.CutText.{text_lines}
-use Rattle.html_render_layout_paragraphs.specs.Paragraph.{Page, Setting, without_overflow, with_overflow, paragraph, all_lines}
+use Rattle.html_render_layout_paragraphs.specs.Paragraph.{LineBuffer, Setting, without_overflow, with_overflow, paragraph, all_lines}
 use Rattle.html_render_layout_paragraphs.specs.laws.Answers.{Both, Both-weaken}
 use Rattle.html_render_layout_paragraphs.specs.laws.Beside.{paragraph-beside, cut-beside}
 use Rattle.html_render_layout_paragraphs.specs.laws.Overflow.{answers as page_answers, refines as page_refines}
@@ -104,7 +104,7 @@ module _ (T : Type 0) where
           (paragraph s ms xs)
       pages v s ms xs k =
           let le = k.0 in
-          subst (λ (o : Bool). Both (Unit {0}) ⊥ (λ (p q : Page T ℕ). (q ≡ p) × ((padding : Option T) →
+          subst (λ (o : Bool). Both (Unit {0}) ⊥ (λ (p q : LineBuffer T ℕ). (q ≡ p) × ((padding : Option T) →
           AllWithinWidth v (filled padding v (all_lines p)))) (paragraph (record { width = s.width; overflow = o }) ms xs)
           (paragraph (record { width = s.width; overflow = o }) ms xs)) (sym k.1)
           (Both-weaken (Unit {0}) ⊥ (λ p q. (q ≡ p) × IsWithin s.width p) _ (paragraph (without_overflow s.width) ms xs)
@@ -147,7 +147,7 @@ module _ (T : Type 0) where
       pages : (s : Setting) (ms : List ℕ) (xs : List (Item T ℕ)) → s.overflow ≡ true →
           Both ⊥ ⊥ (λ p q. (q ≡ p) × ((padding : Option T) → Unit {0})) (paragraph s ms xs) (paragraph s ms xs)
       pages s ms xs e =
-          subst (λ (z : Bool). Both ⊥ ⊥ (λ (p q : Page T ℕ). (q ≡ p) × ((padding : Option T) → Unit {0}))
+          subst (λ (z : Bool). Both ⊥ ⊥ (λ (p q : LineBuffer T ℕ). (q ≡ p) × ((padding : Option T) → Unit {0}))
           (paragraph (record { width = s.width; overflow = z }) ms xs) (paragraph (record { width = s.width; overflow = z }) ms xs)) (sym e)
           (Both-weaken ⊥ ⊥ (λ p q. (q ≡ p) × Unit {0}) _ (paragraph (with_overflow s.width) ms xs) (paragraph (with_overflow s.width) ms xs)
           (paragraph-beside (λ o. o) ⊥ ⊥ (λ x. x) (with_overflow s.width) (λ p. Unit {0}) (page_answers s.width) ms xs) (λ p q m. (m.0, λ padding. tt)))

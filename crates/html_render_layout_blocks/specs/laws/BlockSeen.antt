@@ -15,7 +15,7 @@ use Rattle.html_render_layout_lines.specs.TaggedText.{under}
 use Rattle.html_render_layout_lines.specs.Tags.{element_with, line_with, lines_with}
 use Rattle.html_render_layout_lines.specs.laws.Tags.{if_with, then_with, columns-with}
 use Rattle.html_render_layout_paragraphs.specs.CutText.{text_lines}
-use Rattle.html_render_layout_paragraphs.specs.Paragraph.{Setting, Page, paragraph, all_lines}
+use Rattle.html_render_layout_paragraphs.specs.Paragraph.{Setting, LineBuffer, paragraph, all_lines}
 use Rattle.html_render_layout_paragraphs.specs.Stream.{State, start, after, finished, styled}
 use Rattle.html_render_layout_paragraphs.specs.laws.CutText.{cut-with}
 use Rattle.html_render_layout_paragraphs.specs.laws.Kept.{setting-after}
@@ -126,7 +126,7 @@ module _ {T M : Type 0} where
       (λ g. machine.next (paragraph_of p) g.waiting ≡ paragraph_of (definition.next p g.waiting))
   next-fed p = by (paragraph_of p) (paragraph p.setting p.waiting p.items) (finish-fed p) (setting-after (start p.setting p.waiting) p.items)
     where
-      by : (o : Option (State T M)) (r : Option (Page T M)) → machine.finish o ≡ r → IfSome o (λ q. q.setting ≡ p.setting) →
+      by : (o : Option (State T M)) (r : Option (LineBuffer T M)) → machine.finish o ≡ r → IfSome o (λ q. q.setting ≡ p.setting) →
           IfSome r (λ g. machine.next o g.waiting ≡ paragraph_of (definition.next p g.waiting))
       by o None e s = tt
       by None (Some g) e s = cc
@@ -158,8 +158,8 @@ module _ {T U M : Type 0} (f : T → U) where
 
 -- ---- Views of tags
 
--- `shown` is what is seen of a machine's tag, by what tags stand for; `seen` is what is seen of a definition's tag.
--- `Later` relates what tags stand for to what they stand for from then on.
+-- `shown` gives what is seen of a machine's tag, by the meanings of tags; `seen` gives what is seen of a definition's tag.
+-- `Later` relates meanings of tags to all later ones.
 module _ {W T A V : Type 0} (shown : W → T → V) (seen : A → V) (Later : W → W → Type 0) (stays : (w : W) → Later w w)
     (goes : (w v u : W) → Later w v → Later v u → Later w u) where
   -- Whether the same is seen of both from now on.
@@ -222,7 +222,7 @@ module _ {W T A V : Type 0} (shown : W → T → V) (seen : A → V) (Later : W 
       ∙ feed-with seen (paragraph_of q) ys
       ∙ ap (option_map (state_with seen)) (sym (after-append (start q.setting q.waiting) q.items ys))
 
-  -- Pages of which the same is seen.
+  -- Line buffers of which the same is seen.
   page-seen : (v : ℕ) (w : W) (s r : BlockSetting) (padding : Option T) (other : Option A) (p : Option (State T ℕ)) (q : Fed A ℕ) →
       Settings v s r → OptionTags Tags w padding other → Paragraphs v w p q →
       Both (Unit {0}) ⊥ (λ g k. Lines v w (filled padding s.width (all_lines g)) (filled other r.width (all_lines k))
@@ -236,7 +236,7 @@ module _ {W T A V : Type 0} (shown : W → T → V) (seen : A → V) (Later : W 
       wide : r.width ≡ s.width
       wide = ap (λ (z : BlockSetting). z.width) k.1
 
-      by : (a : Option (Page T ℕ)) (b : Option (Page A ℕ)) →
+      by : (a : Option (LineBuffer T ℕ)) (b : Option (LineBuffer A ℕ)) →
           IfSome b (λ g. machine.next (paragraph_of q) g.waiting ≡ paragraph_of (definition.next q g.waiting)) →
           Both (Unit {0}) ⊥ (Seen (λ l. page_with (shown l)) (page_with seen) w) a b →
           Both (Unit {0}) ⊥ (λ g k. Lines v w (filled padding s.width (all_lines g)) (filled other r.width (all_lines k))
@@ -254,7 +254,7 @@ module _ {W T A V : Type 0} (shown : W → T → V) (seen : A → V) (Later : W 
         (
           λ l a. sym (next-with (shown l) p g.waiting)
               ∙ ap (λ z. machine.next z g.waiting) (y l a)
-              ∙ ap (λ (z : Page V ℕ). machine.next (option_map (state_with seen) (paragraph_of q)) z.waiting) (e l a)
+              ∙ ap (λ (z : LineBuffer V ℕ). machine.next (option_map (state_with seen) (paragraph_of q)) z.waiting) (e l a)
               ∙ next-with seen (paragraph_of q) h.waiting
               ∙ ap (option_map (state_with seen)) n,
           refl,

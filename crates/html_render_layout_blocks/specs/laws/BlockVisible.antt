@@ -6,7 +6,7 @@ use Rattle.std.specs.List.{list_all}
 use Rattle.std.proofs.lemmas.Bool.{eqb-true, and_parts}
 use Rattle.std.proofs.lemmas.List.Concat.{flat_map-append}
 use Rattle.std.proofs.lemmas.Option.{IfSome_then}
-use Rattle.html_render_layout_glyphs.specs.declared.borders.TheConstants.{BORDERS}
+use Rattle.html_render_layout_pictures.specs.declared.borders.TheConstants.{BORDERS}
 use Rattle.html_render_dom_values.specs.declared.white_space.WhiteSpace.{WhiteSpace}
 use Rattle.html_render_dom_values.specs.declared.white_space.WhiteSpace.TheVariants.{Normal, Pre, PreWrap}
 use Rattle.html_render_layout_lines.specs.declared.character.Item.{Item}
@@ -14,7 +14,7 @@ use Rattle.html_render_layout_lines.specs.declared.character.Item.TheVariants.{C
 use Rattle.html_render_layout_lines.specs.declared.character.TextStyle.{TextStyle}
 use Rattle.html_render_layout_lines.specs.Character.{is_collapsible, has_no_width}
 use Rattle.html_render_layout_lines.specs.Line.{Line, columns, is_empty}
-use Rattle.html_render_layout_paragraphs.specs.Paragraph.{Page, paragraph, all_lines}
+use Rattle.html_render_layout_paragraphs.specs.Paragraph.{LineBuffer, paragraph, all_lines}
 use Rattle.html_render_layout_paragraphs.specs.Stream.{styled}
 use Rattle.html_render_layout_lines.specs.TaggedText.{under}
 use Rattle.html_render_layout_lines.specs.Visible.{is_visible, if_visible, visible_in_items, visible_in_line, visible_in_lines}
@@ -27,7 +27,7 @@ use Rattle.html_render_layout_pictures.specs.laws.Lines.{lines-append, marked_be
 use Rattle.html_render_layout_pictures.specs.Padding.{filled, repeated}
 use Rattle.html_render_layout_blocks.specs.Joined.{prefixed, fitting}
 use Rattle.html_render_layout_pictures.specs.Marked.{marked_behind, marked_before}
-use Rattle.html_render_layout_blocks.specs.Block.{flush, add_lines, unended, start_block, feed, is_blank, mark_items, inner_width, inner_block}
+use Rattle.html_render_layout_blocks.specs.Block.{flush, add_lines, unended, start_block, feed, is_collapsible_text, mark_items, inner_width, inner_block}
 use Rattle.html_render_layout_blocks.specs.Block.{put_lines, append, end_open, end_table, add_border, with_table_begun}
 use Rattle.html_render_layout_blocks.specs.Block.{put_stacked, cell_added, row_ended, operations as operations_of}
 use Rattle.html_render_layout_blocks.specs.Definition.{definition, DefinedBlock, operations}
@@ -101,7 +101,7 @@ Keeps d e = Same d e × (e.paragraph.items ≡ [])
 pub flush_keeps : {T M : Type 0} (d : DefinedBlock T M) → IfSome (flush definition d) (Keeps d)
 flush_keeps {T} {M} d =
     let q = d.paragraph in
-    map_if (λ (p : Page T M). visible_in_lines (all_lines p) ≡ visible_in_items q.items) (Keeps d) _
+    map_if (λ (p : LineBuffer T M). visible_in_lines (all_lines p) ≡ visible_in_items q.items) (Keeps d) _
     (paragraph q.setting q.waiting q.items) (paragraph_keeps q.setting q.waiting q.items)
     (λ p h. let ls = filled d.padding d.setting.width (all_lines p) in (
       (
@@ -174,7 +174,7 @@ collapsible_hidden (c ∷ cs) e =
     let h = and_parts (is_collapsible c) (list_all is_collapsible cs) e in
     ap (λ r. r ++ visible_in_text cs) (hidden c h.0) ∙ collapsible_hidden cs h.1
 
-blank_hidden : (mode : WhiteSpace) (cs : List ℕ) → is_blank mode cs ≡ true → visible_in_text cs ≡ []
+blank_hidden : (mode : WhiteSpace) (cs : List ℕ) → is_collapsible_text mode cs ≡ true → visible_in_text cs ≡ []
 blank_hidden Normal cs e = collapsible_hidden cs e
 blank_hidden Pre cs e = cc
 blank_hidden PreWrap cs e = cc
@@ -185,7 +185,7 @@ add_inline_text_adds {T} {M} d style cs =
     let Has : Option (DefinedBlock T M) → Type 0 = λ o. IfSome o (Adds (visible_in_text cs) d) in
     if_cases Has (eqb (length cs) 0) _ _ (λ e. adds_none d d (visible_in_text cs) (refl, refl) (no_character cs e))
     (λ _. if_cases Has (not d.at_block_end) _ _ (λ _. feed_adds d style cs)
-    (λ _. if_cases Has (is_blank style.mode cs) _ _ (λ e. adds_none d d (visible_in_text cs) (refl, refl) (blank_hidden style.mode cs e))
+    (λ _. if_cases Has (is_collapsible_text style.mode cs) _ _ (λ e. adds_none d d (visible_in_text cs) (refl, refl) (blank_hidden style.mode cs e))
     (λ _. map_if (Keeps d) (Adds (visible_in_text cs) d) (λ (e : DefinedBlock T M). feed definition e (styled style cs)) (start_block definition d)
     (start_keeps d)
     (λ e h. let k = feed_adds e style cs in (k.0 ∙ ap (λ r. r ++ visible_in_text cs) h.0.0, k.1 ∙ h.0.1)))))

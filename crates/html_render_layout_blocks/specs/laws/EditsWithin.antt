@@ -67,11 +67,11 @@ module _ (T : Type 0) where
   edits-keep (StartBlock next) v b k =
       then v (operations.start_block b) (λ c. edited operations ending next c) (steps.start_block v tt b b k) (λ c l. edits-keep next v c l)
   edits-keep (EndBlock next) v b k = edits-keep next v (operations.end_block b) (steps.end_block v tt b b k)
-  edits-keep (Nest prefix least inside tag first later next) v b k =
+  edits-keep (Nest prefix min_width inside tag first later next) v b k =
       bind_some (λ i. (j : ℕ) × Keeps j i) (Keeps v)
       (λ i. edited operations ending inside i >>= λ c. operations.append b c tag first later >>= λ d. edited operations ending next d)
-      (operations.sub_block b prefix least)
-      (itself (λ e f. (j : ℕ) × Beside j tt e f) (operations.sub_block b prefix least) (steps.sub_block v tt prefix least b b k)) (λ i l.
+      (operations.sub_block b prefix min_width)
+      (itself (λ e f. (j : ℕ) × Beside j tt e f) (operations.sub_block b prefix min_width) (steps.sub_block v tt prefix min_width b b k)) (λ i l.
       bind_some (Keeps l.0) (Keeps v) (λ c. operations.append b c tag first later >>= λ d. edited operations ending next d)
       (edited operations ending inside i) (edits-keep inside l.0 i l.1) (λ c m.
       then v (operations.append b c tag first later) (λ d. edited operations ending next d)

@@ -14,13 +14,13 @@ use Rattle.html_render_parts.specs.TableCells.{CellGrid, rows_on}
 use Rattle.html_render_layout_pictures.specs.Marked.{marked_before, marked_behind}
 use Rattle.html_render_layout_pictures.specs.Padding.{filled, repeated}
 use Rattle.html_render_layout_pictures.specs.laws.Glyphs.{joint_width, slash_width}
-use Rattle.html_render_layout_glyphs.specs.declared.borders.TheConstants.{BORDERS}
+use Rattle.html_render_layout_pictures.specs.declared.borders.TheConstants.{BORDERS}
 use Rattle.html_render_layout_lines.specs.Character.{width_of}
 use Rattle.html_render_layout_pictures.specs.Picture.{KeptCell}
 use Rattle.html_render_layout_blocks.specs.declared.block.BlockSetting.{BlockSetting}
 use Rattle.html_render_layout_blocks.specs.declared.block.tables.OpenTable.{OpenTable}
 use Rattle.html_render_layout_blocks.specs.declared.block.tables.OpenTable.TheVariants.{Across, Stacked}
-use Rattle.html_render_layout_blocks.specs.Block.{Block, paragraph_setting, is_blank, inner_width, mark_items, empty_block, flush, add_lines, unended}
+use Rattle.html_render_layout_blocks.specs.Block.{Block, paragraph_setting, is_collapsible_text, inner_width, mark_items, empty_block, flush, add_lines, unended}
 use Rattle.html_render_layout_blocks.specs.Block.{start_block, feed, inner_block, put_lines, end_open, end_table, add_border, stacked_begun}
 use Rattle.html_render_layout_blocks.specs.Block.{with_table_begun, put_stacked, cell_added, row_ended, append}
 use Rattle.html_render_layout_blocks.specs.Block.{finish, add_closing_lines, operations, ending}
@@ -33,8 +33,8 @@ use Rattle.html_render_layout_blocks.specs.Operations.{Operations, DocumentEnd}
 use Rattle.html_render_layout_blocks.specs.Tables.{frame_of, with_row_open, next_cell_width, skipped, with_open, with_ahead}
 use Rattle.html_render_layout_paragraphs.specs.laws.Answers.{Both, Both-then, Both-map, Both-weaken}
 
--- Whether each operation keeps blocks related. Each block has an index i, as its width. W is what tags stand for, and
--- `Later` relates it to what they may stand for later.
+-- Whether each operation keeps blocks related. Each block has an index i, such as its width. W is the type of
+-- meanings of tags, and `Later` relates meanings to all later ones.
 pub record Relates {I W B C T U : Type 0} (o : Operations B T ℕ) (p : Operations C U ℕ) (N M : Type 0) (Later : W → W → Type 0)
     (Tags : W → T → U → Type 0) (Blocks : I → W → B → C → Type 0) : Type 0 where
   pub add_inline_text : (i : I) (w : W) (mode : WhiteSpace) (t t' : T) (u u' : U) (cs : List ℕ) → Tags w t u → Tags w t' u' →
@@ -46,8 +46,8 @@ pub record Relates {I W B C T U : Type 0} (o : Operations B T ℕ) (p : Operatio
   pub new_line_hard : (i : I) (w : W) (b : B) (c : C) → Blocks i w b c → Both N M (Blocks i w) (o.new_line_hard b) (p.new_line_hard c)
   pub start_block : (i : I) (w : W) (b : B) (c : C) → Blocks i w b c → Both N M (Blocks i w) (o.start_block b) (p.start_block c)
   pub end_block : (i : I) (w : W) (b : B) (c : C) → Blocks i w b c → Blocks i w (o.end_block b) (p.end_block c)
-  pub sub_block : (i : I) (w : W) (prefix least : ℕ) (b : B) (c : C) → Blocks i w b c →
-      Both N M (λ e f. (j : I) × Blocks j w e f) (o.sub_block b prefix least) (p.sub_block c prefix least)
+  pub sub_block : (i : I) (w : W) (prefix min_width : ℕ) (b : B) (c : C) → Blocks i w b c →
+      Both N M (λ e f. (j : I) × Blocks j w e f) (o.sub_block b prefix min_width) (p.sub_block c prefix min_width)
   pub append : (i j : I) (w : W) (t : T) (u : U) (first later : List ℕ) → Tags w t u → (b : B) (c : C) → Blocks i w b c →
       (e : B) (f : C) → Blocks j w e f → Both N M (Blocks i w) (o.append b e t first later) (p.append c f u first later)
   pub begin_table : (i : I) (w : W) (t : T) (u : U) (borders stacked : Bool) (grid : CellGrid) (needs : List ColumnNeed) → Tags w t u →
@@ -281,7 +281,7 @@ module _ {P R Q S T U W : Type 0} (from : Parts P R T ℕ) (to : Parts Q S U ℕ
       (subst (λ z. Both N M (Related v w) (cond (not b.at_block_end) (Some (fed b)) (ended b)) (cond (not z) (Some (other_fed c)) (other_ended c)))
       (sym k.at_block_end)
       (either (Related v w) (not b.at_block_end) (Some (fed b)) _ (Some (other_fed c)) _ (text-related v w mode t t' u u' cs x y b c k)
-      (either (Related v w) (is_blank mode cs) (Some b) _ (Some c) _ k
+      (either (Related v w) (is_collapsible_text mode cs) (Some b) _ (Some c) _ k
       (Both-map N M (Flushed v w) (Related v w) _ _ (start_block from b) (start_block to c) (start_block-related v w b c k) (λ e f m.
       text-related v w mode t t' u u' cs x y e f m.0)))))
     where
@@ -292,10 +292,10 @@ module _ {P R Q S T U W : Type 0} (from : Parts P R T ℕ) (to : Parts Q S U ℕ
       other_fed e = feed to e (styled (record { mode = mode; tag = u; continuation_tag = u' }) cs)
 
       ended : First → Option First
-      ended e = cond (is_blank mode cs) (Some e) (option_map fed (start_block from e))
+      ended e = cond (is_collapsible_text mode cs) (Some e) (option_map fed (start_block from e))
 
       other_ended : Second → Option Second
-      other_ended e = cond (is_blank mode cs) (Some e) (option_map other_fed (start_block to e))
+      other_ended e = cond (is_collapsible_text mode cs) (Some e) (option_map other_fed (start_block to e))
 
   -- ---- Blocks in blocks
 
@@ -313,11 +313,11 @@ module _ {P R Q S T U W : Type 0} (from : Parts P R T ℕ) (to : Parts Q S U ℕ
   inner_block-related : (v x : ℕ) (w : W) (b : First) (c : Second) → Related v w b c → Related x w (inner_block from b x) (inner_block to c x)
   inner_block-related v x w b c k = empty-related x w _ _ b.padding c.padding (h.inner v x b.setting c.setting k.settings) k.padding
 
-  sub_block-related : (v : ℕ) (w : W) (prefix least : ℕ) (b : First) (c : Second) → Related v w b c →
-      Both N M (λ e f. (x : ℕ) × Related x w e f) ((operations from).sub_block b prefix least) ((operations to).sub_block c prefix least)
-  sub_block-related v w prefix least b c k =
-      Both-map N M (λ x y. x ≡ y) (λ e f. (x : ℕ) × Related x w e f) _ _ (inner_width b.setting prefix least) (inner_width c.setting prefix least)
-      (h.inner_width v b.setting c.setting prefix least k.settings) (λ x y e.
+  sub_block-related : (v : ℕ) (w : W) (prefix min_width : ℕ) (b : First) (c : Second) → Related v w b c →
+      Both N M (λ e f. (x : ℕ) × Related x w e f) ((operations from).sub_block b prefix min_width) ((operations to).sub_block c prefix min_width)
+  sub_block-related v w prefix min_width b c k =
+      Both-map N M (λ x y. x ≡ y) (λ e f. (x : ℕ) × Related x w e f) _ _ (inner_width b.setting prefix min_width) (inner_width c.setting prefix min_width)
+      (h.inner_width v b.setting c.setting prefix min_width k.settings) (λ x y e.
       (x, subst (λ z. Related x w (inner_block from b x) (inner_block to c z)) e (inner_block-related v x w b c k)))
 
   put_lines-related : (v : ℕ) (w : W) (a : List (Line T ℕ)) (e : List (Line U ℕ)) (ms ns : List ℕ) → ns ≡ ms → Lines v w a e →

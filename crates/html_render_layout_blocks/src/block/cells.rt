@@ -1,7 +1,7 @@
 //! Rows and cells of a block's open table.
 
 ghost use Rattle.std.specs.Prelude.{◌≡◌, ◌==◌, [], Some, OnOk, IfOk, IfErr, drop, not, option_map, slice_index_or};
-ghost use Rattle.html_render_dom_values.specs.Outcome.{Refuses};
+ghost use Rattle.html_render_dom_values.specs.Outcome.{OnlyOutOfMemory, Refuses};
 ghost use Rattle.html_render_layout_lines.specs.Line.{is_empty};
 ghost use Rattle.html_render_layout_blocks.specs.OpenRows.{open_row};
 ghost use Rattle.html_render_layout_blocks.specs.Tables.{with_row_open, next_cell_width, skipped, with_next, with_row_over, cell_place};
@@ -44,7 +44,7 @@ fn next_row<T: Tag, M: Copy>(
 ) -> Result<OpenRow<T, M>, Error>
     ensures row { IfOk result (λ row. row ≡ open_row widths.now (slice_index_or ahead.old 0 [])) }
     ensures ahead { OnOk result (ahead.new ≡ drop 1 ahead.old) }
-    ensures err { IfErr result (λ e. e ≡ Error.OutOfMemory) }
+    ensures err { OnlyOutOfMemory result }
 {
     let row = match ahead.next(alloc)? {
         Some(cells) => OpenRow::new(alloc, widths, cells.as_slice())?,
@@ -57,7 +57,7 @@ impl<T: Tag, M: Copy> OpenTable<Picture<T, M>, T, M> {
     /// Begins the next row. Side by side, a row that is open already stays open.
     fn begin_row(&mut self, alloc: Global) -> Result<(), Error>
         ensures ok { OnOk result (self.new ≡ with_row_open self.old) }
-        ensures err { IfErr result (λ e. e ≡ Error.OutOfMemory) }
+        ensures err { OnlyOutOfMemory result }
     {
         match self {
             OpenTable::Across {
@@ -133,7 +133,7 @@ impl<T: Tag, M: Copy> OpenTable<Picture<T, M>, T, M> {
     /// Draws the open row, if there is one, and closes it.
     fn end_row(&mut self, alloc: Global) -> Result<(), Error>
         ensures ok { OnOk result (self.new ≡ with_row_over machine self.old) }
-        ensures err { IfErr result (λ e. e ≡ Error.OutOfMemory) }
+        ensures err { OnlyOutOfMemory result }
     {
         match self {
             OpenTable::Across { picture, row, .. } => {
@@ -158,7 +158,7 @@ impl<T: Tag, M: Copy> Block<T, M> {
     #[tactic(auto, unfolding(crate::specs::Machine::operations))]
     pub fn begin_row(&mut self) -> Result<(), Error>
         ensures ok { OnOk result (self.new ≡ machine.operations.begin_row self.old) }
-        ensures err { IfErr result (λ e. e ≡ Error.OutOfMemory) }
+        ensures err { OnlyOutOfMemory result }
     {
         let alloc = self.alloc;
         if let Some(table) = &mut self.table {
@@ -185,7 +185,7 @@ impl<T: Tag, M: Copy> Block<T, M> {
     #[tactic(auto, unfolding(crate::specs::Machine::operations))]
     pub fn skip_cell(&mut self) -> Result<(), Error>
         ensures ok { OnOk result (self.new ≡ machine.operations.skip_cell self.old) }
-        ensures err { IfErr result (λ e. e ≡ Error.OutOfMemory) }
+        ensures err { OnlyOutOfMemory result }
     {
         let alloc = self.alloc;
         if let Some(table) = &mut self.table {
@@ -242,7 +242,7 @@ impl<T: Tag, M: Copy> Block<T, M> {
     /// Draws the open row, if there is one, and closes it.
     fn draw_row(&mut self) -> Result<(), Error>
         ensures ok { OnOk result (self.new ≡ record self.old { table = option_map (with_row_over machine) self.old.table }) }
-        ensures err { IfErr result (λ e. e ≡ Error.OutOfMemory) }
+        ensures err { OnlyOutOfMemory result }
     {
         let alloc = self.alloc;
         match &mut self.table {
@@ -255,7 +255,7 @@ impl<T: Tag, M: Copy> Block<T, M> {
     /// Without lines, `marks` wait too.
     fn put_lines(&mut self, mut lines: Lines<T, M>, marks: &[M]) -> Result<(), Error>
         ensures ok { OnOk result (self.new ≡ block.put_lines machine self.old lines marks.now) }
-        ensures err { IfErr result (λ e. e ≡ Error.OutOfMemory) }
+        ensures err { OnlyOutOfMemory result }
     {
         if lines.is_empty() {
             return self.add_marks(marks);
@@ -269,7 +269,7 @@ impl<T: Tag, M: Copy> Block<T, M> {
     /// Appends the lines of a flushed block to this flushed block.
     fn put_below(&mut self, cell: &mut Block<T, M>) -> Result<(), Error>
         ensures ok { OnOk result (self.new ≡ block.put_lines machine self.old cell.old.lines (machine.waiting cell.old.paragraph)) }
-        ensures err { IfErr result (λ e. e ≡ Error.OutOfMemory) }
+        ensures err { OnlyOutOfMemory result }
     {
         let Cell { lines, marks, .. } = cell.take_cell();
         self.put_lines(lines, marks.as_slice())
@@ -284,7 +284,7 @@ impl<T: Tag, M: Copy> Block<T, M> {
         cell: &mut Block<T, M>,
     ) -> Result<(), Error>
         ensures ok { OnOk result (self.new ≡ block.put_stacked machine self.old border has_lines (not (is_empty cell.old.lines)) cell.old) }
-        ensures err { IfErr result (λ e. e ≡ Error.OutOfMemory) }
+        ensures err { OnlyOutOfMemory result }
     {
         let more = !cell.lines.is_empty();
         if has_lines && more {

@@ -1,7 +1,7 @@
 //! The beginning of a table in a block: whether its cells are side by side, and the borders of a stacked table.
 
 ghost use Rattle.std.specs.Prelude.{◌≡◌, ◌==◌, ◌&&◌, not, cond, Some, None, OnOk, IfOk, IfErr};
-ghost use Rattle.html_render_dom_values.specs.Outcome.{Refuses};
+ghost use Rattle.html_render_dom_values.specs.Outcome.{OnlyOutOfMemory, Refuses};
 ghost use Rattle.html_render_parts_widths.specs.Shares.{widths_across};
 ghost use Rattle.html_render_parts.specs.TableCells.{rows_on};
 ghost use Rattle.html_render_layout_blocks.specs.declared.block.tables.OpenTable.TheVariants.{Stacked};
@@ -34,7 +34,7 @@ fn column_widths(
     needs: &[ColumnNeed],
 ) -> Result<Option<Widths>, Error>
     ensures ok { IfOk result (λ widths. widths ≡ cond stacked None (widths_across width needs.now)) }
-    ensures err { IfErr result (λ e. e ≡ Error.OutOfMemory) }
+    ensures err { OnlyOutOfMemory result }
 {
     if stacked {
         return Ok(None);
@@ -48,7 +48,7 @@ fn column_widths(
 /// Returns an iterator over the rows of a table, with their cells, placeholders and gaps.
 fn rows_of(alloc: Global, grid: &TableCells) -> Result<RowsAhead, Error>
     ensures ok { IfOk result (λ rows. rows ≡ rows_on grid.now) }
-    ensures err { IfErr result (λ e. e ≡ Error.OutOfMemory) }
+    ensures err { OnlyOutOfMemory result }
 {
     let cells = grid.try_clone(alloc)?;
     cells.into_rows(alloc)
@@ -138,7 +138,7 @@ impl<T: Tag, M: Copy> Block<T, M> {
         widths: Widths,
     ) -> Result<(), Error>
         ensures ok { OnOk result (self.new ≡ block.with_table_begun machine self.old tag borders (rows_on grid.now) (Some widths)) }
-        ensures err { IfErr result (λ e. e ≡ Error.OutOfMemory) }
+        ensures err { OnlyOutOfMemory result }
     {
         let ahead = rows_of(self.alloc, grid)?;
         let frame = frame_of(tag, borders, &widths);
@@ -163,7 +163,7 @@ impl<T: Tag, M: Copy> Block<T, M> {
         widths: Option<Widths>,
     ) -> Result<(), Error>
         ensures ok { OnOk result (self.new ≡ block.with_table_begun machine self.old tag borders (rows_on grid.now) widths) }
-        ensures err { IfErr result (λ e. e ≡ Error.OutOfMemory) }
+        ensures err { OnlyOutOfMemory result }
     {
         match widths {
             Some(widths) => self.begin_across(tag, borders, grid, widths),

@@ -3,7 +3,7 @@
 ghost use Rattle.std.specs.Prelude.{◌≡◌, List, ◌++◌, Some, option_map, OnOk, IfErr};
 ghost use Rattle.html_render_dom_values.specs.Outcome.{Refuses};
 ghost use Rattle.html_render_layout_lines.specs.Line.{Line};
-ghost use Rattle.html_render_layout_paragraphs.specs.Paragraph.{Page, all_lines};
+ghost use Rattle.html_render_layout_paragraphs.specs.Paragraph.{LineBuffer, all_lines};
 ghost use Rattle.html_render_layout_paragraphs.specs.Stream.{State, start, finished};
 ghost use Rattle.html_render_layout_pictures.specs.Padding.{filled};
 
@@ -26,7 +26,7 @@ fn flush_filled<T: Tag, M: Copy>(
     tag: T,
 ) -> Result<(), Error>
     ensures ok { OnOk result (option_map {U = List (Line T M) × State T M}
-        (λ (p : Page T M). (to.old.items ++ filled (Some tag) width (all_lines p), start paragraph.old.setting p.waiting)) (finished paragraph.old)
+        (λ (p : LineBuffer T M). (to.old.items ++ filled (Some tag) width (all_lines p), start paragraph.old.setting p.waiting)) (finished paragraph.old)
         ≡ Some (to.new.items, paragraph.new)) }
     ensures err { IfErr result (λ e. Refuses e (finished paragraph.old)) }
 {
@@ -52,7 +52,7 @@ pub fn flush_padded<T: Tag, M: Copy>(
     padding: Option<T>,
 ) -> Result<(), Error>
     ensures ok { OnOk result (option_map {U = List (Line T M) × State T M}
-        (λ (p : Page T M). (to.old.items ++ filled padding width (all_lines p), start paragraph.old.setting p.waiting)) (finished paragraph.old)
+        (λ (p : LineBuffer T M). (to.old.items ++ filled padding width (all_lines p), start paragraph.old.setting p.waiting)) (finished paragraph.old)
         ≡ Some (to.new.items, paragraph.new)) }
     ensures err { IfErr result (λ e. Refuses e (finished paragraph.old)) }
 {

@@ -57,7 +57,7 @@ impl Model for Widths {
 
 /// Reports whether a place has a cell of the row itself.
 fn is_cell(kind: CellKind) -> bool
-    ensures { result ≡ rows.is_cell kind }
+    ensures { result ≡ rows.is_own_cell kind }
 {
     matches!(kind, CellKind::Cell)
 }

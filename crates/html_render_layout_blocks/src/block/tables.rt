@@ -1,7 +1,7 @@
 //! The open table of a block.
 
 ghost use Rattle.std.specs.Prelude.{◌≡◌, ◌++◌, Some, None, OnOk, IfOk, IfErr, option_map};
-ghost use Rattle.html_render_dom_values.specs.Outcome.{Refuses};
+ghost use Rattle.html_render_dom_values.specs.Outcome.{OnlyOutOfMemory, Refuses};
 ghost use Rattle.html_render_layout_pictures.specs.Picture.{TableRow};
 ghost use Rattle.html_render_layout_blocks.specs.Tables.{with_open, with_ahead};
 ghost use Rattle.html_render_layout_blocks.specs.Block as block;
@@ -48,7 +48,7 @@ fn with_open<T: Tag, M: Copy>(
     row: Option<OpenRow<T, M>>,
 ) -> Result<Picture<T, M>, Error>
     ensures ok { IfOk result (λ p. p ≡ with_open machine picture row) }
-    ensures err { IfErr result (λ e. e ≡ Error.OutOfMemory) }
+    ensures err { OnlyOutOfMemory result }
 {
     let mut picture = picture;
     if let Some(row) = row {
@@ -67,7 +67,7 @@ fn with_ahead<T: Tag, M: Copy>(
     ahead: RowsAhead,
 ) -> Result<Picture<T, M>, Error>
     ensures ok { IfOk result (λ p. p ≡ with_ahead machine widths.now ahead picture) }
-    ensures err { IfErr result (λ e. e ≡ Error.OutOfMemory) }
+    ensures err { OnlyOutOfMemory result }
 {
     let mut picture = picture;
     let mut ahead = ahead;
@@ -88,7 +88,7 @@ fn picture_of<T: Tag, M: Copy>(
     row: Option<OpenRow<T, M>>,
 ) -> Result<Drawn<T, M>, Error>
     ensures ok { IfOk result (λ d. (d.lines, d.waiting.items) ≡ (machine).drawn (with_ahead machine widths.now ahead (with_open machine picture row))) }
-    ensures err { IfErr result (λ e. e ≡ Error.OutOfMemory) }
+    ensures err { OnlyOutOfMemory result }
 {
     let picture = with_open(alloc, picture, row)?;
     let picture = with_ahead(alloc, picture, widths, ahead)?;
@@ -100,7 +100,7 @@ impl<T: Tag, M: Copy> Block<T, M> {
     fn add_drawn(&mut self, drawn: Drawn<T, M>) -> Result<(), Error>
         ensures ok { OnOk result (self.new ≡ block.feed machine (record self.old { lines = self.old.lines ++ drawn.lines; table = None })
             (mark_items drawn.waiting.items)) }
-        ensures err { IfErr result (λ e. e ≡ Error.OutOfMemory) }
+        ensures err { OnlyOutOfMemory result }
     {
         let Drawn { lines, waiting } = drawn;
         self.push_lines(lines)?;
@@ -117,7 +117,7 @@ impl<T: Tag, M: Copy> Block<T, M> {
     #[tactic(auto, unfolding(crate::specs::Machine::operations))]
     pub fn end_table(&mut self) -> Result<(), Error>
         ensures ok { OnOk result (self.new ≡ machine.operations.end_table self.old) }
-        ensures err { IfErr result (λ e. e ≡ Error.OutOfMemory) }
+        ensures err { OnlyOutOfMemory result }
     {
         let Some(table) = self.table.take() else {
             return Ok(());

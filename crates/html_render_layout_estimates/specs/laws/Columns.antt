@@ -6,7 +6,7 @@ use Rattle.std.specs.List.{range_with_len}
 use Rattle.std.proofs.Math.Nat.{div-mul-le_self, div-zero, le-div_iff_mul-le}
 use Rattle.std.proofs.lemmas.List.Elements.{All-nil, All-cons, All-append, All-map, All-weaker}
 use Rattle.html_render_dom_values.specs.Forest.{Forest, none, node}
-use Rattle.html_render_parts_decorators.specs.Decoration.{Decoration}
+use Rattle.html_render_parts.specs.Decoration.{Decoration}
 use Rattle.html_render_parts.specs.TableCells.{columns_of}
 use Rattle.html_render_parts_widths.specs.declared.needs.CellNeed.{CellNeed}
 use Rattle.html_render_parts_widths.specs.declared.shares.ColumnNeed.{ColumnNeed}
@@ -25,30 +25,30 @@ use Rattle.html_render_layout_estimates.specs.Columns.{needs_of_kind}
 use Rattle.html_render_layout_estimates.specs.Estimates.{measured, measured_kind}
 use Rattle.html_render_layout_estimates.specs.Passes.{has_table, with_needed_sizes, without_sizes}
 use Rattle.html_render_layout_estimates.specs.laws.Least.{AllWithin, cells_within, trees_within}
-use Rattle.html_render_layout_estimates.specs.laws.Tables.{AreWithin}
+use Rattle.html_render_layout_estimates.specs.laws.Tables.{HaveOrderedWidths}
 
 -- ---- a column
 
-part-le : (count least size : ℕ) → least ≤ size → least / count ≤ size / count
-part-le zero least size h = omega (arith, div-zero least, div-zero size)
-part-le (suc n) least size h =
-    (le-div_iff_mul-le {k = suc n} {x = least / suc n} {y = size} (omega arith)).1 (omega (arith, div-mul-le_self least (suc n), h))
+part-le : (count min_width preferred_width : ℕ) → min_width ≤ preferred_width → min_width / count ≤ preferred_width / count
+part-le zero min_width preferred_width h = omega (arith, div-zero min_width, div-zero preferred_width)
+part-le (suc n) min_width preferred_width h =
+    (le-div_iff_mul-le {k = suc n} {x = min_width / suc n} {y = preferred_width} (omega arith)).1 (omega (arith, div-mul-le_self min_width (suc n), h))
 
-given-le : (c : CellNeed) (k : ℕ) → c.least ≤ c.size → given (part c c.least) k ≤ given (part c c.size) k
+given-le : (c : CellNeed) (k : ℕ) → c.min_width ≤ c.preferred_width → given (part c c.min_width) k ≤ given (part c c.preferred_width) k
 given-le c k h = by (leb c.start k && ltb k (c.start + c.count))
   where
-    by : (b : Bool) → cond b (c.least / c.count) 0 ≤ cond b (c.size / c.count) 0
-    by true = part-le c.count c.least c.size h
+    by : (b : Bool) → cond b (c.min_width / c.count) 0 ≤ cond b (c.preferred_width / c.count) 0
+    by true = part-le c.count c.min_width c.preferred_width h
     by false = omega arith
 
-column-le : (cells : List CellNeed) (k : ℕ) → AreWithin cells →
-    greatest_at (map (λ c. part c c.least) cells) k ≤ greatest_at (map (λ c. part c c.size) cells) k
+column-le : (cells : List CellNeed) (k : ℕ) → HaveOrderedWidths cells →
+    greatest_at (map (λ c. part c c.min_width) cells) k ≤ greatest_at (map (λ c. part c c.preferred_width) cells) k
 column-le [] k h = omega arith
 column-le (c ∷ cs) k h = omega (arith, given-le c k h.0, column-le cs k h.1)
 
-pub columns-within : (columns : ℕ) (cells : List CellNeed) → AreWithin cells → AreWithinSizes (column_needs columns cells)
+pub columns-within : (columns : ℕ) (cells : List CellNeed) → HaveOrderedWidths cells → AreWithinSizes (column_needs columns cells)
 columns-within columns cells h =
-    All-map (λ (n : ColumnNeed). n.least ≤ n.size) (need_at cells) (range_with_len 0 columns)
+    All-map (λ (n : ColumnNeed). n.min_width ≤ n.preferred_width) (need_at cells) (range_with_len 0 columns)
     (λ k d inside. column-le cells (get_or (range_with_len 0 columns) k d) h)
 
 -- ---- the columns of all nodes
@@ -81,12 +81,12 @@ columns-needed t h = by (has_table t)
 kind-columns : (kind : NodeKind) (below : Forest RenderNode) → AllWithin below → AreWithinSizes (needs_of_kind (measured_kind kind below))
 kind-columns (Table grid) below h =
     columns-within (columns_of grid.cells) (cell_needs grid.cells.rows below) (cells_within grid.cells.rows below h)
-kind-columns kind below h = All-nil (λ (n : ColumnNeed). n.least ≤ n.size)
+kind-columns kind below h = All-nil (λ (n : ColumnNeed). n.min_width ≤ n.preferred_width)
 
 abbrev HasSharesBySize : ℕ → Entry RenderNode → Type 0
 HasSharesBySize width e =
     let needs = needs_of_kind e.node.kind in
-    shares width needs ≡ map (share_by_size width (sum_by (λ (n : ColumnNeed). n.size) needs)) needs
+    shares width needs ≡ map (share_by_size width (sum_by (λ (n : ColumnNeed). n.preferred_width) needs)) needs
 
 module _ {D A : Type 0} (decoration : Decoration D A) (decorator : D) (settings : LayoutSettings) where
   measured-columns : (t : Forest RenderNode) → AllColumns (measured decoration decorator settings t)

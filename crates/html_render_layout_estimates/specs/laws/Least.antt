@@ -4,7 +4,7 @@ use Rattle.std.proofs.Common.{◌≡◌, false, ◌||◌, ◌-◌, ◌^◌, ◌�
 use Rattle.std.specs.Prelude.{All, if◌then◌else◌}
 use Rattle.std.proofs.lemmas.List.Elements.{All-nil, All-cons, All-append}
 use Rattle.html_render_dom_values.specs.Forest.{Forest, none, node}
-use Rattle.html_render_parts_decorators.specs.Decoration.{Decoration}
+use Rattle.html_render_parts.specs.Decoration.{Decoration}
 use Rattle.html_render_layout_nodes.specs.declared.tree.Entry.{Entry}
 use Rattle.html_render_layout_nodes.specs.declared.tree.Estimate.{Estimate}
 use Rattle.html_render_layout_nodes.specs.declared.tree.NodeKind.{NodeKind}
@@ -18,39 +18,39 @@ use Rattle.html_render_layout_estimates.specs.declared.settings.LayoutSettings.{
 use Rattle.html_render_layout_estimates.specs.Cells.{row_needs, cell_needs}
 use Rattle.html_render_layout_estimates.specs.Estimates.{trees, greatest_least, total_size, prefix_of, measured_kind, estimate_of, measured}
 use Rattle.html_render_layout_estimates.specs.Passes.{is_table, has_table, without_sizes, with_needed_sizes}
-use Rattle.html_render_layout_estimates.specs.laws.Tables.{AreWithin, table_within}
+use Rattle.html_render_layout_estimates.specs.laws.Tables.{HaveOrderedWidths, table_within}
 
 -- whether a node's minimum width is at most its preferred width
-abbrev pub IsWithin : Entry RenderNode → Type 0
-IsWithin e = e.node.estimate.least ≤ e.node.estimate.size
+abbrev pub IsOrderedEstimate : Entry RenderNode → Type 0
+IsOrderedEstimate e = e.node.estimate.min_width ≤ e.node.estimate.preferred_width
 
 -- whether a node's preferred width is 0
 abbrev pub IsUnsized : Entry RenderNode → Type 0
-IsUnsized e = e.node.estimate.size ≡ 0
+IsUnsized e = e.node.estimate.preferred_width ≡ 0
 
 -- whether the minimum width of each node of a forest is at most its preferred width
 abbrev pub AllWithin : Forest RenderNode → Type 0
 AllWithin none = Unit {0}
-AllWithin (node n children beside) = (n.estimate.least ≤ n.estimate.size) × AllWithin children × AllWithin beside
+AllWithin (node n children beside) = (n.estimate.min_width ≤ n.estimate.preferred_width) × AllWithin children × AllWithin beside
 
-all_within : (t : Forest RenderNode) → AllWithin t → All IsWithin (flatten t)
-all_within none h = All-nil IsWithin
+all_within : (t : Forest RenderNode) → AllWithin t → All IsOrderedEstimate (flatten t)
+all_within none h = All-nil IsOrderedEstimate
 all_within (node n children beside) h =
-    All-cons IsWithin _ _ h.0
-    (All-append IsWithin (flatten children) (flatten beside) (all_within children h.1) (all_within beside h.2))
+    All-cons IsOrderedEstimate _ _ h.0
+    (All-append IsOrderedEstimate (flatten children) (flatten beside) (all_within children h.1) (all_within beside h.2))
 
 -- lists of cells whose minimum widths are within their preferred widths can be joined
-AreWithin-append : (xs ys : List CellNeed) → AreWithin xs → AreWithin ys → AreWithin (xs ++ ys)
-AreWithin-append [] ys h k = k
-AreWithin-append (x ∷ xs) ys h k = (h.0, AreWithin-append xs ys h.1 k)
+HaveOrderedWidths-append : (xs ys : List CellNeed) → HaveOrderedWidths xs → HaveOrderedWidths ys → HaveOrderedWidths (xs ++ ys)
+HaveOrderedWidths-append [] ys h k = k
+HaveOrderedWidths-append (x ∷ xs) ys h k = (h.0, HaveOrderedWidths-append xs ys h.1 k)
 
-row_within : (cells : List GridCell) (t : Forest RenderNode) → AllWithin t → AreWithin (row_needs cells t)
+row_within : (cells : List GridCell) (t : Forest RenderNode) → AllWithin t → HaveOrderedWidths (row_needs cells t)
 row_within (c ∷ cs) (node n children beside) h = (h.0, row_within cs beside h.2)
 row_within cells t h = tt
 
-pub cells_within : (rows : List (List GridCell)) (t : Forest RenderNode) → AllWithin t → AreWithin (cell_needs rows t)
+pub cells_within : (rows : List (List GridCell)) (t : Forest RenderNode) → AllWithin t → HaveOrderedWidths (cell_needs rows t)
 cells_within (cells ∷ more) (node n children beside) h =
-    AreWithin-append (row_needs cells children) (cell_needs more beside) (row_within cells children h.1) (cells_within more beside h.2)
+    HaveOrderedWidths-append (row_needs cells children) (cell_needs more beside) (row_within cells children h.1) (cells_within more beside h.2)
 cells_within rows t h = tt
 
 total_bounded : (t : Forest RenderNode) → total_size t ≤ 2 ^ 64 - 1
@@ -73,7 +73,7 @@ module _ {D A : Type 0} (decoration : Decoration D A) (decorator : D) (settings 
   -- ---- a node
 
   node_within : (kind : NodeKind) (below : Forest RenderNode) → greatest_least below ≤ total_size below → AllWithin below →
-      (estimate kind below).least ≤ (estimate kind below).size
+      (estimate kind below).min_width ≤ (estimate kind below).preferred_width
   node_within (Text text) below h w = omega arith
   node_within Break below h w = omega arith
   node_within (Link target) below h w = omega (arith, h, total_bounded below)
@@ -85,7 +85,7 @@ module _ {D A : Type 0} (decoration : Decoration D A) (decorator : D) (settings 
       table_within (columns_of grid.cells) (cell_needs grid.cells.rows below) prefix (trees below) (cells_within grid.cells.rows below w)
   node_within kind below h w = omega (arith, h)
 
-  node_bounded : (kind : NodeKind) (below : Forest RenderNode) → (estimate kind below).size ≤ 2 ^ 64 - 1
+  node_bounded : (kind : NodeKind) (below : Forest RenderNode) → (estimate kind below).preferred_width ≤ 2 ^ 64 - 1
   node_bounded (Table grid) below = omega arith
   node_bounded kind below = omega arith
 
@@ -101,7 +101,7 @@ module _ {D A : Type 0} (decoration : Decoration D A) (decorator : D) (settings 
         (own, below.1, others.1),
       )
 
-  pub each_within : (t : Forest RenderNode) → All IsWithin (flatten (all_measured t))
+  pub each_within : (t : Forest RenderNode) → All IsOrderedEstimate (flatten (all_measured t))
   each_within t = all_within (all_measured t) (trees_within t).1
 
   -- ---- trees without a table

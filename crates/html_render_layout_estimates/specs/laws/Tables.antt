@@ -56,41 +56,41 @@ sum-given s at (suc n) =
 -- ---- a cell
 
 abbrev part_of : CellNeed → ℕ
-part_of c = c.size / c.count * c.count
+part_of c = c.preferred_width / c.count * c.count
 
 -- the parts of a minimum width add up to at most those of a preferred width that isn't less
-parts-le : (n least size : ℕ) → least ≤ size → n * (least / n) ≤ size / n * n
-parts-le zero least size h = omega arith
-parts-le (suc n) least size h =
-    let part = div-mul-le_self least (suc n) in
-    let less : least / suc n ≤ size / suc n =
-    (le-div_iff_mul-le {k = suc n} {x = least / suc n} {y = size} (omega arith)).1 (omega (arith, part, h)) in
+parts-le : (n min_width preferred_width : ℕ) → min_width ≤ preferred_width → n * (min_width / n) ≤ preferred_width / n * n
+parts-le zero min_width preferred_width h = omega arith
+parts-le (suc n) min_width preferred_width h =
+    let part = div-mul-le_self min_width (suc n) in
+    let less : min_width / suc n ≤ preferred_width / suc n =
+    (le-div_iff_mul-le {k = suc n} {x = min_width / suc n} {y = preferred_width} (omega arith)).1 (omega (arith, part, h)) in
     omega (arith, mul-le-mul_left (suc n) less)
 
-cell-le : (columns : ℕ) (c : CellNeed) → c.least ≤ c.size → sum_by (given (part c c.least)) (range_with_len 0 columns) ≤ part_of c
+cell-le : (columns : ℕ) (c : CellNeed) → c.min_width ≤ c.preferred_width → sum_by (given (part c c.min_width)) (range_with_len 0 columns) ≤ part_of c
 cell-le columns c h =
-    let all : columns_from (part c c.least) 0 ≡ c.count = omega arith in
-    let sum : sum_by (given (part c c.least)) (range_with_len 0 columns) ≤ c.count * (c.least / c.count) =
-    subst (λ n. sum_by (given (part c c.least)) (range_with_len 0 columns) ≤ n * (c.least / c.count)) all (sum-given (part c c.least) 0 columns) in
-    omega (arith, sum, parts-le c.count c.least c.size h)
+    let all : columns_from (part c c.min_width) 0 ≡ c.count = omega arith in
+    let sum : sum_by (given (part c c.min_width)) (range_with_len 0 columns) ≤ c.count * (c.min_width / c.count) =
+    subst (λ n. sum_by (given (part c c.min_width)) (range_with_len 0 columns) ≤ n * (c.min_width / c.count)) all (sum-given (part c c.min_width) 0 columns) in
+    omega (arith, sum, parts-le c.count c.min_width c.preferred_width h)
 
 -- ---- all cells
 
 abbrev needed_by : List CellNeed → (column : ℕ) → ℕ
-needed_by cells k = greatest_at (map (λ c. part c c.least) cells) k
+needed_by cells k = greatest_at (map (λ c. part c c.min_width) cells) k
 
 -- whether the minimum width of each cell is at most its preferred width
-abbrev pub AreWithin : List CellNeed → Type 0
-AreWithin [] = Unit {0}
-AreWithin (c ∷ cs) = (c.least ≤ c.size) × AreWithin cs
+abbrev pub HaveOrderedWidths : List CellNeed → Type 0
+HaveOrderedWidths [] = Unit {0}
+HaveOrderedWidths (c ∷ cs) = (c.min_width ≤ c.preferred_width) × HaveOrderedWidths cs
 
-sum-le : (columns : ℕ) (cells : List CellNeed) → AreWithin cells →
+sum-le : (columns : ℕ) (cells : List CellNeed) → HaveOrderedWidths cells →
     sum_by (needed_by cells) (range_with_len 0 columns) ≤ sum_by part_of cells
 sum-le columns [] h = omega (arith, sum_by-zero (range_with_len 0 columns))
 sum-le columns (c ∷ cs) h =
     omega (
       arith,
-      sum_by-parts (needed_by (c ∷ cs)) (given (part c c.least)) (needed_by cs) (range_with_len 0 columns) (λ k. omega arith),
+      sum_by-parts (needed_by (c ∷ cs)) (given (part c c.min_width)) (needed_by cs) (range_with_len 0 columns) (λ k. omega arith),
       cell-le columns c h.0,
       sum-le columns cs h.1,
       sum_by-cons part_of c cs,
@@ -98,9 +98,9 @@ sum-le columns (c ∷ cs) h =
 
 -- ---- a table
 
-pub table_within : (columns : ℕ) (cells : List CellNeed) (prefix children : ℕ) → AreWithin cells →
-    (table_estimate columns cells prefix children).least ≤ (table_estimate columns cells prefix children).size
+pub table_within : (columns : ℕ) (cells : List CellNeed) (prefix children : ℕ) → HaveOrderedWidths cells →
+    (table_estimate columns cells prefix children).min_width ≤ (table_estimate columns cells prefix children).preferred_width
 table_within columns cells prefix children h =
-    let needs : sum_by (λ (n : ColumnNeed). n.least) (column_needs columns cells) ≡ sum_by (needed_by cells) (range_with_len 0 columns) =
-    sum_by-map (λ (n : ColumnNeed). n.least) (need_at cells) (range_with_len 0 columns) in
+    let needs : sum_by (λ (n : ColumnNeed). n.min_width) (column_needs columns cells) ≡ sum_by (needed_by cells) (range_with_len 0 columns) =
+    sum_by-map (λ (n : ColumnNeed). n.min_width) (need_at cells) (range_with_len 0 columns) in
     omega (arith, needs, sum-le columns cells h)

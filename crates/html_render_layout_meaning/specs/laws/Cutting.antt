@@ -7,7 +7,7 @@ use Rattle.html_render_layout_lines.specs.declared.character.Item.{Item}
 use Rattle.html_render_layout_lines.specs.declared.character.Item.TheVariants as item
 use Rattle.html_render_layout_lines.specs.Character.{width_of}
 use Rattle.html_render_layout_lines.specs.Line.{Line, columns, word_columns}
-use Rattle.html_render_layout_paragraphs.specs.Paragraph.{Page, Setting, put_character, put_items}
+use Rattle.html_render_layout_paragraphs.specs.Paragraph.{LineBuffer, Setting, put_character, put_items}
 use Rattle.html_render_layout_paragraphs.specs.Word.{line_with_word, marks_behind_word}
 use Rattle.html_render_layout_lines.specs.laws.Cases.{if_true, if_cases}
 use Rattle.html_render_layout_meaning.specs.Meaning.{Part, Whole, with_whole, with_letter, character_count, IsNotEmpty, StandOn, nothing, whole, alone, cut}
@@ -42,7 +42,7 @@ first-character : {T M : Type 0} (s : Setting) (lines : List (Line T M)) (b : Bo
     ⊎ (put_character s (page_of lines [] b ms) c ≡ None)
 first-character {T} {M} s lines b ms c =
     let one = word_columns-one M c in
-    let Stands : Option (Page T M) → Type 0 =
+    let Stands : Option (LineBuffer T M) → Type 0 =
     λ o. ((o ≡ Some (page_of lines (with_letter b [] ms c) b [])) × IsAlone {M = M} s (item.Character c ∷ [])) ⊎ (o ≡ None) in
     if_cases Stands (leb (columns {T = T} {M = M} [] + width_of c.code) s.width) _ _
     (λ e. let h = leb-true _ _ e in inl (refl, inl (omega (arith, h, one))))
@@ -71,7 +71,7 @@ no-page : {A B : Type 0} (f : A → Option B) (o : Option A) (y : B) → o ≡ N
 no-page f None y e h = cc
 no-page f (Some x) y e h = cc
 
-module _ {T M : Type 0} (s : Setting) (rest : List (Part T M)) (q : Page T M) where
+module _ {T M : Type 0} (s : Setting) (rest : List (Part T M)) (q : LineBuffer T M) where
   -- whether the parts before a word that begins a line, the word and the rest have the laid lines
   abbrev BeginsWith : List (Line T M) → Bool → List M → List (Part T M) → Option (Character T) → List (Item T M) → Type 0
   BeginsWith lines b before front space word = Meant s lines b before (front ++ Whole space word ∷ rest) q
@@ -107,11 +107,11 @@ module _ {T M : Type 0} (s : Setting) (rest : List (Part T M)) (q : Page T M) wh
     abbrev waiting : List M
     waiting = marks_behind_word ms head
 
-    abbrev then_tail : Option (Page T M) → Option (Page T M)
-    then_tail o = then_rest s rest (option_and_then (λ (p : Page T M). put_items s p tail) o)
+    abbrev then_tail : Option (LineBuffer T M) → Option (LineBuffer T M)
+    then_tail o = then_rest s rest (option_and_then (λ (p : LineBuffer T M). put_items s p tail) o)
 
     never : put_character s (page_of lines line b waiting) c ≡ None → ⊥
-    never n = no-page (λ (p : Page T M). lay s p rest) _ q (ap (option_and_then (λ (p : Page T M). put_items s p tail)) n) e
+    never n = no-page (λ (p : LineBuffer T M). lay s p rest) _ q (ap (option_and_then (λ (p : LineBuffer T M). put_items s p tail)) n) e
 
     -- the character is on the line of the head
     here : put_character s (page_of lines line b waiting) c ≡ Some (page_of lines (with_letter b line waiting c) b []) →

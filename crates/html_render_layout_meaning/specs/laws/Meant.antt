@@ -7,7 +7,7 @@ use Rattle.html_render_layout_lines.specs.declared.character.Character.{Characte
 use Rattle.html_render_layout_lines.specs.declared.character.Item.{Item}
 use Rattle.html_render_layout_lines.specs.declared.character.Item.TheVariants as item
 use Rattle.html_render_layout_lines.specs.Line.{Line, columns, word_columns}
-use Rattle.html_render_layout_paragraphs.specs.Paragraph.{Page, Setting, all_lines, pieces, paragraph, blank_page, put_items, put_word}
+use Rattle.html_render_layout_paragraphs.specs.Paragraph.{LineBuffer, Setting, all_lines, pieces, paragraph, empty_buffer, put_items, put_word}
 use Rattle.html_render_layout_meaning.specs.Meaning.{Part, Whole, Between, Soft, Break, Stop, SoftStop, Marked, letter, spaced, with_whole, with_letter, IsNotEmpty}
 use Rattle.html_render_layout_meaning.specs.Meaning.{StandOn, nothing, whole, between, no_between, soft, no_soft, marked}
 use Rattle.html_render_layout_meaning.specs.Meaning.{none, last, broken, full, stop, soft_stop, spaces_behind, parts, IsParagraph}
@@ -18,9 +18,9 @@ use Rattle.html_render_layout_meaning.specs.laws.Placed.{put_word-full, lay-lett
 use Rattle.html_render_layout_meaning.specs.laws.Behind.{Meant, Completes, then_rest, behind_part, behind_line, empty-or-not}
 use Rattle.html_render_layout_meaning.specs.laws.Cutting.{begins}
 
-nothing-left : {T M : Type 0} (s : Setting) (q : Page T M) → Completes s [] q
+nothing-left : {T M : Type 0} (s : Setting) (q : LineBuffer T M) → Completes s [] q
 nothing-left {T} {M} s q lines b before front line ms st e =
-    subst (λ (p : Page T M). Meant s lines b before (front ++ []) p) (same_Some _ _ e)
+    subst (λ (p : LineBuffer T M). Meant s lines b before (front ++ []) p) (same_Some _ _ e)
     (subst (λ ps. Meant s lines b before ps (page_of lines line b ms)) (sym (append-nil front))
     (elim (empty-or-not line) [ inl f ↦ empty f | inr i ↦ record { own = line ∷ []; are_lines = last st i; are_all = last-line lines line i } ]))
   where
@@ -31,7 +31,7 @@ nothing-left {T} {M} s q lines b before front line ms st e =
       are_all = sym (append-nil lines);
     })
 
-with-whole : {T M : Type 0} (s : Setting) (space : Option (Character T)) (word : List (Item T M)) (rest : List (Part T M)) (q : Page T M) →
+with-whole : {T M : Type 0} (s : Setting) (space : Option (Character T)) (word : List (Item T M)) (rest : List (Part T M)) (q : LineBuffer T M) →
     Completes s rest q → Completes s (Whole space word ∷ rest) q
 with-whole {T} {M} s space word rest q k lines b before front line ms st e =
     elim (cases_Bool (leb (columns (with_whole b line ms space word)) s.width)) [
@@ -64,7 +64,7 @@ with-whole {T} {M} s space word rest q k lines b before front line ms st e =
         (start (lines ++ line ∷ []) true ms [] space ms nothing
         (sym (ap (then_rest s rest) (put_word-full s lines line b ms space word i w)) ∙ e))
 
-with-between-space : {T M : Type 0} (s : Setting) (c : Character T) (rest : List (Part T M)) (q : Page T M) →
+with-between-space : {T M : Type 0} (s : Setting) (c : Character T) (rest : List (Part T M)) (q : LineBuffer T M) →
     Completes s rest q → Completes s (Between c ∷ rest) q
 with-between-space s c rest q k lines b before front line ms st e =
     behind_part s lines b before front (Between c) rest q
@@ -79,7 +79,7 @@ with-between-space s c rest q k lines b before front line ms st e =
           (sym (ap (λ p. lay s p rest) (space-full s lines line b ms c h)) ∙ e)
     ])
 
-with-soft : {T M : Type 0} (s : Setting) (c : Character T) (rest : List (Part T M)) (q : Page T M) →
+with-soft : {T M : Type 0} (s : Setting) (c : Character T) (rest : List (Part T M)) (q : LineBuffer T M) →
     Completes s rest q → Completes s (Soft c ∷ rest) q
 with-soft s c rest q k lines b before front line ms st e =
     behind_part s lines b before front (Soft c) rest q
@@ -94,22 +94,22 @@ with-soft s c rest q k lines b before front line ms st e =
           (sym (ap (λ p. lay s p rest) (soft-full s lines line b ms c h)) ∙ e)
     ])
 
-with-letters : {T M : Type 0} (s : Setting) (cs : List (Character T)) (rest : List (Part T M)) (q : Page T M) →
+with-letters : {T M : Type 0} (s : Setting) (cs : List (Character T)) (rest : List (Part T M)) (q : LineBuffer T M) →
     Completes s rest q → Completes s (map letter cs ++ rest) q
 with-letters s [] rest q k = k
 with-letters s (c ∷ cs) rest q k = with-whole s None (item.Character c ∷ []) (map letter cs ++ rest) q (with-letters s cs rest q k)
 
-with-softs : {T M : Type 0} (s : Setting) (cs : List (Character T)) (rest : List (Part T M)) (q : Page T M) →
+with-softs : {T M : Type 0} (s : Setting) (cs : List (Character T)) (rest : List (Part T M)) (q : LineBuffer T M) →
     Completes s rest q → Completes s (map Soft cs ++ rest) q
 with-softs s [] rest q k = k
 with-softs s (c ∷ cs) rest q k = with-soft s c (map Soft cs ++ rest) q (with-softs s cs rest q k)
 
-with-break : {T M : Type 0} (s : Setting) (rest : List (Part T M)) (q : Page T M) → Completes s rest q → Completes s (Break ∷ rest) q
+with-break : {T M : Type 0} (s : Setting) (rest : List (Part T M)) (q : LineBuffer T M) → Completes s rest q → Completes s (Break ∷ rest) q
 with-break s rest q k lines b before front line ms st e =
     behind_line s lines line b false before ms (front ++ Break ∷ rest) rest q (λ ls d. broken st d)
     (k (lines ++ line ∷ []) false ms [] [] ms nothing e)
 
-with-stop : {T M : Type 0} (s : Setting) (c : Character T) (rest : List (Part T M)) (q : Page T M) →
+with-stop : {T M : Type 0} (s : Setting) (c : Character T) (rest : List (Part T M)) (q : LineBuffer T M) →
     Completes s rest q → Completes s (Stop c ∷ rest) q
 with-stop {T} {M} s c rest q k lines b before front line ms st e =
     let m : Meant s lines b before (front ++ (map letter (spaces_behind line c) ++ rest)) q =
@@ -117,7 +117,7 @@ with-stop {T} {M} s c rest q k lines b before front line ms st e =
     (lay-letters s (page_of lines line b ms) (spaces_behind line c) rest ∙ e) in
     record { own = m.own; are_lines = stop c rest st m.are_lines; are_all = m.are_all }
 
-with-soft_stop : {T M : Type 0} (s : Setting) (c : Character T) (rest : List (Part T M)) (q : Page T M) →
+with-soft_stop : {T M : Type 0} (s : Setting) (c : Character T) (rest : List (Part T M)) (q : LineBuffer T M) →
     Completes s rest q → Completes s (SoftStop c ∷ rest) q
 with-soft_stop {T} {M} s c rest q k lines b before front line ms st e =
     let m : Meant s lines b before (front ++ (map Soft (spaces_behind line c) ++ rest)) q =
@@ -125,12 +125,12 @@ with-soft_stop {T} {M} s c rest q k lines b before front line ms st e =
     (lay-soft s (page_of lines line b ms) (spaces_behind line c) rest ∙ e) in
     record { own = m.own; are_lines = soft_stop c rest st m.are_lines; are_all = m.are_all }
 
-with-marked : {T M : Type 0} (s : Setting) (m : M) (rest : List (Part T M)) (q : Page T M) →
+with-marked : {T M : Type 0} (s : Setting) (m : M) (rest : List (Part T M)) (q : LineBuffer T M) →
     Completes s rest q → Completes s (Marked m ∷ rest) q
 with-marked s m rest q k lines b before front line ms st e =
     behind_part s lines b before front (Marked m) rest q (k lines b before (front ++ Marked m ∷ []) line (ms ++ m ∷ []) (marked m st) e)
 
-meant : {T M : Type 0} (s : Setting) (ps : List (Part T M)) (q : Page T M) → Completes s ps q
+meant : {T M : Type 0} (s : Setting) (ps : List (Part T M)) (q : LineBuffer T M) → Completes s ps q
 meant s [] q = nothing-left s q
 meant s (Whole space word ∷ ps) q = with-whole s space word ps q (meant s ps q)
 meant s (Between c ∷ ps) q = with-between-space s c ps q (meant s ps q)
@@ -141,9 +141,9 @@ meant s (SoftStop c ∷ ps) q = with-soft_stop s c ps q (meant s ps q)
 meant s (Marked m ∷ ps) q = with-marked s m ps q (meant s ps q)
 
 -- the lines that `paragraph` places satisfy `IsParagraph`
-pub placed_paragraph : {T M : Type 0} (s : Setting) (marks : List M) (xs : List (Item T M)) (q : Page T M) →
+pub placed_paragraph : {T M : Type 0} (s : Setting) (marks : List M) (xs : List (Item T M)) (q : LineBuffer T M) →
     paragraph s marks xs ≡ Some q → IsParagraph s marks xs (all_lines q) q.waiting
 placed_paragraph s marks xs q e =
     let m : Meant s [] false marks (parts None (pieces xs)) q =
-    meant s (parts None (pieces xs)) q [] false marks [] [] marks nothing (sym (lay-parts s (blank_page marks) None (pieces xs)) ∙ e) in
+    meant s (parts None (pieces xs)) q [] false marks [] [] marks nothing (sym (lay-parts s (empty_buffer marks) None (pieces xs)) ∙ e) in
     subst (λ ls. IsParagraph s marks xs ls q.waiting) (sym m.are_all) m.are_lines

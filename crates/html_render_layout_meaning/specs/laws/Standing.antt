@@ -7,7 +7,7 @@ use Rattle.html_render_layout_lines.specs.declared.character.Item.{Item}
 use Rattle.html_render_layout_lines.specs.declared.character.Kind.TheVariants.{Preserved}
 use Rattle.html_render_layout_lines.specs.Character.{width_of}
 use Rattle.html_render_layout_lines.specs.Line.{Line, columns, word_columns}
-use Rattle.html_render_layout_paragraphs.specs.Paragraph.{Page, Setting, continued, page_for_word, page_for_single, put_word, put_items, put_fitting}
+use Rattle.html_render_layout_paragraphs.specs.Paragraph.{LineBuffer, Setting, continued, page_for_word, page_for_single, put_word, put_items, put_fitting}
 use Rattle.html_render_layout_paragraphs.specs.Paragraph.{with_due_space, fits}
 use Rattle.html_render_layout_lines.specs.laws.Cases.{if_true, if_false, is_empty-cons}
 use Rattle.html_render_layout_meaning.specs.Meaning.{Part, Whole, Between, Soft, Marked, spaced, with_whole, with_letter, character_count, StandOn}
@@ -23,25 +23,25 @@ spaced-page lines line b ms None = refl
 spaced-page lines [] b ms (Some c) = refl
 spaced-page lines (x ∷ xs) b ms (Some c) = rw (is_empty-cons x xs) refl
 
--- the page for a word that fits is that with the space before it
+-- the line buffer for a word that fits is that with the space before it
 page_for_word-fitting : {T M : Type 0} (s : Setting) (lines : List (Line T M)) (line : Line T M) (b : Bool) (ms : List M)
     (space : Option (Character T)) (word : List (Item T M)) → columns (with_whole b line ms space word) ≤ s.width →
     page_for_word s (page_of lines line b ms) space word ≡ page_of lines (spaced b line space) b ms
 page_for_word-fitting {T} {M} s lines line b ms space word h =
     let e = columns-with_word b (spaced b line space) ms word in
-    ap (λ (p : Page T M). cond (fits s p (word_columns word)) p (continued (page_of lines line b ms))) (spaced-page lines line b ms space)
+    ap (λ (p : LineBuffer T M). cond (fits s p (word_columns word)) p (continued (page_of lines line b ms))) (spaced-page lines line b ms space)
     ∙ if_true _ _ _ (le-leb (columns (spaced b line space) + word_columns word) s.width (omega (arith, e, h)))
 
--- the page for a word that doesn't fit has begun the next line
+-- the line buffer for a word that doesn't fit has begun the next line
 pub page_for_word-full : {T M : Type 0} (s : Setting) (lines : List (Line T M)) (line : Line T M) (b : Bool) (ms : List M)
     (space : Option (Character T)) (word : List (Item T M)) → s.width < columns (with_whole b line ms space word) →
     page_for_word s (page_of lines line b ms) space word ≡ continued (page_of lines line b ms)
 page_for_word-full {T} {M} s lines line b ms space word h =
     let e = columns-with_word b (spaced b line space) ms word in
-    ap (λ (p : Page T M). cond (fits s p (word_columns word)) p (continued (page_of lines line b ms))) (spaced-page lines line b ms space)
+    ap (λ (p : LineBuffer T M). cond (fits s p (word_columns word)) p (continued (page_of lines line b ms))) (spaced-page lines line b ms space)
     ∙ if_false _ _ _ (lt-leb (columns (spaced b line space) + word_columns word) s.width (omega (arith, e, h)))
 
--- the page for a word that begins a line is unchanged
+-- the line buffer for a word that begins a line is unchanged
 pub page_for_word-start : {T M : Type 0} (s : Setting) (lines : List (Line T M)) (b : Bool) (ms : List M)
     (space : Option (Character T)) (word : List (Item T M)) → page_for_word s (page_of lines [] b ms) space word ≡ page_of lines [] b ms
 page_for_word-start s lines b ms None word = same (fits s (page_of lines [] b ms) (word_columns word)) _
@@ -74,13 +74,13 @@ pub space-fitting : {T M : Type 0} (s : Setting) (lines : List (Line T M)) (line
     columns (spaced b line (Some c)) ≤ s.width →
     page_for_single s (page_of lines line b ms) (Some c) Preserved ≡ page_of lines (spaced b line (Some c)) b ms
 space-fitting {T} {M} s lines line b ms c h =
-    ap (λ (p : Page T M). cond (fits s p 0) p (page_of lines line b ms)) (spaced-page lines line b ms (Some c))
+    ap (λ (p : LineBuffer T M). cond (fits s p 0) p (page_of lines line b ms)) (spaced-page lines line b ms (Some c))
     ∙ if_true _ _ _ (le-leb (columns (spaced b line (Some c)) + 0) s.width (omega (arith, h)))
 
 pub space-full : {T M : Type 0} (s : Setting) (lines : List (Line T M)) (line : Line T M) (b : Bool) (ms : List M) (c : Character T) →
     s.width < columns (spaced b line (Some c)) → page_for_single s (page_of lines line b ms) (Some c) Preserved ≡ page_of lines line b ms
 space-full {T} {M} s lines line b ms c h =
-    ap (λ (p : Page T M). cond (fits s p 0) p (page_of lines line b ms)) (spaced-page lines line b ms (Some c))
+    ap (λ (p : LineBuffer T M). cond (fits s p 0) p (page_of lines line b ms)) (spaced-page lines line b ms (Some c))
     ∙ if_false _ _ _ (lt-leb (columns (spaced b line (Some c)) + 0) s.width (omega (arith, h)))
 
 pub soft-fitting : {T M : Type 0} (s : Setting) (lines : List (Line T M)) (line : Line T M) (b : Bool) (ms : List M) (c : Character T) →
@@ -98,7 +98,7 @@ soft-full s lines line b ms c h =
 -- ---- the parts of a line
 
 -- one more part is laid
-grown : {T M : Type 0} (s : Setting) (page next : Page T M) (ps : List (Part T M)) (p : Part T M) (rest : List (Part T M)) →
+grown : {T M : Type 0} (s : Setting) (page next : LineBuffer T M) (ps : List (Part T M)) (p : Part T M) (rest : List (Part T M)) →
     lay s page (ps ++ p ∷ rest) ≡ lay s next rest → lay s page ((ps ++ p ∷ []) ++ rest) ≡ lay s next rest
 grown s page next ps p rest e = ap (lay s page) (append_assoc ps (p ∷ []) rest) ∙ e
 
@@ -110,11 +110,11 @@ standing nothing lines rest = refl
 standing {T} {M} {s} {b} (whole {ps = ps} {line = line} {marks = ms} space word h f) lines rest =
     grown s _ (page_with_word lines (spaced b line space) b ms word) ps (Whole space word) rest
     (standing h lines (Whole space word ∷ rest)
-    ∙ ap (option_and_then (λ (p : Page T M). lay s p rest)) (put_word-fitting s lines line b ms space word f))
+    ∙ ap (option_and_then (λ (p : LineBuffer T M). lay s p rest)) (put_word-fitting s lines line b ms space word f))
 standing {T} {M} {s} {b} (alone {ps = ps} {marks = ms} space word h one o) lines rest =
     grown s _ (page_with_word lines (spaced b [] space) b ms word) ps (Whole space word) rest
     (standing h lines (Whole space word ∷ rest)
-    ∙ ap (option_and_then (λ (p : Page T M). lay s p rest)) (put_word-alone s lines b ms space word o one))
+    ∙ ap (option_and_then (λ (p : LineBuffer T M). lay s p rest)) (put_word-alone s lines b ms space word o one))
 standing {T} {M} {s} {b} (between {ps = ps} {line = line} {marks = ms} c h f) lines rest =
     grown s _ (page_of lines (spaced b line (Some c)) b ms) ps (Between c) rest
     (standing h lines (Between c ∷ rest) ∙ ap (λ p. lay s p rest) (space-fitting s lines line b ms c f))

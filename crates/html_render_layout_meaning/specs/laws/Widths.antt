@@ -35,6 +35,6 @@ lines-within {s = s} (cut {line = line} {lines = ls} space front c back h k i f 
 lines-within (stop c rest h d) = lines-within d
 lines-within (soft_stop c rest h d) = lines-within d
 
-pub paragraph_within : {T M : Type 0} (s : Setting) (marks : List M) (xs : List (Item T M)) (ls : List (Line T M)) (left : List M) →
+pub described_within : {T M : Type 0} (s : Setting) (marks : List M) (xs : List (Item T M)) (ls : List (Line T M)) (left : List M) →
     IsParagraph s marks xs ls left → All (IsWithinOrSingle s) ls
-paragraph_within s marks xs ls left h = lines-within h
+described_within s marks xs ls left h = lines-within h

@@ -7,18 +7,18 @@ use Rattle.html_render_layout_lines.specs.declared.character.Item.TheVariants as
 use Rattle.html_render_layout_lines.specs.declared.line.Element.TheVariants as element
 use Rattle.html_render_layout_lines.specs.Character.{width_of, tag_on}
 use Rattle.html_render_layout_lines.specs.Line.{Line, columns, word_columns, marks_line}
-use Rattle.html_render_layout_paragraphs.specs.Paragraph.{Page, Setting, put_character, put_items}
+use Rattle.html_render_layout_paragraphs.specs.Paragraph.{LineBuffer, Setting, put_character, put_items}
 use Rattle.html_render_layout_paragraphs.specs.Word.{line_with_word, marks_behind_word}
 use Rattle.html_render_layout_paragraphs.specs.laws.Words.{put_items-whole}
 use Rattle.html_render_layout_lines.specs.laws.Columns.{columns-push, word_columns-cons}
 use Rattle.html_render_layout_meaning.specs.Meaning.{character_count, characters_on, with_letter}
 
--- a page of finished lines, an open line, whether that continues another, and waiting marks
-abbrev pub page_of : {T M : Type 0} → List (Line T M) → Line T M → Bool → List M → Page T M
+-- a line buffer of finished lines, an open line, whether that continues another, and waiting marks
+abbrev pub page_of : {T M : Type 0} → List (Line T M) → Line T M → Bool → List M → LineBuffer T M
 page_of lines line b ms = record { lines = lines; line = line; continues = b; waiting = ms }
 
--- a page with a word on its open line
-abbrev pub page_with_word : {T M : Type 0} → List (Line T M) → Line T M → Bool → List M → List (Item T M) → Page T M
+-- a line buffer with a word on its open line
+abbrev pub page_with_word : {T M : Type 0} → List (Line T M) → Line T M → Bool → List M → List (Item T M) → LineBuffer T M
 page_with_word lines line b ms word = page_of lines (line_with_word b line ms word) b (marks_behind_word ms word)
 
 -- ---- columns and characters
@@ -110,6 +110,6 @@ put_items-alone {T} {M} s lines b ms (item.Character c ∷ word) o h =
     let put : put_character s (page_of lines [] b ms) c ≡ Some (page_of lines (with_letter b [] ms c) b []) =
     rw o (overflowing (page_of lines (with_letter b [] ms c) b []) (leb (columns {T = T} {M = M} [] + width_of c.code) s.width)
     (leb (width_of c.code) s.width)) in
-    ap (option_and_then (λ (p : Page T M). put_items s p word)) put
+    ap (option_and_then (λ (p : LineBuffer T M). put_items s p word)) put
     ∙ put_items-marks s lines (with_letter b [] ms c) b [] word (omega (arith, h))
 put_items-alone s lines b ms (item.Mark m ∷ word) o h = put_items-alone s lines b (ms ++ m ∷ []) word o h

@@ -34,14 +34,14 @@ length-flatten (node k children beside) =
 pub flatten-followed_by : {K : Type 0} (t u : Forest K) → flatten (followed_by t u) ≡ flatten t ++ flatten u
 flatten-followed_by none u = refl
 flatten-followed_by (node k children beside) u =
-    let e : Entry _ = record { node = k; size = length (flatten children) + 1 } in
+    let e : Entry _ = record { node = k; subtree_len = length (flatten children) + 1 } in
     ap (λ l. e ∷ (flatten children ++ l)) (flatten-followed_by beside u)
     ∙ ap (λ l. e ∷ l) (sym (append_assoc (flatten children) (flatten beside) (flatten u)))
 
 -- whether nodes are those of a forest in pre-order
-pub record IsForest {K : Type 0} (es : List (Entry K)) (t : Forest K) : Type 0 where
+pub record IsPreorderOf {K : Type 0} (es : List (Entry K)) (t : Forest K) : Type 0 where
   pub is : forest_of es ≡ t
   pub kept : flatten (forest_of es) ≡ es
 
-pub IsForest-flatten : {K : Type 0} (es : List (Entry K)) (t : Forest K) → es ≡ flatten t → IsForest es t
-IsForest-flatten es t e = let v = ap forest_of e ∙ forest_of-flatten t in record { is = v; kept = ap flatten v ∙ sym e }
+pub IsPreorderOf-flatten : {K : Type 0} (es : List (Entry K)) (t : Forest K) → es ≡ flatten t → IsPreorderOf es t
+IsPreorderOf-flatten es t e = let v = ap forest_of e ∙ forest_of-flatten t in record { is = v; kept = ap flatten v ∙ sym e }

@@ -1,8 +1,9 @@
 //! Copies of a render tree.
 
-ghost use Rattle.std.specs.Prelude.{◌≡◌, IfOk, IfErr};
+ghost use Rattle.std.specs.Prelude.{◌≡◌, IfOk};
+ghost use Rattle.html_render_dom_values.specs.Outcome.{OnlyOutOfMemory};
 
-use super::{Entry, Flat, RenderNode, RenderTree};
+use super::{Entry, PreorderForest, RenderNode, RenderTree};
 use html_render_dom_values::Error;
 use std::alloc::Global;
 
@@ -14,7 +15,7 @@ impl RenderNode {
     /// `OutOfMemory` if an allocation is refused.
     pub fn try_clone(&self, alloc: Global) -> Result<RenderNode, Error>
         ensures ok { IfOk result (λ node. node ≡ self.now) }
-        ensures err { IfErr result (λ e. e ≡ Error.OutOfMemory) }
+        ensures err { OnlyOutOfMemory result }
     {
         Ok(RenderNode {
             kind: self.kind.try_clone(alloc)?,
@@ -27,19 +28,19 @@ impl RenderNode {
 /// Returns a copy of an entry.
 fn copy_of(alloc: Global, entry: &Entry<RenderNode>) -> Result<Entry<RenderNode>, Error>
     ensures ok { IfOk result (λ copy. copy ≡ entry.now) }
-    ensures err { IfErr result (λ e. e ≡ Error.OutOfMemory) }
+    ensures err { OnlyOutOfMemory result }
 {
     let node = entry.node.try_clone(alloc)?;
     Ok(Entry {
         node,
-        size: entry.size,
+        subtree_len: entry.subtree_len,
     })
 }
 
 /// Returns copies of the entries, in order.
 fn copies_of(alloc: Global, entries: &[Entry<RenderNode>]) -> Result<Vec<Entry<RenderNode>>, Error>
     ensures ok { IfOk result (λ copies. copies.items ≡ entries.now) }
-    ensures err { IfErr result (λ e. e ≡ Error.OutOfMemory) }
+    ensures err { OnlyOutOfMemory result }
 {
     let mut copies = Vec::with_capacity(alloc, entries.len())?;
     for entry in entries {
@@ -58,13 +59,13 @@ impl RenderTree {
     #[tactic(auto, using(crate::proofs::Copies::copied))]
     pub fn try_clone(&self, alloc: Global) -> Result<RenderTree, Error>
         ensures ok { IfOk result (λ tree. tree ≡ self.now) }
-        ensures err { IfErr result (λ e. e ≡ Error.OutOfMemory) }
+        ensures err { OnlyOutOfMemory result }
     {
         let entries = copies_of(alloc, self.nodes.entries())?;
         let mut depths = Vec::new(alloc);
         depths.extend_from_slice(&self.depths)?;
         Ok(RenderTree {
-            nodes: Flat::from_entries(entries),
+            nodes: PreorderForest::from_entries(entries),
             depths,
         })
     }

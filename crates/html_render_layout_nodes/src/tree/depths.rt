@@ -1,9 +1,10 @@
 //! Depths of the nodes of a render tree, computed in one pass over the nodes.
 
-ghost use Rattle.std.specs.Prelude.{◌≡◌, ◌↔◌, [], reverse, OnOk, IfOk, IfErr, IsTrue};
-ghost use Rattle.html_render_layout_nodes.specs.Depths.{open_at, with_part, depths_from, EndsAt};
+ghost use Rattle.std.specs.Prelude.{◌≡◌, ◌↔◌, [], reverse, OnOk, IfOk, IsTrue};
+ghost use Rattle.html_render_dom_values.specs.Outcome.{OnlyOutOfMemory};
+ghost use Rattle.html_render_layout_nodes.specs.Depths.{ends_open_at, with_part, depths_from, EndsAt};
 
-use super::{Entry, Flat, RenderNode, RenderTree};
+use super::{Entry, PreorderForest, RenderNode, RenderTree};
 use html_render_dom_values::Error;
 use std::alloc::{AllocError, Global};
 
@@ -19,7 +20,7 @@ fn ends_at(ends: &[usize], place: usize) -> bool
 
 /// Pops the ends of all subtrees that end at `place`.
 fn leave(ends: &mut Vec<usize>, place: usize)
-    ensures { reverse ends.new.items ≡ open_at place (reverse ends.old.items) }
+    ensures { reverse ends.new.items ≡ ends_open_at place (reverse ends.old.items) }
 {
     'leaving: while ends_at(ends.as_slice(), place) {
         ends.pop();
@@ -45,7 +46,7 @@ fn depths_of(alloc: Global, entries: &[Entry<RenderNode>]) -> Result<Vec<usize>,
     for (place, entry) in entries.iter().enumerate() {
         leave(&mut ends, place);
         depths.push(ends.len())?;
-        begin(&mut ends, place, entry.size)?;
+        begin(&mut ends, place, entry.subtree_len)?;
     }
     Ok(depths)
 }
@@ -56,9 +57,9 @@ impl RenderTree {
     /// # Errors
     ///
     /// `OutOfMemory` if an allocation is refused.
-    pub fn new(alloc: Global, nodes: Flat<RenderNode>) -> Result<RenderTree, Error>
+    pub fn new(alloc: Global, nodes: PreorderForest<RenderNode>) -> Result<RenderTree, Error>
         ensures ok { IfOk result (λ tree. tree ≡ nodes) }
-        ensures err { IfErr result (λ e. e ≡ Error.OutOfMemory) }
+        ensures err { OnlyOutOfMemory result }
     {
         let depths = depths_of(alloc, nodes.entries())?;
         Ok(RenderTree { nodes, depths })

@@ -2,14 +2,14 @@
 
 ghost use Rattle.std.specs.Prelude.{◌≡◌, Some, replicate};
 ghost use Rattle.std.specs.Fmt.{WritesOnOk};
-ghost use Rattle.html_render_layout_nodes.specs.Dump.{dump, line};
+ghost use Rattle.html_render_layout_nodes.specs.Dump.{tree_dump, tree_line};
 
 use super::RenderTree;
 use std::fmt;
 
 /// Writes `depth` spaces, a name and a line feed.
 fn write_line<W: fmt::Write>(f: &mut fmt::Formatter<W>, depth: usize, name: &str) -> fmt::Result
-    ensures { WritesOnOk W.write_str_gives f.old result (line depth name.now) f.new }
+    ensures { WritesOnOk W.write_str_gives f.old result (tree_line depth name.now) f.new }
 {
     write_indent(f, depth)?;
     f.write_str(name)?;
@@ -29,7 +29,7 @@ fn write_indent<W: fmt::Write>(f: &mut fmt::Formatter<W>, depth: usize) -> fmt::
 /// Displays a render tree as one line for each node in pre-order: its depth in spaces, the name of its kind, and a line
 /// feed. Allocates nothing.
 impl fmt::Display for RenderTree {
-    ghost output = { λ tree. Some (dump 0 tree) };
+    ghost output = { λ tree. Some (tree_dump 0 tree) };
 
     fn fmt<W: fmt::Write>(&self, f: &mut fmt::Formatter<W>) -> fmt::Result {
         for (at, entry) in self.nodes.entries().iter().enumerate() {

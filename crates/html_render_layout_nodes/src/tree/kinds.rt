@@ -1,6 +1,7 @@
 //! Properties of each kind of node: its name in a dump, whether it accepts insertions, and its copy.
 
-ghost use Rattle.std.specs.Prelude.{◌≡◌, IfOk, IfErr};
+ghost use Rattle.std.specs.Prelude.{◌≡◌, IfOk};
+ghost use Rattle.html_render_dom_values.specs.Outcome.{OnlyOutOfMemory};
 ghost use Rattle.html_render_layout_nodes.specs.Kinds.{holds_insertions, kind_name};
 
 use super::{Emphasis, Grid, Image, NodeKind};
@@ -11,7 +12,7 @@ impl Image {
     /// Returns a copy of the image.
     fn try_clone(&self, alloc: Global) -> Result<Image, Error>
         ensures ok { IfOk result (λ image. image ≡ self.now) }
-        ensures err { IfErr result (λ e. e ≡ Error.OutOfMemory) }
+        ensures err { OnlyOutOfMemory result }
     {
         let source = self.source().clone()?;
         let title = self.title().clone()?;
@@ -23,7 +24,7 @@ impl Grid {
     /// Returns a copy of the grid.
     fn try_clone(&self, alloc: Global) -> Result<Grid, Error>
         ensures ok { IfOk result (λ grid. grid ≡ self.now) }
-        ensures err { IfErr result (λ e. e ≡ Error.OutOfMemory) }
+        ensures err { OnlyOutOfMemory result }
     {
         let cells = self.cells().try_clone(alloc)?;
         let needs = Vec::from_slice(alloc, self.needs())?;
@@ -93,7 +94,7 @@ impl NodeKind {
     /// `OutOfMemory` if an allocation is refused.
     pub fn try_clone(&self, alloc: Global) -> Result<NodeKind, Error>
         ensures ok { IfOk result (λ kind. kind ≡ self.now) }
-        ensures err { IfErr result (λ e. e ≡ Error.OutOfMemory) }
+        ensures err { OnlyOutOfMemory result }
     {
         Ok(match self {
             NodeKind::Text(text) => NodeKind::Text(text.clone()?),

@@ -9,7 +9,7 @@ use Rattle.html_render_layout_lines.specs.declared.line.Element.{Element}
 use Rattle.html_render_layout_lines.specs.declared.line.Element.TheVariants as element
 use Rattle.html_render_layout_lines.specs.Character.{width_of, tag_on, character_of}
 use Rattle.html_render_layout_lines.specs.Line.{Line, columns, element_width, is_empty}
-use Rattle.html_render_layout_paragraphs.specs.Paragraph.{Page, Setting, blank_page, with_character, continued, put_character, put_items}
+use Rattle.html_render_layout_paragraphs.specs.Paragraph.{LineBuffer, Setting, empty_buffer, with_character, continued, put_character, put_items}
 use Rattle.html_render_layout_paragraphs.specs.Stream.{styled}
 use Rattle.html_render_layout_lines.specs.TaggedText.{under}
 use Rattle.html_render_layout_paragraphs.specs.CutText.{kept_style, text_lines, together, AreLongest}
@@ -50,11 +50,11 @@ pushed-some : {A : Type 0} (xs : List A) (x : A) → xs ++ x ∷ [] ≡ [] → �
 pushed-some [] x e = cc
 pushed-some (y ∷ xs) x e = cc
 
--- ---- The page of a text that is cut
+-- ---- The line buffer of a text that is cut
 
--- Whether a page has exactly these elements, no mark waits, and its lines are full. Its open line is empty only if
+-- Whether a line buffer has exactly these elements, no mark waits, and its lines are full. Its open line is empty only if
 -- there is no other line.
-record Fills {T M : Type 0} (w : ℕ) (all : Line T M) (page : Page T M) : Type 0 where
+record Fills {T M : Type 0} (w : ℕ) (all : Line T M) (page : LineBuffer T M) : Type 0 where
   pub elements : together page.lines ++ page.line ≡ all
   pub longest : AreLongest w (page.lines ++ page.line ∷ [])
   pub first : page.line ≡ [] → page.lines ≡ []
@@ -65,7 +65,7 @@ one_tag : {T : Type 0} (M : Type 0) (b : Bool) (tag : T) (c : ℕ) (ms : List M)
 one_tag M true tag c ms none = rw none refl
 one_tag M false tag c ms none = rw none refl
 
-on_line_fills : {T M : Type 0} (w : ℕ) (all : Line T M) (page : Page T M) (tag : T) (c : ℕ) → Fills w all page →
+on_line_fills : {T M : Type 0} (w : ℕ) (all : Line T M) (page : LineBuffer T M) (tag : T) (c : ℕ) → Fills w all page →
     Fills w (all ++ element.Character c tag ∷ []) (with_character page (character_of (kept_style tag) c))
 on_line_fills {T} {M} w all page tag c h =
     subst (λ (l : Line T M). Fills w (all ++ element.Character c tag ∷ []) (record page { line = page.line ++ l; waiting = [] }))
@@ -77,10 +77,10 @@ on_line_fills {T} {M} w all page tag c h =
       none_waits = refl;
     })
 
-on_next_line_fills : {T M : Type 0} (w : ℕ) (all : Line T M) (page : Page T M) (tag : T) (c : ℕ) → w < columns page.line + width_of c →
+on_next_line_fills : {T M : Type 0} (w : ℕ) (all : Line T M) (page : LineBuffer T M) (tag : T) (c : ℕ) → w < columns page.line + width_of c →
     Fills w all page → Fills w (all ++ element.Character c tag ∷ []) (with_character (continued page) (character_of (kept_style tag) c))
 on_next_line_fills {T} {M} w all page tag c more h =
-    if_cases (λ (p : Page T M). Fills w (all ++ element.Character c tag ∷ []) (with_character p (character_of (kept_style tag) c)))
+    if_cases (λ (p : LineBuffer T M). Fills w (all ++ element.Character c tag ∷ []) (with_character p (character_of (kept_style tag) c)))
     (is_empty page.line) _ _ (λ _. on_line_fills w all page tag c h)
     (λ _. subst (λ (l : Line T M). Fills w (all ++ element.Character c tag ∷ [])
     (record { lines = page.lines ++ page.line ∷ []; line = l; continues = true; waiting = [] }))
@@ -91,43 +91,43 @@ on_next_line_fills {T} {M} w all page tag c more h =
       none_waits = refl;
     }))
 
-put_character_fills : {T M : Type 0} (s : Setting) (all : Line T M) (page : Page T M) (tag : T) (c : ℕ) → Fills s.width all page →
+put_character_fills : {T M : Type 0} (s : Setting) (all : Line T M) (page : LineBuffer T M) (tag : T) (c : ℕ) → Fills s.width all page →
     IfSome (put_character s page (character_of (kept_style tag) c)) (Fills s.width (all ++ element.Character c tag ∷ []))
 put_character_fills {T} {M} s all page tag c h =
-    let Filled : Option (Page T M) → Type 0 = λ o. IfSome o (Fills s.width (all ++ element.Character c tag ∷ [])) in
+    let Filled : Option (LineBuffer T M) → Type 0 = λ o. IfSome o (Fills s.width (all ++ element.Character c tag ∷ [])) in
     if_cases Filled (leb (columns page.line + width_of c) s.width) _ _ (λ _. on_line_fills s.width all page tag c h)
     (λ e. if_cases Filled (leb (width_of c) s.width || s.overflow) _ _
     (λ _. on_next_line_fills s.width all page tag c (leb-false _ _ e) h) (λ _. tt))
 
-put_items_fill : {T M : Type 0} (s : Setting) (all : Line T M) (page : Page T M) (tag : T) (cs : List ℕ) → Fills s.width all page →
+put_items_fill : {T M : Type 0} (s : Setting) (all : Line T M) (page : LineBuffer T M) (tag : T) (cs : List ℕ) → Fills s.width all page →
     IfSome (put_items s page (styled (kept_style tag) cs)) (Fills s.width (all ++ under tag cs))
 put_items_fill s all page tag [] h = subst (λ l. Fills s.width l page) (sym (append-nil all)) h
 put_items_fill {T} {M} s all page tag (c ∷ cs) h =
     let more : Line T M = all ++ element.Character c tag ∷ [] in
     bind_some (Fills s.width more) (Fills s.width (all ++ under tag (c ∷ cs)))
-    (λ (p : Page T M). put_items s p (styled (kept_style tag) cs)) (put_character s page (character_of (kept_style tag) c))
+    (λ (p : LineBuffer T M). put_items s p (styled (kept_style tag) cs)) (put_character s page (character_of (kept_style tag) c))
     (put_character_fills s all page tag c h)
     (λ p k. subst (λ l. IfSome (put_items s p (styled (kept_style tag) cs)) (Fills s.width l))
     (append_assoc all (element.Character c tag ∷ []) (under tag cs)) (put_items_fill s more p tag cs k))
 
 text_fills : {T : Type 0} (M : Type 0) (s : Setting) (tag : T) (cs : List ℕ) →
-    IfSome (put_items s (blank_page []) (styled (kept_style tag) cs)) (Fills {M = M} s.width (under tag cs))
+    IfSome (put_items s (empty_buffer []) (styled (kept_style tag) cs)) (Fills {M = M} s.width (under tag cs))
 text_fills M s tag cs =
-    put_items_fill s [] (blank_page []) tag cs (record { elements = refl; longest = tt; first = λ e. refl; none_waits = refl })
+    put_items_fill s [] (empty_buffer []) tag cs (record { elements = refl; longest = tt; first = λ e. refl; none_waits = refl })
 
 -- THE LAW: the lines have each character of the text, in order, and nothing else.
 pub cut_holds : {T : Type 0} (M : Type 0) (s : Setting) (tag : T) (cs : List ℕ) →
     IfSome (text_lines {M = M} s true tag cs) (λ ls. together ls ≡ under tag cs)
 cut_holds {T} M s tag cs =
-    map_if (Fills s.width (under tag cs)) (λ ls. together ls ≡ under tag cs) (λ (p : Page T M). p.lines ++ p.line ∷ [])
-    (put_items s (blank_page []) (styled (kept_style tag) cs)) (text_fills M s tag cs) (λ p h. together-push p.lines p.line ∙ h.elements)
+    map_if (Fills s.width (under tag cs)) (λ ls. together ls ≡ under tag cs) (λ (p : LineBuffer T M). p.lines ++ p.line ∷ [])
+    (put_items s (empty_buffer []) (styled (kept_style tag) cs)) (text_fills M s tag cs) (λ p h. together-push p.lines p.line ∙ h.elements)
 
 -- THE LAW: a text is cut only where a line is full.
 pub cut_longest : {T : Type 0} (M : Type 0) (s : Setting) (tag : T) (cs : List ℕ) →
     IfSome (text_lines {M = M} s true tag cs) (AreLongest s.width)
 cut_longest {T} M s tag cs =
-    map_if (Fills s.width (under tag cs)) (AreLongest s.width) (λ (p : Page T M). p.lines ++ p.line ∷ [])
-    (put_items s (blank_page []) (styled (kept_style tag) cs)) (text_fills M s tag cs) (λ p h. h.longest)
+    map_if (Fills s.width (under tag cs)) (AreLongest s.width) (λ (p : LineBuffer T M). p.lines ++ p.line ∷ [])
+    (put_items s (empty_buffer []) (styled (kept_style tag) cs)) (text_fills M s tag cs) (λ p h. h.longest)
 
 -- ---- Tags
 
@@ -136,10 +136,10 @@ module _ {T U M : Type 0} (f : T → U) where
   pub cut-with : (s : Setting) (tag : T) (cs : List ℕ) →
       text_lines s true (f tag) cs ≡ option_map (lines_with {M = M} f) (text_lines s true tag cs)
   cut-with s tag cs =
-      map_with (page_with f) (lines_with f) (λ (p : Page T M). p.lines ++ p.line ∷ []) (λ (p : Page U M). p.lines ++ p.line ∷ [])
-      (put_items s (blank_page []) (styled (kept_style tag) cs)) (put_items s (blank_page []) (styled (kept_style (f tag)) cs))
-      (ap (put_items s (blank_page [])) (sym (styled-with f (kept_style tag) cs))
-      ∙ put_items-with f s (blank_page []) (styled (kept_style tag) cs))
+      map_with (page_with f) (lines_with f) (λ (p : LineBuffer T M). p.lines ++ p.line ∷ []) (λ (p : LineBuffer U M). p.lines ++ p.line ∷ [])
+      (put_items s (empty_buffer []) (styled (kept_style tag) cs)) (put_items s (empty_buffer []) (styled (kept_style (f tag)) cs))
+      (ap (put_items s (empty_buffer [])) (sym (styled-with f (kept_style tag) cs))
+      ∙ put_items-with f s (empty_buffer []) (styled (kept_style tag) cs))
       (λ p. sym (map-append (line_with f) p.lines (p.line ∷ [])))
 
 pub ruleset cuts = (cut_holds, cut_longest)

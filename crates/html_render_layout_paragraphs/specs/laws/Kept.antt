@@ -7,7 +7,7 @@ use Rattle.html_render_layout_lines.specs.declared.character.Character.{Characte
 use Rattle.html_render_layout_lines.specs.declared.character.Item.{Item}
 use Rattle.html_render_layout_lines.specs.declared.character.Item.TheVariants as item
 use Rattle.html_render_layout_lines.specs.Character.{kind}
-use Rattle.html_render_layout_paragraphs.specs.Paragraph.{Page, Setting, put_word, put_single, page_for_single}
+use Rattle.html_render_layout_paragraphs.specs.Paragraph.{LineBuffer, Setting, put_word, put_single, page_for_single}
 use Rattle.html_render_layout_paragraphs.specs.Stream.{State, end_word, joins, begin_word, single_step, then_single, with_pending, character_step}
 use Rattle.html_render_layout_paragraphs.specs.Stream.{step, after}
 use Rattle.html_render_layout_lines.specs.laws.Cases.{bind_some, map_if, if_cases}
@@ -15,7 +15,7 @@ use Rattle.html_render_layout_lines.specs.laws.Cases.{bind_some, map_if, if_case
 abbrev Has : {T M : Type 0} → Setting → State T M → Type 0
 Has s t = t.setting ≡ s
 
-page_has : {T M : Type 0} (s : Setting) (f : Page T M → State T M) (o : Option (Page T M)) → ((p : Page T M) → Has s (f p)) →
+page_has : {T M : Type 0} (s : Setting) (f : LineBuffer T M → State T M) (o : Option (LineBuffer T M)) → ((p : LineBuffer T M) → Has s (f p)) →
     IfSome (option_map f o) (Has s)
 page_has s f None k = tt
 page_has s f (Some p) k = k p

@@ -4,7 +4,7 @@ use Rattle.std.proofs.Common.{◌≡◌, ℕ, ◌+◌, Bool, true, false, cond, 
 use Rattle.html_render_layout_lines.specs.Character.{width_of}
 use Rattle.html_render_layout_lines.specs.Line.{columns}
 use Rattle.html_render_layout_lines.specs.declared.character.Item.{Item}
-use Rattle.html_render_layout_paragraphs.specs.Paragraph.{Page, without_overflow, with_overflow, paragraph}
+use Rattle.html_render_layout_paragraphs.specs.Paragraph.{LineBuffer, without_overflow, with_overflow, paragraph}
 use Rattle.html_render_layout_paragraphs.specs.laws.Answers.{Both}
 use Rattle.html_render_layout_paragraphs.specs.laws.Beside.{Holds, paragraph-beside}
 
@@ -22,7 +22,7 @@ same true false false x y = (refl, tt)
 same false false false x y = tt
 
 module _ {T M : Type 0} (w : ℕ) where
-  -- THE LAW: with overflow on there is always a page.
+  -- THE LAW: with overflow on there is always a line buffer.
   pub answers : Holds {T = T} {M = M} (λ o. o) ⊥ ⊥ (λ x. x) (with_overflow w) (λ p. Unit {0})
   answers = record {
     blank = λ marks. tt;
@@ -34,7 +34,7 @@ module _ {T M : Type 0} (w : ℕ) where
     next = λ p h. tt;
   }
 
-  -- THE LAW: where there is a page, it is the same with overflow on.
+  -- THE LAW: where there is a line buffer, it is the same with overflow on.
   pub refines : (o : Bool) → Holds {T = T} {M = M} (λ o. true) (Unit {0}) (Unit {0}) (λ x. x) (record { width = w; overflow = o }) (λ p. Unit {0})
   refines o = record {
     blank = λ marks. tt;
@@ -52,18 +52,18 @@ paragraph_some {T} {M} w marks xs =
     by (paragraph (with_overflow w) marks xs)
     (paragraph-beside (λ o. o) ⊥ ⊥ (λ x. x) (with_overflow w) (λ p. Unit {0}) (answers w) marks xs)
   where
-    by : (o : Option (Page T M)) → Both ⊥ ⊥ (λ p q. (q ≡ p) × Unit {0}) o o → IsSome o
+    by : (o : Option (LineBuffer T M)) → Both ⊥ ⊥ (λ p q. (q ≡ p) × Unit {0}) o o → IsSome o
     by None k = absurd k
     by (Some p) k = refl
 
--- THE LAW of a paragraph: where it has a page with overflow off, it has the same page with overflow on.
-pub paragraph_same : {T M : Type 0} (w : ℕ) (marks : List M) (xs : List (Item T M)) (q : Page T M) →
+-- THE LAW of a paragraph: where it has a line buffer with overflow off, it has the same line buffer with overflow on.
+pub paragraph_same : {T M : Type 0} (w : ℕ) (marks : List M) (xs : List (Item T M)) (q : LineBuffer T M) →
     paragraph (without_overflow w) marks xs ≡ Some q → paragraph (with_overflow w) marks xs ≡ Some q
 paragraph_same {T} {M} w marks xs q e =
     by (paragraph (without_overflow w) marks xs) (paragraph (with_overflow w) marks xs) e
     (paragraph-beside (λ o. true) (Unit {0}) (Unit {0}) (λ x. x) (without_overflow w) (λ p. Unit {0}) (refines w false) marks xs)
   where
-    by : (o p : Option (Page T M)) → o ≡ Some q → Both (Unit {0}) (Unit {0}) (λ p q. (q ≡ p) × Unit {0}) o p → p ≡ Some q
+    by : (o p : Option (LineBuffer T M)) → o ≡ Some q → Both (Unit {0}) (Unit {0}) (λ p q. (q ≡ p) × Unit {0}) o p → p ≡ Some q
     by None p e k = cc
     by (Some x) None e k = absurd k
     by (Some x) (Some y) e k = ap Some k.0 ∙ e

@@ -13,7 +13,7 @@ use Rattle.html_render_layout_lines.specs.declared.character.Item.TheVariants as
 use Rattle.html_render_layout_lines.specs.declared.line.Element.TheVariants as element
 use Rattle.html_render_layout_lines.specs.Character.{kind, width_of, tag_on}
 use Rattle.html_render_layout_lines.specs.Line.{Line, columns, item_width, word_columns, is_empty}
-use Rattle.html_render_layout_paragraphs.specs.Paragraph.{Page, Setting, with_waiting_mark, with_character, with_line_break, put_character, put_items}
+use Rattle.html_render_layout_paragraphs.specs.Paragraph.{LineBuffer, Setting, with_waiting_mark, with_character, with_line_break, put_character, put_items}
 use Rattle.html_render_layout_paragraphs.specs.Paragraph.{put_fitting, put_word, put_single, page_for_word, with_due_space, continued, page_for_single}
 use Rattle.html_render_layout_paragraphs.specs.Paragraph.{tab_spaces, fits, all_lines}
 use Rattle.html_render_layout_lines.specs.Tags.{element_with, line_with, lines_with}
@@ -44,8 +44,8 @@ module _ {T U M : Type 0} (f : T → U) where
   item_with (item.Character c) = item.Character (character_with f c)
   item_with (item.Mark m) = item.Mark m
 
-  -- Page with its tags mapped.
-  abbrev pub page_with : Page T M → Page U M
+  -- Line buffer with its tags mapped.
+  abbrev pub page_with : LineBuffer T M → LineBuffer U M
   page_with p = record { lines = lines_with f p.lines; line = line_with f p.line; continues = p.continues; waiting = p.waiting }
 
   -- State of a paragraph with its tags mapped.
@@ -65,7 +65,7 @@ module _ {T U M : Type 0} (f : T → U) where
   word_columns-with : (w : List (Item T M)) → word_columns (map item_with w) ≡ word_columns w
   word_columns-with w = sum_same item_with (λ e. item_width e) (λ e. item_width e) item_same 0 w
 
-  with_character-with : (p : Page T M) (c : Character T) →
+  with_character-with : (p : LineBuffer T M) (c : Character T) →
       with_character (page_with p) (character_with f c) ≡ page_with (with_character p c)
   with_character-with p c =
       let marks : Line T M = map (λ (m : M). element.Mark m) p.waiting in
@@ -79,19 +79,19 @@ module _ {T U M : Type 0} (f : T → U) where
   empty-with : (l : Line T M) → is_empty (line_with f l) ≡ is_empty l
   empty-with l = ap (λ n. eqb n 0) (length-map l (element_with f))
 
-  continued-with : (p : Page T M) → continued (page_with p) ≡ page_with (continued p)
+  continued-with : (p : LineBuffer T M) → continued (page_with p) ≡ page_with (continued p)
   continued-with p = if_with page_with (is_empty p.line) _ _ _ _ _ (empty-with p.line) refl
       (ap (λ ls. record { lines = ls; line = []; continues = true; waiting = p.waiting }) (sym (map-append (line_with f) p.lines (p.line ∷ []))))
 
-  with_line_break-with : (p : Page T M) → with_line_break (page_with p) ≡ page_with (with_line_break p)
+  with_line_break-with : (p : LineBuffer T M) → with_line_break (page_with p) ≡ page_with (with_line_break p)
   with_line_break-with p = ap (λ ls. record { lines = ls; line = []; continues = false; waiting = p.waiting })
       (sym (map-append (line_with f) p.lines (p.line ∷ [])))
 
   module _ (s : Setting) where
-    fits-with : (p : Page T M) (n : ℕ) → fits s (page_with p) n ≡ fits s p n
+    fits-with : (p : LineBuffer T M) (n : ℕ) → fits s (page_with p) n ≡ fits s p n
     fits-with p n = ap (λ c. leb (c + n) s.width) (columns-with f p.line)
 
-    put_character-with : (p : Page T M) (c : Character T) →
+    put_character-with : (p : LineBuffer T M) (c : Character T) →
         put_character s (page_with p) (character_with f c) ≡ option_map page_with (put_character s p c)
     put_character-with p c =
         if_with (option_map page_with) (fits s p (width_of c.code)) (fits s (page_with p) (width_of c.code)) _ _ _ _
@@ -104,7 +104,7 @@ module _ {T U M : Type 0} (f : T → U) where
     items-with [] = refl
     items-with (c ∷ cs) = ap (λ xs. item.Character (character_with f c) ∷ xs) (items-with cs)
 
-    pub put_items-with : (p : Page T M) (xs : List (Item T M)) →
+    pub put_items-with : (p : LineBuffer T M) (xs : List (Item T M)) →
         put_items s (page_with p) (map item_with xs) ≡ option_map page_with (put_items s p xs)
     put_items-with p [] = refl
     put_items-with p (item.Character c ∷ xs) =
@@ -112,17 +112,17 @@ module _ {T U M : Type 0} (f : T → U) where
         (put_character-with p c) (λ q. put_items-with q xs)
     put_items-with p (item.Mark m ∷ xs) = put_items-with (with_waiting_mark p m) xs
 
-    put_fitting-with : (p : Page T M) (c : Character T) → put_fitting s (page_with p) (character_with f c) ≡ page_with (put_fitting s p c)
+    put_fitting-with : (p : LineBuffer T M) (c : Character T) → put_fitting s (page_with p) (character_with f c) ≡ page_with (put_fitting s p c)
     put_fitting-with p c = if_with page_with (fits s p (width_of c.code)) (fits s (page_with p) (width_of c.code)) _ _ _ _
         (fits-with p (width_of c.code)) (with_character-with p c) refl
 
-    put_all_fitting-with : (p : Page T M) (cs : List (Character T)) →
+    put_all_fitting-with : (p : LineBuffer T M) (cs : List (Character T)) →
         fold (put_fitting s) (page_with p) (map (character_with f) cs) ≡ page_with (fold (put_fitting s) p cs)
     put_all_fitting-with p [] = refl
     put_all_fitting-with p (c ∷ cs) = ap (λ q. fold (put_fitting s) q (map (character_with f) cs)) (put_fitting-with p c)
         ∙ put_all_fitting-with (put_fitting s p c) cs
 
-    with_due_space-with : (p : Page T M) (o : Option (Character T)) →
+    with_due_space-with : (p : LineBuffer T M) (o : Option (Character T)) →
         with_due_space (page_with p) (option_map (character_with f) o) ≡ page_with (with_due_space p o)
     with_due_space-with p None = refl
     with_due_space-with p (Some c) = if_with page_with (is_empty p.line) _ _ _ _ _ (empty-with p.line) refl
@@ -130,11 +130,11 @@ module _ {T U M : Type 0} (f : T → U) where
         (ap (λ t. line_with f p.line ++ element.Character 32 t ∷ []) (tag_on-with f p.continues c)
         ∙ sym (map-append (element_with f) p.line (element.Character 32 (tag_on p.continues c) ∷ []))))
 
-    due_fits-with : (p : Page T M) (o : Option (Character T)) (n : ℕ) →
+    due_fits-with : (p : LineBuffer T M) (o : Option (Character T)) (n : ℕ) →
         fits s (with_due_space (page_with p) (option_map (character_with f) o)) n ≡ fits s (with_due_space p o) n
     due_fits-with p o n = ap (λ q. fits s q n) (with_due_space-with p o) ∙ fits-with (with_due_space p o) n
 
-    page_for_word-with : (p : Page T M) (o : Option (Character T)) (w : List (Item T M)) →
+    page_for_word-with : (p : LineBuffer T M) (o : Option (Character T)) (w : List (Item T M)) →
         page_for_word s (page_with p) (option_map (character_with f) o) (map item_with w) ≡ page_with (page_for_word s p o w)
     page_for_word-with p o w =
         if_with page_with (fits s (with_due_space p o) (word_columns w)) _ _ _ _ _
@@ -142,22 +142,22 @@ module _ {T U M : Type 0} (f : T → U) where
         ∙ due_fits-with p o (word_columns w))
         (with_due_space-with p o) (continued-with p)
 
-    put_word-with : (p : Page T M) (o : Option (Character T)) (w : List (Item T M)) →
+    put_word-with : (p : LineBuffer T M) (o : Option (Character T)) (w : List (Item T M)) →
         put_word s (page_with p) (option_map (character_with f) o) (map item_with w) ≡ option_map page_with (put_word s p o w)
     put_word-with p o w = ap (λ q. put_items s q (map item_with w)) (page_for_word-with p o w) ∙ put_items-with (page_for_word s p o w) w
 
-    page_for_single-with : (p : Page T M) (o : Option (Character T)) (k : Kind) →
+    page_for_single-with : (p : LineBuffer T M) (o : Option (Character T)) (k : Kind) →
         page_for_single s (page_with p) (option_map (character_with f) o) k ≡ page_with (page_for_single s p o k)
     page_for_single-with p o Newline = refl
     page_for_single-with p o k =
         if_with page_with (fits s (with_due_space p o) 0) _ _ _ _ _ (due_fits-with p o 0) (with_due_space-with p o) refl
 
-    tab_spaces-with : (p : Page T M) (c : Character T) →
+    tab_spaces-with : (p : LineBuffer T M) (c : Character T) →
         tab_spaces (page_with p) (character_with f c) ≡ map (character_with f) (tab_spaces p c)
     tab_spaces-with p c = ap (λ n. replicate (8 - n % 8) (record (character_with f c) { code = 32 })) (columns-with f p.line)
         ∙ sym (replicate-with f (8 - columns p.line % 8) (record c { code = 32 }))
 
-    put_single-with : (p : Page T M) (k : Kind) (c : Character T) →
+    put_single-with : (p : LineBuffer T M) (k : Kind) (c : Character T) →
         put_single s (page_with p) k (character_with f c) ≡ option_map page_with (put_single s p k c)
     put_single-with p Preserved c = put_character-with p c
     put_single-with p SoftSpace c = ap Some (put_fitting-with p c)
@@ -232,6 +232,6 @@ module _ {T U M : Type 0} (f : T → U) where
       ap (λ l. item_with (item.Character
       (record { code = c; mode = style.mode; tag = style.tag; continuation_tag = style.continuation_tag })) ∷ l) (styled-with style cs)
 
-  pub all_lines-with : (p : Page T M) → all_lines (page_with p) ≡ lines_with f (all_lines p)
+  pub all_lines-with : (p : LineBuffer T M) → all_lines (page_with p) ≡ lines_with f (all_lines p)
   all_lines-with p = if_with (lines_with f) (is_empty p.line) _ _ _ _ _ (empty-with p.line) refl
       (sym (map-append (line_with f) p.lines (p.line ∷ [])))

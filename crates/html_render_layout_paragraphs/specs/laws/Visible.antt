@@ -18,30 +18,30 @@ use Rattle.html_render_layout_lines.specs.declared.character.Item.TheVariants as
 use Rattle.html_render_layout_lines.specs.declared.line.Element.TheVariants as element
 use Rattle.html_render_layout_lines.specs.Character.{kind, is_collapsible, has_no_width, width_of, tag_on}
 use Rattle.html_render_layout_lines.specs.Line.{Line, columns, marks_line, word_columns, is_empty}
-use Rattle.html_render_layout_paragraphs.specs.Paragraph.{Piece, Word, Gap, Cut, Single, Loose, pieces, with_kind, with_mark, Page, Setting, fits}
+use Rattle.html_render_layout_paragraphs.specs.Paragraph.{Piece, Word, Gap, Cut, Single, Loose, pieces, with_kind, with_mark, LineBuffer, Setting, fits}
 use Rattle.html_render_layout_paragraphs.specs.Paragraph.{with_waiting_mark, with_character, with_line_break, put_character, put_items, put_word, put_single}
 use Rattle.html_render_layout_paragraphs.specs.Paragraph.{page_for_word, with_due_space, continued, page_for_single, put_fitting, tab_spaces, place}
-use Rattle.html_render_layout_paragraphs.specs.Paragraph.{paragraph, blank_page, all_lines}
+use Rattle.html_render_layout_paragraphs.specs.Paragraph.{paragraph, empty_buffer, all_lines}
 use Rattle.html_render_layout_lines.specs.laws.Visible.{visible_in_line-append, visible_in_lines-push, visible_in_line-marks}
 use Rattle.html_render_layout_lines.specs.Visible.{is_visible, if_visible, visible_in_items, visible_in_line, visible_in_lines}
 use Rattle.html_render_layout_lines.specs.laws.Cases.{bind_some, if_cases, nil_from_is_empty}
 use Rattle.html_render_layout_paragraphs.specs.laws.Cases.{page_for_single_cases}
 
--- Visible characters of a page, in order.
-abbrev seen : {T M : Type 0} → Page T M → List ℕ
+-- Visible characters of a line buffer, in order.
+abbrev seen : {T M : Type 0} → LineBuffer T M → List ℕ
 seen page = visible_in_lines page.lines ++ visible_in_line page.line
 
--- Whether page p has the visible characters of `page`, followed by these.
-abbrev Adds : {T M : Type 0} → Page T M → List ℕ → Page T M → Type 0
+-- Whether line buffer p has the visible characters of `page`, followed by these.
+abbrev Adds : {T M : Type 0} → LineBuffer T M → List ℕ → LineBuffer T M → Type 0
 Adds page cs p = seen p ≡ seen page ++ cs
 
-adds_none : {T M : Type 0} (page p : Page T M) → seen p ≡ seen page → Adds page [] p
+adds_none : {T M : Type 0} (page p : LineBuffer T M) → seen p ≡ seen page → Adds page [] p
 adds_none page p e = e ∙ sym (append-nil (seen page))
 
-adds_then : {T M : Type 0} (page p q : Page T M) (cs ds : List ℕ) → Adds page cs p → Adds p ds q → Adds page (cs ++ ds) q
+adds_then : {T M : Type 0} (page p q : LineBuffer T M) (cs ds : List ℕ) → Adds page cs p → Adds p ds q → Adds page (cs ++ ds) q
 adds_then page p q cs ds h k = k ∙ ap (λ r. r ++ ds) h ∙ append_assoc (seen page) cs ds
 
-with_character_adds : {T M : Type 0} (page : Page T M) (c : Character T) → Adds page (if_visible c.code) (with_character page c)
+with_character_adds : {T M : Type 0} (page : LineBuffer T M) (c : Character T) → Adds page (if_visible c.code) (with_character page c)
 with_character_adds {T} {M} page c =
     let last : Line T M = element.Character c.code (tag_on page.continues c) ∷ [] in
     let one : visible_in_line last ≡ if_visible c.code = append-nil (if_visible c.code) in
@@ -51,12 +51,12 @@ with_character_adds {T} {M} page c =
     ∙ ap (λ r. visible_in_line page.line ++ r) new)
     ∙ sym (append_assoc (visible_in_lines page.lines) (visible_in_line page.line) (if_visible c.code))
 
-continued_seen : {T M : Type 0} (page : Page T M) → seen (continued page) ≡ seen page
+continued_seen : {T M : Type 0} (page : LineBuffer T M) → seen (continued page) ≡ seen page
 continued_seen {T} {M} page =
-    if_cases (λ (p : Page T M). seen p ≡ seen page) (is_empty page.line) _ _ (λ _. refl)
+    if_cases (λ (p : LineBuffer T M). seen p ≡ seen page) (is_empty page.line) _ _ (λ _. refl)
     (λ _. append-nil (visible_in_lines (page.lines ++ page.line ∷ [])) ∙ visible_in_lines-push page.lines page.line)
 
-all_lines_seen : {T M : Type 0} (page : Page T M) → visible_in_lines (all_lines page) ≡ seen page
+all_lines_seen : {T M : Type 0} (page : LineBuffer T M) → visible_in_lines (all_lines page) ≡ seen page
 all_lines_seen {T} {M} page =
     if_cases (λ (ls : List (Line T M)). visible_in_lines ls ≡ seen page) (is_empty page.line) _ _
     (λ e. sym (ap (λ l. visible_in_lines page.lines ++ visible_in_line l) (nil_from_is_empty page.line e)
@@ -67,16 +67,16 @@ blank-space : if_visible 32 ≡ []
 unfolding is_visible
 blank-space = refl
 
-with_due_space_seen : {T M : Type 0} (page : Page T M) (pending : Option (Character T)) → seen (with_due_space page pending) ≡ seen page
+with_due_space_seen : {T M : Type 0} (page : LineBuffer T M) (pending : Option (Character T)) → seen (with_due_space page pending) ≡ seen page
 with_due_space_seen page None = refl
 with_due_space_seen {T} {M} page (Some c) =
     let last : Line T M = element.Character 32 (tag_on page.continues c) ∷ [] in
     let none : visible_in_line last ≡ [] = ap (λ r. r ++ []) blank-space in
-    if_cases (λ (p : Page T M). seen p ≡ seen page) (is_empty page.line) _ _ (λ _. refl)
+    if_cases (λ (p : LineBuffer T M). seen p ≡ seen page) (is_empty page.line) _ _ (λ _. refl)
     (λ _. ap (λ r. visible_in_lines page.lines ++ r) (visible_in_line-append page.line last ∙ ap (λ r. visible_in_line page.line ++ r) none
     ∙ append-nil (visible_in_line page.line)))
 
-put_character_adds : {T M : Type 0} (s : Setting) (page : Page T M) (c : Character T) →
+put_character_adds : {T M : Type 0} (s : Setting) (page : LineBuffer T M) (c : Character T) →
     IfSome (put_character s page c) (Adds page (if_visible c.code))
 put_character_adds s page c =
     if_cases (λ o. IfSome o (Adds page (if_visible c.code))) (leb (columns page.line + width_of c.code) s.width) _ _
@@ -85,11 +85,11 @@ put_character_adds s page c =
     (λ e. with_character_adds (continued page) c ∙ ap (λ r. r ++ if_visible c.code) (continued_seen page))
     (λ _. tt))
 
-put_items_adds : {T M : Type 0} (s : Setting) (page : Page T M) (xs : List (Item T M)) →
+put_items_adds : {T M : Type 0} (s : Setting) (page : LineBuffer T M) (xs : List (Item T M)) →
     IfSome (put_items s page xs) (Adds page (visible_in_items xs))
 put_items_adds s page [] = adds_none page page refl
 put_items_adds {T} {M} s page (item.Character c ∷ xs) =
-    bind_some (Adds page (if_visible c.code)) (Adds page (if_visible c.code ++ visible_in_items xs)) (λ (p : Page T M). put_items s p xs)
+    bind_some (Adds page (if_visible c.code)) (Adds page (if_visible c.code ++ visible_in_items xs)) (λ (p : LineBuffer T M). put_items s p xs)
     (put_character s page c) (put_character_adds s page c)
     (λ p h. IfSome_then (put_items s p xs) (put_items_adds s p xs)
     (λ q k. adds_then page p q (if_visible c.code) (visible_in_items xs) h k))
@@ -105,13 +105,13 @@ visible_in_blanks : {T : Type 0} (M : Type 0) (cs : List (Character T)) → AllB
 visible_in_blanks M [] h = refl
 visible_in_blanks M (c ∷ cs) h = ap (λ r. r ++ visible_in_items {M = M} (map (λ d. item.Character d) cs)) h.0 ∙ visible_in_blanks M cs h.1
 
-put_fitting_seen : {T M : Type 0} (s : Setting) (page : Page T M) (c : Character T) → if_visible c.code ≡ [] →
+put_fitting_seen : {T M : Type 0} (s : Setting) (page : LineBuffer T M) (c : Character T) → if_visible c.code ≡ [] →
     seen (put_fitting s page c) ≡ seen page
 put_fitting_seen {T} {M} s page c h =
-    if_cases (λ (p : Page T M). seen p ≡ seen page) (leb (columns page.line + width_of c.code) s.width) _ _
+    if_cases (λ (p : LineBuffer T M). seen p ≡ seen page) (leb (columns page.line + width_of c.code) s.width) _ _
     (λ _. with_character_adds page c ∙ ap (λ r. seen page ++ r) h ∙ append-nil (seen page)) (λ _. refl)
 
-put_all_fitting_seen : {T M : Type 0} (s : Setting) (page : Page T M) (cs : List (Character T)) → AllBlank cs →
+put_all_fitting_seen : {T M : Type 0} (s : Setting) (page : LineBuffer T M) (cs : List (Character T)) → AllBlank cs →
     seen (fold (put_fitting s) page cs) ≡ seen page
 put_all_fitting_seen s page [] h = refl
 put_all_fitting_seen s page (c ∷ cs) h = put_all_fitting_seen s (put_fitting s page c) cs h.1 ∙ put_fitting_seen s page c h.0
@@ -120,11 +120,11 @@ tab_blank : {T : Type 0} (n : ℕ) (c : Character T) → AllBlank (replicate n (
 tab_blank zero c = tt
 tab_blank (suc n) c = (blank-space, tab_blank n c)
 
-put_word_adds : {T M : Type 0} (s : Setting) (page : Page T M) (pending : Option (Character T)) (word : List (Item T M)) →
+put_word_adds : {T M : Type 0} (s : Setting) (page : LineBuffer T M) (pending : Option (Character T)) (word : List (Item T M)) →
     IfSome (put_word s page pending word) (Adds page (visible_in_items word))
 put_word_adds {T} {M} s page pending word =
     let e : seen (page_for_word s page pending word) ≡ seen page =
-    if_cases (λ (p : Page T M). seen p ≡ seen page)
+    if_cases (λ (p : LineBuffer T M). seen p ≡ seen page)
     (fits s (with_due_space page pending) (word_columns word)) _ _ (λ _. with_due_space_seen page pending)
     (λ _. continued_seen page) in
     IfSome_then (put_items s (page_for_word s page pending word) word) (put_items_adds s (page_for_word s page pending word) word)
@@ -141,7 +141,7 @@ IsHidden Letter c = Unit {0}
 IsHidden Preserved c = Unit {0}
 IsHidden k c = if_visible c.code ≡ []
 
-put_single_adds : {T M : Type 0} (s : Setting) (page : Page T M) (k : Kind) (c : Character T) → IsHidden k c →
+put_single_adds : {T M : Type 0} (s : Setting) (page : LineBuffer T M) (k : Kind) (c : Character T) → IsHidden k c →
     IfSome (put_single s page k c) (Adds page (shown k c))
 put_single_adds s page Preserved c h = put_character_adds s page c
 put_single_adds s page SoftSpace c h = adds_none page (put_fitting s page c) (put_fitting_seen s page c h)
@@ -171,20 +171,20 @@ AreProper [] = Unit {0}
 AreProper (Single k c ∷ ps) = IsHidden k c × AreProper ps
 AreProper (p ∷ ps) = AreProper ps
 
-place_adds : {T M : Type 0} (s : Setting) (page : Page T M) (pending : Option (Character T)) (ps : List (Piece T M)) → AreProper ps →
+place_adds : {T M : Type 0} (s : Setting) (page : LineBuffer T M) (pending : Option (Character T)) (ps : List (Piece T M)) → AreProper ps →
     IfSome (place s page pending ps) (Adds page (in_pieces ps))
 place_adds s page pending [] h = adds_none page page refl
 place_adds {T} {M} s page pending (Word k w ∷ ps) h =
-    bind_some (Adds page (visible_in_items w)) (Adds page (visible_in_items w ++ in_pieces ps)) (λ (p : Page T M). place s p None ps)
+    bind_some (Adds page (visible_in_items w)) (Adds page (visible_in_items w ++ in_pieces ps)) (λ (p : LineBuffer T M). place s p None ps)
     (put_word s page pending w) (put_word_adds s page pending w)
     (λ p f. IfSome_then (place s p None ps) (place_adds s p None ps h) (λ q g. adds_then page p q (visible_in_items w) (in_pieces ps) f g))
 place_adds s page pending (Gap c ∷ ps) h = place_adds s page (option_or pending (Some c)) ps h
 place_adds s page pending (Cut ∷ ps) h = place_adds s page pending ps h
 place_adds {T} {M} s page pending (Single k c ∷ ps) h =
     let e : seen (page_for_single s page pending k) ≡ seen page =
-    page_for_single_cases (λ (p : Page T M). seen p ≡ seen page) s page pending k refl (λ _. with_due_space_seen page pending) in
+    page_for_single_cases (λ (p : LineBuffer T M). seen p ≡ seen page) s page pending k refl (λ _. with_due_space_seen page pending) in
     bind_some (Adds (page_for_single s page pending k) (shown k c)) (Adds page (shown k c ++ in_pieces ps))
-    (λ (p : Page T M). place s p None ps) (put_single s (page_for_single s page pending k) k c)
+    (λ (p : LineBuffer T M). place s p None ps) (put_single s (page_for_single s page pending k) k c)
     (put_single_adds s (page_for_single s page pending k) k c h.0)
     (λ p f. IfSome_then (place s p None ps) (place_adds s p None ps h.1)
     (λ q g. adds_then page p q (shown k c) (in_pieces ps) (f ∙ ap (λ r. r ++ shown k c) e) g))
@@ -278,7 +278,7 @@ pieces_proper (item.Mark m ∷ xs) = with_mark_proper m (pieces xs) (pieces_prop
 
 page_keeps : {T M : Type 0} (s : Setting) (marks : List M) (xs : List (Item T M)) →
     IfSome (paragraph s marks xs) (λ p. seen p ≡ visible_in_items xs)
-page_keeps s marks xs = IfSome_then (paragraph s marks xs) (place_adds s (blank_page marks) None (pieces xs) (pieces_proper xs)) (λ p k. k
+page_keeps s marks xs = IfSome_then (paragraph s marks xs) (place_adds s (empty_buffer marks) None (pieces xs) (pieces_proper xs)) (λ p k. k
     ∙ pieces_keep xs)
 
 -- THE LAW: the lines have exactly the visible characters that were fed, in order.

@@ -11,7 +11,7 @@ use Rattle.html_render_layout_lines.specs.declared.character.Item.TheVariants as
 use Rattle.html_render_layout_lines.specs.Character.{kind}
 use Rattle.html_render_layout_lines.specs.Line.{word_columns, is_empty}
 use Rattle.html_render_layout_lines.specs.laws.Columns.{word_columns-append}
-use Rattle.html_render_layout_paragraphs.specs.Paragraph.{Piece, Word, Gap, Cut, Single, pieces, with_kind, with_mark, Page, Setting, fits}
+use Rattle.html_render_layout_paragraphs.specs.Paragraph.{Piece, Word, Gap, Cut, Single, pieces, with_kind, with_mark, LineBuffer, Setting, fits}
 use Rattle.html_render_layout_paragraphs.specs.Paragraph.{with_waiting_mark, put_character, put_items, put_word, put_single, page_for_word, with_due_space}
 use Rattle.html_render_layout_paragraphs.specs.Paragraph.{continued, page_for_single, place, paragraph}
 use Rattle.html_render_layout_paragraphs.specs.Stream.{State, start, end_word, begin_word, letter_step, single_step, then_single, with_pending, character_step}
@@ -44,61 +44,61 @@ map_is_then f (Some x) = refl
 word_columns-push_mark : {T M : Type 0} (w : List (Item T M)) (m : M) → word_columns (w ++ item.Mark m ∷ []) ≡ word_columns w
 word_columns-push_mark {T} {M} w m = omega (arith, word_columns-append w (item.Mark m ∷ []))
 
-if_with_waiting_mark : {T M : Type 0} (b : Bool) (p q p' q' : Page T M) (m : M) → p ≡ with_waiting_mark p' m → q ≡ with_waiting_mark q' m →
+if_with_waiting_mark : {T M : Type 0} (b : Bool) (p q p' q' : LineBuffer T M) (m : M) → p ≡ with_waiting_mark p' m → q ≡ with_waiting_mark q' m →
     cond b p q ≡ with_waiting_mark (cond b p' q') m
 if_with_waiting_mark true p q p' q' m e f = e
 if_with_waiting_mark false p q p' q' m e f = f
 
-with_due_space-with_waiting_mark : {T M : Type 0} (page : Page T M) (m : M) (pending : Option (Character T)) →
+with_due_space-with_waiting_mark : {T M : Type 0} (page : LineBuffer T M) (m : M) (pending : Option (Character T)) →
     with_due_space (with_waiting_mark page m) pending ≡ with_waiting_mark (with_due_space page pending) m
 with_due_space-with_waiting_mark page m None = refl
 with_due_space-with_waiting_mark page m (Some c) = if_with_waiting_mark (is_empty page.line) _ _ _ _ m refl refl
 
-page_for_word-with_waiting_mark : {T M : Type 0} (s : Setting) (page : Page T M) (pending : Option (Character T)) (m : M)
+page_for_word-with_waiting_mark : {T M : Type 0} (s : Setting) (page : LineBuffer T M) (pending : Option (Character T)) (m : M)
     (w : List (Item T M)) → page_for_word s (with_waiting_mark page m) pending w
     ≡ with_waiting_mark (page_for_word s page pending (item.Mark m ∷ w)) m
 page_for_word-with_waiting_mark {T} {M} s page pending m w =
-    ap (λ (p : Page T M). cond (fits s p (word_columns w)) p (continued (with_waiting_mark page m)))
+    ap (λ (p : LineBuffer T M). cond (fits s p (word_columns w)) p (continued (with_waiting_mark page m)))
     (with_due_space-with_waiting_mark page m pending)
     ∙ if_with_waiting_mark (fits s (with_due_space page pending) (word_columns w)) _ _ _ _ m refl
     (if_with_waiting_mark (is_empty page.line) _ _ _ _ m refl refl)
 
 -- A mark that waits before a word is placed like one at the word's start.
-put_word-with_waiting_mark : {T M : Type 0} (s : Setting) (page : Page T M) (pending : Option (Character T)) (m : M)
+put_word-with_waiting_mark : {T M : Type 0} (s : Setting) (page : LineBuffer T M) (pending : Option (Character T)) (m : M)
     (w : List (Item T M)) → put_word s (with_waiting_mark page m) pending w ≡ put_word s page pending (item.Mark m ∷ w)
 put_word-with_waiting_mark s page pending m w = ap (λ p. put_items s p w) (page_for_word-with_waiting_mark s page pending m w)
 
-pub put_items-append : {T M : Type 0} (s : Setting) (page : Page T M) (v w : List (Item T M)) →
+pub put_items-append : {T M : Type 0} (s : Setting) (page : LineBuffer T M) (v w : List (Item T M)) →
     put_items s page (v ++ w) ≡ option_and_then (λ p. put_items s p w) (put_items s page v)
 put_items-append s page [] w = refl
 put_items-append {T} {M} s page (item.Character c ∷ v) w =
     then_same _ _ (put_character s page c) (λ p. put_items-append s p v w)
-    ∙ sym (then_assoc (λ (p : Page T M). put_items s p v) (λ (q : Page T M). put_items s q w) (put_character s page c))
+    ∙ sym (then_assoc (λ (p : LineBuffer T M). put_items s p v) (λ (q : LineBuffer T M). put_items s q w) (put_character s page c))
 put_items-append s page (item.Mark m ∷ v) w = put_items-append s (with_waiting_mark page m) v w
 
 -- A mark at the end of a word waits after it.
-put_word-push_mark : {T M : Type 0} (s : Setting) (page : Page T M) (pending : Option (Character T)) (w : List (Item T M)) (m : M) →
-    put_word s page pending (w ++ item.Mark m ∷ []) ≡ option_map (λ (p : Page T M). with_waiting_mark p m) (put_word s page pending w)
+put_word-push_mark : {T M : Type 0} (s : Setting) (page : LineBuffer T M) (pending : Option (Character T)) (w : List (Item T M)) (m : M) →
+    put_word s page pending (w ++ item.Mark m ∷ []) ≡ option_map (λ (p : LineBuffer T M). with_waiting_mark p m) (put_word s page pending w)
 put_word-push_mark {T} {M} s page pending w m =
     let e : page_for_word s page pending (w ++ item.Mark m ∷ []) ≡ page_for_word s page pending w =
     ap (λ n. cond (fits s (with_due_space page pending) n) (with_due_space page pending) (continued page))
     (word_columns-push_mark w m) in
     ap (λ p. put_items s p (w ++ item.Mark m ∷ [])) e
     ∙ put_items-append s (page_for_word s page pending w) w (item.Mark m ∷ [])
-    ∙ sym (map_is_then (λ (p : Page T M). with_waiting_mark p m) (put_word s page pending w))
+    ∙ sym (map_is_then (λ (p : LineBuffer T M). with_waiting_mark p m) (put_word s page pending w))
 
-place-mark : {T M : Type 0} (s : Setting) (page : Page T M) (pending : Option (Character T)) (m : M) (ps : List (Piece T M)) →
+place-mark : {T M : Type 0} (s : Setting) (page : LineBuffer T M) (pending : Option (Character T)) (m : M) (ps : List (Piece T M)) →
     place s (with_waiting_mark page m) pending ps ≡ place s page pending (with_mark m ps)
 place-mark {T} {M} s page pending m (Word k w ∷ ps) =
-    ap (λ o. option_and_then (λ (p : Page T M). place s p None ps) o) (put_word-with_waiting_mark s page pending m w)
+    ap (λ o. option_and_then (λ (p : LineBuffer T M). place s p None ps) o) (put_word-with_waiting_mark s page pending m w)
 place-mark s page pending m ps = refl
 
 -- A mark at the end of a word is placed like one after the word.
-place-word_mark : {T M : Type 0} (s : Setting) (page : Page T M) (pending : Option (Character T)) (k : Bool) (w : List (Item T M)) (m : M)
+place-word_mark : {T M : Type 0} (s : Setting) (page : LineBuffer T M) (pending : Option (Character T)) (k : Bool) (w : List (Item T M)) (m : M)
     (ps : List (Piece T M)) → place s page pending (Word k (w ++ item.Mark m ∷ []) ∷ ps) ≡ place s page pending (Word k w ∷ with_mark m ps)
 place-word_mark {T} {M} s page pending k w m ps =
-    ap (λ o. option_and_then (λ (p : Page T M). place s p None ps) o) (put_word-push_mark s page pending w m)
-    ∙ map_and_then (λ (p : Page T M). with_waiting_mark p m) (λ (p : Page T M). place s p None ps) (put_word s page pending w)
+    ap (λ o. option_and_then (λ (p : LineBuffer T M). place s p None ps) o) (put_word-push_mark s page pending w m)
+    ∙ map_and_then (λ (p : LineBuffer T M). with_waiting_mark p m) (λ (p : LineBuffer T M). place s p None ps) (put_word s page pending w)
     ∙ then_same _ _ (put_word s page pending w) (λ p. place-mark s p None m ps)
 
 -- ---- The open word before the pieces
@@ -115,29 +115,29 @@ glue None w ps = ps
 glue (Some k) w ps = glue_word k w ps
 
 -- State of a paragraph by its parts.
-abbrev state : {T M : Type 0} → Setting → Page T M → Option (Character T) → List (Item T M) → Option Bool → State T M
+abbrev state : {T M : Type 0} → Setting → LineBuffer T M → Option (Character T) → List (Item T M) → Option Bool → State T M
 state s page pending w k = record { setting = s; page = page; pending = pending; word = w; open_word = k }
 
--- Page with the pieces placed after all that a state has.
-abbrev resume : {T M : Type 0} → State T M → List (Piece T M) → Option (Page T M)
+-- Line buffer with the pieces placed after all that a state has.
+abbrev resume : {T M : Type 0} → State T M → List (Piece T M) → Option (LineBuffer T M)
 resume st ps = place st.setting st.page st.pending (glue st.open_word st.word ps)
 
--- Page after feeding and finishing.
-abbrev run : {T M : Type 0} → State T M → List (Item T M) → Option (Page T M)
+-- Line buffer after feeding and finishing.
+abbrev run : {T M : Type 0} → State T M → List (Item T M) → Option (LineBuffer T M)
 run st xs = option_and_then finished (after st xs)
 
 -- Placing the open word and then applying g is placing the word and the pieces, if g places the pieces where no word is
 -- open.
-end_resumes : {T M : Type 0} (g : State T M → Option (Page T M)) (ps : List (Piece T M)) (s : Setting) →
-    ((p : Page T M) (pending : Option (Character T)) (w : List (Item T M)) → g (state s p pending w None) ≡ place s p pending ps)
-    → (page : Page T M) (pending : Option (Character T)) (w : List (Item T M)) (k : Bool) →
+end_resumes : {T M : Type 0} (g : State T M → Option (LineBuffer T M)) (ps : List (Piece T M)) (s : Setting) →
+    ((p : LineBuffer T M) (pending : Option (Character T)) (w : List (Item T M)) → g (state s p pending w None) ≡ place s p pending ps)
+    → (page : LineBuffer T M) (pending : Option (Character T)) (w : List (Item T M)) (k : Bool) →
     option_and_then g (end_word (state s page pending w (Some k))) ≡ place s page pending (Word k w ∷ ps)
 end_resumes {T} {M} g ps s e page pending w k =
-    map_and_then (λ (p : Page T M). state s p None [] None) g (put_word s page pending w)
+    map_and_then (λ (p : LineBuffer T M). state s p None [] None) g (put_word s page pending w)
     ∙ then_same _ _ (put_word s page pending w) (λ p. e p None [])
 
 -- Finishing is placing the open word, and no piece after it.
-finish_resumes : {T M : Type 0} (s : Setting) (page : Page T M) (pending : Option (Character T)) (w : List (Item T M)) (k : Option Bool) →
+finish_resumes : {T M : Type 0} (s : Setting) (page : LineBuffer T M) (pending : Option (Character T)) (w : List (Item T M)) (k : Option Bool) →
     finished (state s page pending w k) ≡ resume (state s page pending w k) []
 finish_resumes s page pending w None = refl
 finish_resumes {T} {M} s page pending w (Some k) = map_is_then (λ (t : State T M). t.page) (end_word (state s page pending w (Some k)))
@@ -145,10 +145,10 @@ finish_resumes {T} {M} s page pending w (Some k) = map_is_then (λ (t : State T 
 
 -- Ending the open word and then applying g is placing the word, if there is one, and pieces whose first one ends a
 -- word.
-after_word : {T M : Type 0} (g : State T M → Option (Page T M)) (q : Piece T M) (ps : List (Piece T M)) (s : Setting) →
-    ((p : Page T M) (pending : Option (Character T)) (w : List (Item T M)) → g (state s p pending w None) ≡ place s p pending (q ∷ ps)) →
+after_word : {T M : Type 0} (g : State T M → Option (LineBuffer T M)) (q : Piece T M) (ps : List (Piece T M)) (s : Setting) →
+    ((p : LineBuffer T M) (pending : Option (Character T)) (w : List (Item T M)) → g (state s p pending w None) ≡ place s p pending (q ∷ ps)) →
     ((k : Bool) (w : List (Item T M)) → glue_word k w (q ∷ ps) ≡ Word k w ∷ q ∷ ps)
-    → (page : Page T M) (pending : Option (Character T)) (w : List (Item T M)) (k : Option Bool) →
+    → (page : LineBuffer T M) (pending : Option (Character T)) (w : List (Item T M)) (k : Option Bool) →
     option_and_then g (end_word (state s page pending w k)) ≡ resume (state s page pending w k) (q ∷ ps)
 after_word g q ps s e ends page pending w None = e page pending w
 after_word g q ps s e ends page pending w (Some k) = end_resumes g (q ∷ ps) s e page pending w k
@@ -180,13 +180,13 @@ apart k j w c ps e = refl
 
 -- A letter that begins a word.
 began : {T M : Type 0} (c : Character T) (xs : List (Item T M)) (ps : List (Piece T M)) → ((t : State T M) → run t xs ≡ resume t ps) →
-    (s : Setting) (p : Page T M) (pending : Option (Character T)) (w : List (Item T M)) →
+    (s : Setting) (p : LineBuffer T M) (pending : Option (Character T)) (w : List (Item T M)) →
     run (begin_word (state s p pending w None) c) xs ≡ place s p pending (with_kind Letter c ps)
 began c xs ps ih s p pending w = ih (begin_word (state s p pending w None) c) ∙ ap (λ x. place s p pending x) (glue-letter c ps)
 
 letter_resumes : {T M : Type 0} (c : Character T) (xs : List (Item T M)) (ps : List (Piece T M)) →
     ((t : State T M) → run t xs ≡ resume t ps) →
-    (s : Setting) (page : Page T M) (pending : Option (Character T)) (w : List (Item T M)) (k : Option Bool) →
+    (s : Setting) (page : LineBuffer T M) (pending : Option (Character T)) (w : List (Item T M)) (k : Option Bool) →
     option_and_then (λ t. run t xs) (letter_step (state s page pending w k) c) ≡ resume (state s page pending w k) (with_kind Letter c ps)
 letter_resumes c xs ps ih s page pending w None = began c xs ps ih s page pending w
 letter_resumes {T} {M} c xs ps ih s page pending w (Some j) =
@@ -202,20 +202,20 @@ letter_resumes {T} {M} c xs ps ih s page pending w (Some j) =
 
 single_resumes : {T M : Type 0} (k : Kind) (c : Character T) (xs : List (Item T M)) (ps : List (Piece T M)) →
     ((t : State T M) → run t xs ≡ resume t ps) →
-    (s : Setting) (page : Page T M) (pending : Option (Character T)) (w : List (Item T M)) (o : Option Bool) →
+    (s : Setting) (page : LineBuffer T M) (pending : Option (Character T)) (w : List (Item T M)) (o : Option Bool) →
     option_and_then (λ t. run t xs) (then_single (state s page pending w o) k c) ≡ resume (state s page pending w o) (Single k c ∷ ps)
 single_resumes {T} {M} k c xs ps ih s page pending w o =
     then_assoc (λ (t : State T M). single_step t k c) (λ (t : State T M). run t xs) (end_word (state s page pending w o))
     ∙ after_word (λ (t : State T M). option_and_then (λ (u : State T M). run u xs) (single_step t k c)) (Single k c) ps s
-    (λ p pend v. map_and_then (λ (q : Page T M). state s q None v None) (λ (u : State T M). run u xs)
+    (λ p pend v. map_and_then (λ (q : LineBuffer T M). state s q None v None) (λ (u : State T M). run u xs)
     (put_single s (page_for_single s p pend k) k c)
-    ∙ then_same (λ (q : Page T M). run (state s q None v None) xs) (λ (q : Page T M). place s q None ps)
+    ∙ then_same (λ (q : LineBuffer T M). run (state s q None v None) xs) (λ (q : LineBuffer T M). place s q None ps)
     (put_single s (page_for_single s p pend k) k c) (λ q. ih (state s q None v None)))
     (λ j v. refl) page pending w o
 
 character_resumes : {T M : Type 0} (k : Kind) (c : Character T) (xs : List (Item T M)) (ps : List (Piece T M)) →
     ((t : State T M) → run t xs ≡ resume t ps) →
-    (s : Setting) (page : Page T M) (pending : Option (Character T)) (w : List (Item T M)) (o : Option Bool) →
+    (s : Setting) (page : LineBuffer T M) (pending : Option (Character T)) (w : List (Item T M)) (o : Option Bool) →
     option_and_then (λ t. run t xs) (character_step k (state s page pending w o) c) ≡ resume (state s page pending w o) (with_kind k c ps)
 character_resumes Letter c xs ps ih s page pending w o = letter_resumes c xs ps ih s page pending w o
 character_resumes {T} {M} Space c xs ps ih s page pending w o =
@@ -227,7 +227,7 @@ character_resumes {T} {M} Divider c xs ps ih s page pending w o =
 character_resumes Dropped c xs ps ih s page pending w o = ih (state s page pending w o)
 character_resumes k c xs ps ih s page pending w o = single_resumes k c xs ps ih s page pending w o
 
-glue-mark : {T M : Type 0} (s : Setting) (page : Page T M) (pending : Option (Character T)) (k : Bool) (w : List (Item T M)) (m : M)
+glue-mark : {T M : Type 0} (s : Setting) (page : LineBuffer T M) (pending : Option (Character T)) (k : Bool) (w : List (Item T M)) (m : M)
     (ps : List (Piece T M)) → place s page pending (glue_word k (w ++ item.Mark m ∷ []) ps)
     ≡ place s page pending (glue_word k w (with_mark m ps))
 glue-mark s page pending true w m (Word true v ∷ ps) =
@@ -237,7 +237,7 @@ glue-mark s page pending false w m (Word false v ∷ ps) =
 glue-mark s page pending k w m ps = place-word_mark s page pending k w m ps
 
 mark_resumes : {T M : Type 0} (m : M) (xs : List (Item T M)) (ps : List (Piece T M)) → ((t : State T M) → run t xs ≡ resume t ps) →
-    (s : Setting) (page : Page T M) (pending : Option (Character T)) (w : List (Item T M)) (o : Option Bool) →
+    (s : Setting) (page : LineBuffer T M) (pending : Option (Character T)) (w : List (Item T M)) (o : Option Bool) →
     run (mark_step (state s page pending w o) m) xs ≡ resume (state s page pending w o) (with_mark m ps)
 mark_resumes m xs ps ih s page pending w None = ih (state s (with_waiting_mark page m) pending w None) ∙ place-mark s page pending m ps
 mark_resumes m xs ps ih s page pending w (Some k) = ih (state s page pending (w ++ item.Mark m ∷ []) (Some k))

@@ -9,7 +9,7 @@ ghost use Rattle.std.specs.Str.{chars, IsUtf8};
 ghost use Rattle.html_render_dom_values.specs.Outcome.{Refuses};
 ghost use Rattle.html_render_dom_values.specs.declared.white_space.WhiteSpace.TheVariants.{Normal};
 ghost use Rattle.html_render_layout_lines.specs.Character.{kind, width_of, is_plain, character_of};
-ghost use Rattle.html_render_layout_paragraphs.specs.Feeding.{AreLetters, IsFront, HasRoom, placed_text_and_space, with_words};
+ghost use Rattle.html_render_layout_paragraphs.specs.Feeding.{AreLetters, IsFront, HasFreeColumns, placed_text_and_space, with_words};
 ghost use Rattle.html_render_layout_paragraphs.specs.Stream.{after, step, letter_step, letters_step, then_single, character_step};
 ghost use Rattle.html_render_layout_paragraphs.specs.Stream.{with_pending, joins, styled};
 ghost use Rattle.html_render_layout_lines.specs.TaggedText.{text_columns};
@@ -175,7 +175,7 @@ impl<T: Tag, M: Copy> Paragraph<T, M> {
     /// its width, or if marks wait.
     #[inline]
     fn room_behind_space(&self) -> usize
-        ensures { 0 < result → HasRoom self.now result }
+        ensures { 0 < result → HasFreeColumns self.now result }
     {
         if self.line.is_empty() || !self.waiting.is_empty() {
             return 0;

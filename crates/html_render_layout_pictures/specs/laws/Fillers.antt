@@ -12,7 +12,7 @@ use Rattle.std.proofs.lemmas.Str.Ascii.{IsAscii-from_all}
 use Rattle.std.specs.Char.{len_utf8}
 use Rattle.std.specs.List.{slice_range}
 use Rattle.std.specs.Str.{chars, IsCharBoundary}
-use Rattle.html_render_layout_glyphs.specs.declared.borders.TheConstants.{BORDERS}
+use Rattle.html_render_layout_pictures.specs.declared.borders.TheConstants.{BORDERS}
 use Rattle.html_render_layout_lines.specs.declared.line.Element.TheVariants.{Character}
 use Rattle.html_render_layout_lines.specs.Character.{width_of}
 use Rattle.html_render_layout_lines.specs.Line.{Line}

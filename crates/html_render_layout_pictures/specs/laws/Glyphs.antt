@@ -1,7 +1,7 @@
 -- The characters that pictures are drawn with take one column each.
 use Rattle.std.proofs.Common.{◌≡◌, Bool, true, false, cond}
-use Rattle.html_render_layout_glyphs.specs.declared.borders.TheConstants.{BORDERS}
-use Rattle.html_render_layout_glyphs.specs.laws.Widths.{width_at}
+use Rattle.html_render_layout_pictures.specs.declared.borders.TheConstants.{BORDERS}
+use Rattle.html_render_layout_pictures.specs.laws.BorderWidths.{width_at}
 use Rattle.html_render_layout_lines.specs.Character.{width_of}
 use Rattle.html_render_layout_pictures.specs.Picture.{joint}
 

@@ -4,7 +4,7 @@ use Rattle.std.proofs.Common.{replicate, fold, Some, refl, sym, ap, ◌∙◌, a
 use Rattle.std.specs.List.{list_any}
 use Rattle.std.proofs.lemmas.Bool.{eqb-true}
 use Rattle.std.proofs.lemmas.List.Elements.{All-head, All-tail}
-use Rattle.html_render_layout_glyphs.specs.declared.borders.TheConstants.{BORDERS}
+use Rattle.html_render_layout_pictures.specs.declared.borders.TheConstants.{BORDERS}
 use Rattle.html_render_layout_lines.specs.Line.{Line, marks_line, is_empty}
 use Rattle.html_render_layout_lines.specs.Visible.{visible_in_line, visible_in_lines, if_visible}
 use Rattle.html_render_layout_lines.specs.laws.Cases.{if_cases}

@@ -13,21 +13,21 @@ use Rattle.html_render_layout_lines.specs.TaggedText.{text_columns}
 use Rattle.html_render_layout_tagged.specs.declared.line.TaggedLineElement.{TaggedLineElement}
 use Rattle.html_render_layout_tagged.specs.declared.line.TaggedLineElement.TheVariants as made
 use Rattle.html_render_layout_tagged.specs.TaggedLine.{line_columns, element_columns, AllTaggedWithinWidth}
-use Rattle.html_render_layout_tagged.specs.Grouping.{Piece, Str, FragmentStart, in_front, grouped, piece_of, pieces_of, lines_of}
+use Rattle.html_render_layout_tagged.specs.Grouping.{LinePart, Str, FragmentStart, in_front, grouped, piece_of, pieces_of, lines_of}
 use Rattle.html_render_layout_tagged.specs.Grouping.{piece_columns, pieces_columns, ComesOther, AreLongest, strings_characters, line_characters}
 
 -- ---- columns
 
-pieces-cons : {T : Type 0} (p : Piece T) (ps : List (Piece T)) → pieces_columns (p ∷ ps) ≡ piece_columns p + pieces_columns ps
-pieces-cons {T} p ps = sum_by-cons (λ (x : Piece T). piece_columns x) p ps
+pieces-cons : {T : Type 0} (p : LinePart T) (ps : List (LinePart T)) → pieces_columns (p ∷ ps) ≡ piece_columns p + pieces_columns ps
+pieces-cons {T} p ps = sum_by-cons (λ (x : LinePart T). piece_columns x) p ps
 
 module _ {T : Type 0} (equal : T → T → Bool) where
-  columns-in_front : (text : List ℕ) (tag : T) (ps : List (Piece T)) →
+  columns-in_front : (text : List ℕ) (tag : T) (ps : List (LinePart T)) →
       pieces_columns (in_front equal text tag ps) ≡ text_columns text + pieces_columns ps
   columns-in_front text tag [] = pieces-cons (Str text tag) []
   columns-in_front text tag (FragmentStart name ∷ ps) = pieces-cons (Str text tag) (FragmentStart name ∷ ps)
   columns-in_front text tag (Str next other ∷ ps) =
-      cond_both (equal tag other) _ _ (λ (x : List (Piece T)). pieces_columns x ≡ text_columns text + pieces_columns (Str next other ∷ ps))
+      cond_both (equal tag other) _ _ (λ (x : List (LinePart T)). pieces_columns x ≡ text_columns text + pieces_columns (Str next other ∷ ps))
       (λ e. omega (arith, pieces-cons (Str (text ++ next) tag) ps, sum_by-append width_of text next, pieces-cons (Str next other) ps))
       (λ e. pieces-cons (Str text tag) (Str next other ∷ ps))
 
@@ -43,17 +43,17 @@ module _ {T : Type 0} (equal : T → T → Bool) where
   -- ---- the longest strings
 
   -- pieces that don't begin with a string under a tag don't begin with one under an equal tag
-  other-equal : IsEquivalence equal → (tag other : T) (ps : List (Piece T)) → equal tag other ≡ true → ComesOther equal other ps → ComesOther equal tag ps
+  other-equal : IsEquivalence equal → (tag other : T) (ps : List (LinePart T)) → equal tag other ≡ true → ComesOther equal other ps → ComesOther equal tag ps
   other-equal laws tag other [] e h = tt
   other-equal laws tag other (FragmentStart name ∷ ps) e h = tt
   other-equal laws tag other (Str text third ∷ ps) e h = laws.congr tag other third e ∙ h
 
-  longest-in_front : IsEquivalence equal → (c : ℕ) (text : List ℕ) (tag : T) (ps : List (Piece T)) → AreLongest equal ps →
+  longest-in_front : IsEquivalence equal → (c : ℕ) (text : List ℕ) (tag : T) (ps : List (LinePart T)) → AreLongest equal ps →
       AreLongest equal (in_front equal (c ∷ text) tag ps)
   longest-in_front laws c text tag [] h = (omega arith, tt, tt)
   longest-in_front laws c text tag (FragmentStart name ∷ ps) h = (omega arith, tt, h)
   longest-in_front laws c text tag (Str next other ∷ ps) h =
-      cond_both (equal tag other) _ _ (λ (x : List (Piece T)). AreLongest equal x)
+      cond_both (equal tag other) _ _ (λ (x : List (LinePart T)). AreLongest equal x)
       (λ e. (omega arith, other-equal laws tag other ps e h.1, h.2))
       (λ e. (omega arith, e, h))
 
@@ -65,12 +65,12 @@ module _ {T : Type 0} (equal : T → T → Bool) where
 -- ---- characters
 
 module _ {T : Type 0} (equal : T → T → Bool) where
-  characters-in_front : (text : List ℕ) (tag : T) (ps : List (Piece T)) →
+  characters-in_front : (text : List ℕ) (tag : T) (ps : List (LinePart T)) →
       strings_characters (in_front equal text tag ps) ≡ text ++ strings_characters ps
   characters-in_front text tag [] = refl
   characters-in_front text tag (FragmentStart name ∷ ps) = refl
   characters-in_front text tag (Str next other ∷ ps) =
-      cond_both (equal tag other) _ _ (λ (x : List (Piece T)). strings_characters x ≡ text ++ strings_characters (Str next other ∷ ps))
+      cond_both (equal tag other) _ _ (λ (x : List (LinePart T)). strings_characters x ≡ text ++ strings_characters (Str next other ∷ ps))
       (λ e. append_assoc text next (strings_characters ps))
       (λ e. refl)
 

@@ -6,14 +6,15 @@
 
 ghost use Rattle.std.specs.Prelude.{◌≡◌, ◌+◌, ◌^◌, ◌≤◌, ◌<◌, ◌∷◌, [], All, Some, length, map, IsTrue, IfOk, IfErr, OnOk, MatchBool, MatchOption};
 ghost use Rattle.std.specs.List.Sorted.{IsStrictlyIncreasing};
+ghost use Rattle.html_render_dom_values.specs.Outcome.{OnlyOutOfMemory};
 ghost use Rattle.html_render_parts.specs.Placement.{lists, own_rows_from, placed_rows};
-ghost use Rattle.html_render_parts.specs.PlacementSteps.{AreAhead, fitting, places_ahead};
+ghost use Rattle.html_render_parts.specs.PlacementSteps.{AreAhead, fitting_positions, places_ahead};
 ghost use Rattle.html_render_parts.specs.Grid.{AreValid, edges_of, positions_fit};
 ghost use Rattle.html_render_parts.specs.TableCells.{cell_grid_of, columns_of, on_columns, rows_on, span_on};
 ghost use Rattle.html_render_parts.specs.Refusal.{Fails};
 
 use crate::table::gathering::Positions;
-use crate::table::placement::{RowPlacer, Standing};
+use crate::table::placement::{PositionedCell, RowPlacer};
 use crate::table::{PlacedCell, Span, numbering};
 use html_render_dom_values::Error;
 use std::alloc::{AllocError, Global};
@@ -36,7 +37,7 @@ struct PlacedCells {
     /// Edges, rising.
     edges: Vec<u128>,
     /// Own cells of each row.
-    own: Vec<Vec<Standing>>,
+    own: Vec<Vec<PositionedCell>>,
 }
 
 /// Places the rows of a table, and returns their own cells and the edges. The other places aren't stored.
@@ -44,7 +45,7 @@ fn place_cells(alloc: Global, rows: &[Vec<Span>]) -> Result<PlacedCells, Error>
     ensures fits { IfOk result (λ p. IsTrue (positions_fit (placed_rows (lists rows.now)))) }
     ensures edges { IfOk result (λ p. p.edges.items ≡ edges_of (placed_rows (lists rows.now))) }
     ensures own { IfOk result (λ p. lists p.own.items ≡ own_rows_from 0 [] (lists rows.now)) }
-    ensures err { IfErr result (λ e. Fails e (fitting (placed_rows (lists rows.now)))) }
+    ensures err { IfErr result (λ e. Fails e (fitting_positions (placed_rows (lists rows.now)))) }
 {
     let mut placer = RowPlacer::new(alloc);
     let mut positions = Positions::zero(alloc)?;
@@ -62,7 +63,7 @@ fn place_cells(alloc: Global, rows: &[Vec<Span>]) -> Result<PlacedCells, Error>
 }
 
 /// Returns a cell on the columns of its grid. `guess` is the expected first column: it saves a search if it is right.
-fn cell_on(edges: &[u128], cell: &Standing, guess: usize) -> GridCell
+fn cell_on(edges: &[u128], cell: &PositionedCell, guess: usize) -> GridCell
     requires rising { IsStrictlyIncreasing edges.now }
     requires fits { cell.now.column + cell.now.span.colspan < 2 ^ 128 }
     ensures { result ≡ on_columns edges.now cell.now }
@@ -81,7 +82,11 @@ fn cell_on(edges: &[u128], cell: &Standing, guess: usize) -> GridCell
 }
 
 /// Returns the cells of a row on the columns of their grid.
-fn row_on(alloc: Global, edges: &[u128], cells: &[Standing]) -> Result<Vec<GridCell>, AllocError>
+fn row_on(
+    alloc: Global,
+    edges: &[u128],
+    cells: &[PositionedCell],
+) -> Result<Vec<GridCell>, AllocError>
     requires rising { IsStrictlyIncreasing edges.now }
     requires fits { All (λ c. c.column + c.span.colspan < 2 ^ 128) cells.now }
     ensures { IfOk result (λ v. v.items ≡ map (on_columns edges.now) cells.now) }
@@ -100,7 +105,7 @@ fn row_on(alloc: Global, edges: &[u128], cells: &[Standing]) -> Result<Vec<GridC
 fn rows_on_columns(
     alloc: Global,
     edges: &[u128],
-    own: &[Vec<Standing>],
+    own: &[Vec<PositionedCell>],
 ) -> Result<Vec<Vec<GridCell>>, AllocError>
     requires rising { IsStrictlyIncreasing edges.now }
     requires fits { All (λ cells. All (λ c. c.column + c.span.colspan < 2 ^ 128) cells) (lists own.now) }
@@ -211,7 +216,7 @@ impl TableCells {
     /// `OutOfMemory`.
     pub fn try_clone(&self, alloc: Global) -> Result<TableCells, Error>
         ensures ok { IfOk result (λ copy. copy ≡ self.now) }
-        ensures err { IfErr result (λ e. e ≡ Error.OutOfMemory) }
+        ensures err { OnlyOutOfMemory result }
     {
         let edges = Vec::from_slice(alloc, &self.edges)?;
         let rows = copied_rows(alloc, &self.rows)?;
@@ -225,7 +230,7 @@ impl TableCells {
     /// `OutOfMemory`.
     pub fn into_rows(self, alloc: Global) -> Result<RowsAhead, Error>
         ensures ok { IfOk result (λ rows. rows ≡ rows_on self) }
-        ensures err { IfErr result (λ e. e ≡ Error.OutOfMemory) }
+        ensures err { OnlyOutOfMemory result }
     {
         let left = Box::new(alloc, self.into_placer(alloc))?;
         Ok(RowsAhead { left: Some(left) })
@@ -257,7 +262,7 @@ fn place_next(
     ensures ok { IfOk result (λ placed. MatchBool placed
         (places_ahead cells.now row.old placer.old.hanging ≡ placer.new.places ∷ places_ahead cells.now row.new placer.new.hanging)
         ((places_ahead cells.now row.old placer.old.hanging ≡ []) × (places_ahead cells.now row.new placer.new.hanging ≡ []))) }
-    ensures err { IfErr result (λ e. e ≡ Error.OutOfMemory) }
+    ensures err { OnlyOutOfMemory result }
     ensures ahead { AreAhead cells.now row.new placer.new.hanging }
 {
     match cells.rows().get(*row) {
@@ -302,7 +307,7 @@ impl RowsLeft {
     /// row.
     fn next(&mut self, alloc: Global) -> Result<Option<Vec<PlacedCell>>, Error>
         ensures ok { IfOk result (λ row. MatchOption row ((self.old ≡ []) × (self.new ≡ [])) (λ places. self.old ≡ places.items ∷ self.new)) }
-        ensures err { IfErr result (λ e. e ≡ Error.OutOfMemory) }
+        ensures err { OnlyOutOfMemory result }
     {
         let placed = place_next(
             &self.cells,
@@ -352,7 +357,7 @@ impl RowsAhead {
     /// `OutOfMemory`.
     pub fn next(&mut self, alloc: Global) -> Result<Option<Vec<PlacedCell>>, Error>
         ensures ok { IfOk result (λ row. MatchOption row ((self.old ≡ []) × (self.new ≡ [])) (λ places. self.old ≡ places.items ∷ self.new)) }
-        ensures err { IfErr result (λ e. e ≡ Error.OutOfMemory) }
+        ensures err { OnlyOutOfMemory result }
     {
         let Some(left) = &mut self.left else {
             return Ok(None);

@@ -10,7 +10,7 @@ ghost use Rattle.html_render_parts.specs.CellsInRows.{cells_in, columns_taken};
 ghost use Rattle.html_render_parts.specs.CellsAbove.{cells_above, own_rows};
 
 use super::Span;
-use super::placement::Standing;
+use super::placement::PositionedCell;
 
 /// States that the cells of a table on the columns of its grid agree with the grid:
 ///
@@ -55,9 +55,9 @@ fn cells_hang_from_all_rows_above()
     ensures bottom { (rows : List (List Span))
         → drop (length rows) (placed_rows rows) ≡ bottom_rows (hanging (length rows) (cells_above (length rows) rows)) }
     ensures above { (rows : List (List Span)) (row : ℕ) → All (λ c. c.row < row) (cells_above row rows) }
-    ensures all { (row : ℕ) (above : List Standing) (c : Standing)
+    ensures all { (row : ℕ) (above : List PositionedCell) (c : PositionedCell)
         → Contains (hanging row above) c ↔ (Contains above c × (row < c.row + c.span.rowspan)) }
-    ensures each { (row : ℕ) (above : List Standing) (is : Standing → Bool)
+    ensures each { (row : ℕ) (above : List PositionedCell) (is : PositionedCell → Bool)
         → count_by is (hanging row above) ≡ count_by (λ c. hangs_into row c && is c) above }
-    ensures ordered { (row : ℕ) (above : List Standing) → IsByColumn (hanging row above) }
+    ensures ordered { (row : ℕ) (above : List PositionedCell) → IsByColumn (hanging row above) }
 {}

@@ -1,9 +1,10 @@
 //! Positions of a table's cells in its rows, before the edges are numbered.
 
 ghost use Rattle.std.specs.Prelude.{◌≡◌, ◌↔◌, ◌≤◌, ◌∷◌, nat_lt, [], Some, filter, IsTrue, IfOk, OnOk, IfErr, MatchBool, MatchOption, Contains, All};
+ghost use Rattle.html_render_dom_values.specs.Outcome.{OnlyOutOfMemory};
 ghost use Rattle.html_render_parts.specs.Placement.{bottom_rows, end_of, hangs_into, lists, not_due, placed_rows};
 ghost use Rattle.html_render_parts.specs.PlacementSteps.{empty_row, put, put_to, telling_end, owning, keeping, with_hanging, with_due, with_own};
-ghost use Rattle.html_render_parts.specs.PlacementSteps.{with_gap, with_rest, with_row, nothing_placed, with_next, IsNextBottom, fitting};
+ghost use Rattle.html_render_parts.specs.PlacementSteps.{with_gap, with_rest, with_row, nothing_placed, with_next_row, IsNextBottom, fitting_positions};
 ghost use Rattle.html_render_parts.specs.Refusal.{Fails};
 
 use crate::table::{CellKind, Span};
@@ -14,7 +15,7 @@ use std::mem;
 
 /// Cell of the table with its own row and its own column.
 #[derive(Clone, Copy)]
-pub(crate) struct Standing {
+pub(crate) struct PositionedCell {
     /// Own row, from 0.
     row: usize,
     /// Own column: the position at which the cell begins in its own row.
@@ -34,7 +35,7 @@ pub(crate) struct Place {
     pub end: u128,
 }
 
-impl Standing {
+impl PositionedCell {
     /// Whether the cell's last row is `row` or below it.
     fn hangs_into(&self, row: u128) -> bool
         ensures { result ≡ hangs_into row self.now }
@@ -44,7 +45,7 @@ impl Standing {
     }
 
     /// Whether the cell's last row is above that of `other`.
-    fn ends_before(&self, other: &Standing) -> bool
+    fn ends_before(&self, other: &PositionedCell) -> bool
         ensures { result ≡ nat_lt (end_of self.now) (end_of other.now) }
     {
         if self.row <= other.row {
@@ -63,11 +64,11 @@ struct RowBuilder {
     /// Places so far.
     places: Vec<Place>,
     /// The row's own cells so far.
-    own: Vec<Standing>,
+    own: Vec<PositionedCell>,
     /// Ends of the own cells and of the displaced placeholders so far. Each other end is an edge of a cell above.
     told: Vec<u128>,
     /// Cells so far that hang into the next row, in the order in which they were placed.
-    kept: Vec<Standing>,
+    kept: Vec<PositionedCell>,
     /// Position at which the next place begins.
     cursor: u128,
 }
@@ -126,7 +127,7 @@ impl RowBuilder {
     }
 
     /// Returns the row's own cells so far.
-    fn own(&self) -> &[Standing]
+    fn own(&self) -> &[PositionedCell]
         ensures { result.now ≡ self.now.own }
     {
         &self.own
@@ -164,7 +165,7 @@ impl RowBuilder {
     /// Records the end of the last place.
     fn tell_end(&mut self) -> Result<(), Error>
         ensures ok { OnOk result (self.new ≡ telling_end self.old) }
-        ensures err { IfErr result (λ e. e ≡ Error.OutOfMemory) }
+        ensures err { OnlyOutOfMemory result }
     {
         let end = self.cursor;
         self.told.push(end)?;
@@ -172,9 +173,9 @@ impl RowBuilder {
     }
 
     /// Keeps a cell, placed in the row `row`, if it hangs into the next one.
-    fn keep(&mut self, row: usize, cell: Standing) -> Result<(), Error>
+    fn keep(&mut self, row: usize, cell: PositionedCell) -> Result<(), Error>
         ensures ok { OnOk result (self.new ≡ keeping row (cell ∷ []) self.old) }
-        ensures err { IfErr result (λ e. e ≡ Error.OutOfMemory) }
+        ensures err { OnlyOutOfMemory result }
     {
         if cell.hangs_into(row as u128 + 1) {
             self.kept.push(cell)?;
@@ -183,9 +184,9 @@ impl RowBuilder {
     }
 
     /// Keeps those of the cells, placed in the row `row`, that hang into the next one.
-    fn keep_all(&mut self, row: usize, cells: &[Standing]) -> Result<(), Error>
+    fn keep_all(&mut self, row: usize, cells: &[PositionedCell]) -> Result<(), Error>
         ensures ok { OnOk result (self.new ≡ keeping row cells.now self.old) }
-        ensures err { IfErr result (λ e. e ≡ Error.OutOfMemory) }
+        ensures err { OnlyOutOfMemory result }
     {
         for cell in cells {
             self.keep(row, *cell)?;
@@ -194,16 +195,16 @@ impl RowBuilder {
     }
 
     /// Adds a cell to the row's own.
-    fn take_own(&mut self, cell: Standing) -> Result<(), Error>
+    fn take_own(&mut self, cell: PositionedCell) -> Result<(), Error>
         ensures ok { OnOk result (self.new ≡ owning cell self.old) }
-        ensures err { IfErr result (λ e. e ≡ Error.OutOfMemory) }
+        ensures err { OnlyOutOfMemory result }
     {
         self.own.push(cell)?;
         Ok(())
     }
 
     /// Places the placeholder of a hanging cell at the cursor. If that is past the cell's own column, records the end.
-    fn put_hanging(&mut self, cell: Standing) -> Result<(), Error>
+    fn put_hanging(&mut self, cell: PositionedCell) -> Result<(), Error>
         ensures ok { OnOk result (with_hanging cell self.old ≡ Some self.new) }
         ensures err { IfErr result (λ e. Fails e (with_hanging cell self.old)) }
     {
@@ -221,7 +222,7 @@ impl RowBuilder {
         ensures err { IfErr result (λ e. Fails e (with_own row span self.old)) }
     {
         let column = self.cursor();
-        let cell = Standing { row, column, span };
+        let cell = PositionedCell { row, column, span };
         self.put(CellKind::Cell, span.colspan)?;
         self.tell_end()?;
         self.take_own(cell)?;
@@ -241,7 +242,11 @@ impl RowBuilder {
 
     /// Places the placeholders that are due, those of hanging cells whose own column is at most the cursor. Returns the
     /// cells that aren't due yet.
-    fn put_due<'a>(&mut self, row: usize, hanging: &'a [Standing]) -> Result<&'a [Standing], Error>
+    fn put_due<'a>(
+        &mut self,
+        row: usize,
+        hanging: &'a [PositionedCell],
+    ) -> Result<&'a [PositionedCell], Error>
         ensures ok { OnOk result (with_due row hanging.now self.old ≡ Some self.new) }
         ensures rest { IfOk result (λ rest. rest.now ≡ not_due self.old.cursor hanging.now) }
         ensures err { IfErr result (λ e. Fails e (with_due row hanging.now self.old)) }
@@ -258,7 +263,7 @@ impl RowBuilder {
 
     /// Places the placeholders after the row's own cells, each at the greater of the cursor and its cell's own column, after
     /// a gap if there is room.
-    fn put_rest(&mut self, hanging: &[Standing]) -> Result<(), Error>
+    fn put_rest(&mut self, hanging: &[PositionedCell]) -> Result<(), Error>
         ensures ok { OnOk result (with_rest hanging.now self.old ≡ Some self.new) }
         ensures err { IfErr result (λ e. Fails e (with_rest hanging.now self.old)) }
     {
@@ -271,7 +276,12 @@ impl RowBuilder {
 
     /// Places a row's own cells and those that hang into it.
     #[tactic(auto, using(crate::specs::laws::Refusal::refusals))]
-    fn put_row(&mut self, row: usize, cells: &[Span], hanging: &[Standing]) -> Result<(), Error>
+    fn put_row(
+        &mut self,
+        row: usize,
+        cells: &[Span],
+        hanging: &[PositionedCell],
+    ) -> Result<(), Error>
         ensures ok { OnOk result (with_row row cells.now hanging.now self.old ≡ Some self.new) }
         ensures err { IfErr result (λ e. Fails e (with_row row cells.now hanging.now self.old)) }
     {
@@ -285,7 +295,7 @@ impl RowBuilder {
     }
 
     /// Exchanges the kept cells for others.
-    fn swap_kept(&mut self, cells: &mut Vec<Standing>)
+    fn swap_kept(&mut self, cells: &mut Vec<PositionedCell>)
         ensures kept { self.new ≡ record self.old { kept = cells.old.items } }
         ensures cells { cells.new.items ≡ self.old.kept }
     {
@@ -294,7 +304,7 @@ impl RowBuilder {
 }
 
 /// Returns a cell that ends first; `None` if there are no cells.
-fn first_to_end(hanging: &[Standing]) -> Option<Standing>
+fn first_to_end(hanging: &[PositionedCell]) -> Option<PositionedCell>
     ensures { MatchOption result (hanging.now ≡ []) (λ first. Contains hanging.now first × All (λ c. end_of first ≤ end_of c) hanging.now) }
 {
     let mut first = *hanging.first()?;
@@ -307,7 +317,7 @@ fn first_to_end(hanging: &[Standing]) -> Option<Standing>
 }
 
 /// Removes all cells but those that end after `first`.
-fn keep_later(cells: &mut Vec<Standing>, first: Standing)
+fn keep_later(cells: &mut Vec<PositionedCell>, first: PositionedCell)
     ensures { cells.new.items ≡ filter (λ c. nat_lt (end_of first) (end_of c)) cells.old.items }
 {
     cells.retain(|cell| first.ends_before(cell));
@@ -320,7 +330,7 @@ pub(crate) struct RowPlacer {
     /// Last placed row.
     last: RowBuilder,
     /// Cells that hang into the next row, in order of own column.
-    hanging: Vec<Standing>,
+    hanging: Vec<PositionedCell>,
 }
 
 impl Model for RowPlacer {
@@ -357,7 +367,7 @@ impl RowPlacer {
     }
 
     /// Returns the last row's own cells, without those that hang into it.
-    pub(crate) fn own(&self) -> &[Standing]
+    pub(crate) fn own(&self) -> &[PositionedCell]
         ensures { result.now ≡ self.now.own }
     {
         self.last.own()
@@ -379,8 +389,8 @@ impl RowPlacer {
 
     /// Places the next row, `row`, with these own cells. On an error the hanging cells are unchanged.
     pub(crate) fn place_row(&mut self, row: usize, cells: &[Span]) -> Result<(), Error>
-        ensures ok { OnOk result (with_next row cells.now self.old ≡ Some self.new) }
-        ensures err { IfErr result (λ e. Fails e (with_next row cells.now self.old)) }
+        ensures ok { OnOk result (with_next_row row cells.now self.old ≡ Some self.new) }
+        ensures err { IfErr result (λ e. Fails e (with_next_row row cells.now self.old)) }
         ensures hanging { IfErr result (λ e. self.new.hanging ≡ self.old.hanging) }
     {
         self.last.clear();
@@ -393,7 +403,7 @@ impl RowPlacer {
     /// unchanged.
     pub(crate) fn place_bottom_row(&mut self) -> Result<bool, Error>
         ensures ok { IfOk result (λ placed. MatchBool placed (IsNextBottom self.old self.new) ((self.old.hanging ≡ []) × (self.new ≡ self.old))) }
-        ensures err { IfErr result (λ e. Fails e (fitting (bottom_rows self.old.hanging))) }
+        ensures err { IfErr result (λ e. Fails e (fitting_positions (bottom_rows self.old.hanging))) }
         ensures hanging { IfErr result (λ e. self.new.hanging ≡ self.old.hanging) }
     {
         let Some(first) = first_to_end(&self.hanging) else {
@@ -408,8 +418,8 @@ impl RowPlacer {
 
 /// Returns the places of all rows of a table, and of the rows below the last one. `Fail` if one would end past `u128::MAX`.
 pub(crate) fn place_rows(alloc: Global, rows: &[Vec<Span>]) -> Result<Vec<Vec<Place>>, Error>
-    ensures ok { IfOk result (λ all. fitting (placed_rows (lists rows.now)) ≡ Some (lists all.items)) }
-    ensures err { IfErr result (λ e. Fails e (fitting (placed_rows (lists rows.now)))) }
+    ensures ok { IfOk result (λ all. fitting_positions (placed_rows (lists rows.now)) ≡ Some (lists all.items)) }
+    ensures err { IfErr result (λ e. Fails e (fitting_positions (placed_rows (lists rows.now)))) }
 {
     let mut placed = Vec::new(alloc);
     let mut placer = RowPlacer::new(alloc);

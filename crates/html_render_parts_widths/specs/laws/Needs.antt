@@ -21,19 +21,19 @@ across_within w needs = of_widths w needs (λ ws. sum ws + (length ws - 1) ≤ w
 -- ---- cells side by side have their minimum widths
 
 -- a column needs at least the part of each cell that covers it
-given-most : (cells : List CellNeed) (k : ℕ) → All (λ c. given (part c c.least) k ≤ greatest_at (map (λ c. part c c.least) cells) k) cells
-given-most [] k = All-nil (λ c. given (part c c.least) k ≤ greatest_at (map (λ c. part c c.least) []) k)
+given-most : (cells : List CellNeed) (k : ℕ) → All (λ c. given (part c c.min_width) k ≤ greatest_at (map (λ c. part c c.min_width) cells) k) cells
+given-most [] k = All-nil (λ c. given (part c c.min_width) k ≤ greatest_at (map (λ c. part c c.min_width) []) k)
 given-most (c ∷ cs) k =
-    All-cons (λ d. given (part d d.least) k ≤ greatest_at (map (λ c. part c c.least) (c ∷ cs)) k) c cs (omega arith)
-    (All-weaker (λ d. given (part d d.least) k ≤ greatest_at (map (λ c. part c c.least) cs) k)
-    (λ d. given (part d d.least) k ≤ greatest_at (map (λ c. part c c.least) (c ∷ cs)) k) (λ d less. omega (arith, less)) cs (given-most cs k))
+    All-cons (λ d. given (part d d.min_width) k ≤ greatest_at (map (λ c. part c c.min_width) (c ∷ cs)) k) c cs (omega arith)
+    (All-weaker (λ d. given (part d d.min_width) k ≤ greatest_at (map (λ c. part c c.min_width) cs) k)
+    (λ d. given (part d d.min_width) k ≤ greatest_at (map (λ c. part c c.min_width) (c ∷ cs)) k) (λ d less. omega (arith, less)) cs (given-most cs k))
 
 -- a cell gives its part to each of its columns
-part-given : (c : CellNeed) (k : ℕ) → c.start ≤ k → k < c.start + c.count → c.least / c.count ≤ given (part c c.least) k
+part-given : (c : CellNeed) (k : ℕ) → c.start ≤ k → k < c.start + c.count → c.min_width / c.count ≤ given (part c c.min_width) k
 part-given c k from to =
     let over : (leb c.start k && nat_lt k (c.start + c.count)) ≡ true =
     and_from (leb c.start k) (nat_lt k (c.start + c.count)) (le-leb c.start k from) (lt-ltb k (c.start + c.count) to) in
-    subst (λ b. c.least / c.count ≤ cond b (c.least / c.count) 0) (sym over) (omega arith)
+    subst (λ b. c.min_width / c.count ≤ cond b (c.min_width / c.count) 0) (sym over) (omega arith)
 
 has_room : (columns : ℕ) (cells : List CellNeed) (ws : List ℕ) → AreCells columns cells →
     HoldTogether (least_widths (column_needs columns cells)) ws → All (HasRoom ws) cells
@@ -45,18 +45,18 @@ has_room columns cells ws h hold = All-weaker (Contains cells) (HasRoom ws) room
     len : length needs ≡ columns
     len = length-map-range_with_len (need_at cells) 0 columns
 
-    least-at : (k : ℕ) → k < columns → get_or (least_widths needs) k 0 ≡ greatest_at (map (λ c. part c c.least) cells) k
+    least-at : (k : ℕ) → k < columns → get_or (least_widths needs) k 0 ≡ greatest_at (map (λ c. part c c.min_width) cells) k
     least-at k inside =
-        get_or-map (λ (n : ColumnNeed). n.least) needs k no_need 0 (omega (arith, inside, len))
-        ∙ ap (λ (n : ColumnNeed). n.least) (get_or-map-range_with_len (need_at cells) 0 columns k k no_need inside (omega arith))
+        get_or-map (λ (n : ColumnNeed). n.min_width) needs k no_need 0 (omega (arith, inside, len))
+        ∙ ap (λ (n : ColumnNeed). n.min_width) (get_or-map-range_with_len (need_at cells) 0 columns k k no_need inside (omega arith))
 
     room : (c : CellNeed) → Contains cells c → HasRoom ws c
     room c inside =
         let is = All-contains (IsCell columns) cells c h inside in
         let over = is.over in
-        hold c.start c.count c.least is.some (omega (arith, over, len, length-map needs (λ (n : ColumnNeed). n.least))) (λ k from to.
+        hold c.start c.count c.min_width is.some (omega (arith, over, len, length-map needs (λ (n : ColumnNeed). n.min_width))) (λ k from to.
         let in_columns : k < columns = omega (arith, to, over) in
-        let most = All-contains (λ d. given (part d d.least) k ≤ greatest_at (map (λ c. part c c.least) cells) k) cells c
+        let most = All-contains (λ d. given (part d d.min_width) k ≤ greatest_at (map (λ c. part c c.min_width) cells) k) cells c
         (given-most cells k) inside in
         omega (arith, least-at k in_columns, part-given c k from to, most))
 

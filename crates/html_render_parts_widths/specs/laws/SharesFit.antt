@@ -10,12 +10,9 @@ use Rattle.std.proofs.lemmas.List.Sums.{sum_by-cons}
 use Rattle.html_render_parts_widths.specs.declared.shares.ColumnNeed.{ColumnNeed}
 use Rattle.html_render_parts_widths.specs.Cuts.{cut_by_units, CutFits, IsCut}
 use Rattle.html_render_parts_widths.specs.Shares.{least_widths, share, share_by_size, shares, stand_side_by_side, widths_across}
-use Rattle.html_render_parts_widths.specs.Needs.{AreWithinSizes}
+use Rattle.html_render_parts_widths.specs.Needs.{no_need, AreWithinSizes}
 use Rattle.html_render_parts_widths.specs.laws.Cuts.{few-units}
 use Rattle.html_render_parts_widths.specs.laws.UnitCut.{cut_by_units-fairest}
-
-no_need : ColumnNeed
-no_need = record { size = 0; least = 0 }
 
 and_true : (a b : Bool) → (a && b) ≡ true → b ≡ true
 and_true true b e = e
@@ -23,16 +20,16 @@ and_true false b e = cc
 
 pub shares_fit : (w : ℕ) (needs : List ColumnNeed) → stand_side_by_side w needs ≡ true → CutFits (least_widths needs) (shares w needs) w
 shares_fit w needs stand =
-    let same : length (least_widths needs) ≡ length needs = length-map needs (λ n. n.least) in
+    let same : length (least_widths needs) ≡ length needs = length-map needs (λ n. n.min_width) in
     let room = leb-true (sum (least_widths needs) + (length needs - 1)) w
     (and_true (not (w == 0)) (leb (sum (least_widths needs) + (length needs - 1)) w) stand) in
     record {
-      lengths = same ∙ sym (length-map needs (share w (sum_by (λ (m : ColumnNeed). m.size) needs)));
+      lengths = same ∙ sym (length-map needs (share w (sum_by (λ (m : ColumnNeed). m.preferred_width) needs)));
       each = λ k inside.
           let k_in : k < length needs = omega (arith, inside, same) in
           rw (
-            get_or-map (λ n. n.least) needs k no_need 0 k_in,
-            get_or-map (share w (sum_by (λ (m : ColumnNeed). m.size) needs)) needs k no_need 0 k_in,
+            get_or-map (λ n. n.min_width) needs k no_need 0 k_in,
+            get_or-map (share w (sum_by (λ (m : ColumnNeed). m.preferred_width) needs)) needs k no_need 0 k_in,
           )
           (omega arith);
       room = omega (arith, room, same);
@@ -60,26 +57,26 @@ div-both a b (suc t) =
     (le-div_iff_mul-le {k = suc t} {x = a / suc t + b / suc t} {y = a + b} (omega arith)).1
     (omega (arith, add-mul (a / suc t) (b / suc t) (suc t), div-mul-le_self a (suc t), div-mul-le_self b (suc t)))
 
-shares-most : (w t : ℕ) (needs : List ColumnNeed) → sum (map (share w t) needs) ≤ sum (least_widths needs) + sum_by (λ m. m.size) needs * w / t
+shares-most : (w t : ℕ) (needs : List ColumnNeed) → sum (map (share w t) needs) ≤ sum (least_widths needs) + sum_by (λ m. m.preferred_width) needs * w / t
 shares-most w t [] = omega arith
 shares-most w t (n ∷ ns) =
-    let one : share w t n ≤ n.least + n.size * w / t = omega arith in
+    let one : share w t n ≤ n.min_width + n.preferred_width * w / t = omega arith in
     let rest = shares-most w t ns in
-    let both = div-both (n.size * w) (sum_by (λ m. m.size) ns * w) t in
+    let both = div-both (n.preferred_width * w) (sum_by (λ m. m.preferred_width) ns * w) t in
     omega (
       arith,
       one,
       rest,
       both,
-      ap (λ x. x / t) (ap (λ x. x * w) (sum_by-cons (λ (m : ColumnNeed). m.size) n ns) ∙ add-mul n.size (sum_by (λ m. m.size) ns) w),
+      ap (λ x. x / t) (ap (λ x. x * w) (sum_by-cons (λ (m : ColumnNeed). m.preferred_width) n ns) ∙ add-mul n.preferred_width (sum_by (λ m. m.preferred_width) ns) w),
       sum_by-cons (λ x. x) (share w t n) (map (share w t) ns),
-      sum_by-cons (λ x. x) n.least (least_widths ns),
+      sum_by-cons (λ x. x) n.min_width (least_widths ns),
     )
 
 pub shares_keep : (w : ℕ) (needs : List ColumnNeed) → sum (shares w needs) ≤ sum (least_widths needs) + w
 shares_keep w needs =
-    let most = shares-most w (sum_by (λ (m : ColumnNeed). m.size) needs) needs in
-    let total = sum_by (λ (m : ColumnNeed). m.size) needs in
+    let most = shares-most w (sum_by (λ (m : ColumnNeed). m.preferred_width) needs) needs in
+    let total = sum_by (λ (m : ColumnNeed). m.preferred_width) needs in
     let whole : total * w / total ≤ w = div-le_of_le-mul total {m = total * w} {n = w} (omega arith) in
     omega (arith, most, whole)
 
@@ -89,20 +86,20 @@ few_units_across w needs = of_widths w needs (λ ws. sum (shares w needs) - sum 
     (λ ws fits cut. few-units (least_widths needs) (shares w needs) w ws fits cut (shares_keep w needs))
 
 -- if a column's minimum width is at most its preferred width, its share is `share_by_size`
-pub share_is : (w t : ℕ) (n : ColumnNeed) → n.least ≤ n.size → share w t n ≡ share_by_size w t n
-share_is w t n h = by (n.size == 0) refl
+pub share_is : (w t : ℕ) (n : ColumnNeed) → n.min_width ≤ n.preferred_width → share w t n ≡ share_by_size w t n
+share_is w t n h = by (n.preferred_width == 0) refl
   where
-    by : (b : Bool) → (n.size == 0) ≡ b → share w t n ≡ cond b 0 (min n.size (max (n.size * w / t) n.least))
-    by true e = let zero = eqb-true n.size 0 e in omega arith
+    by : (b : Bool) → (n.preferred_width == 0) ≡ b → share w t n ≡ cond b 0 (min n.preferred_width (max (n.preferred_width * w / t) n.min_width))
+    by true e = let zero = eqb-true n.preferred_width 0 e in omega arith
     by false e = omega arith
 
 all_shares_are : (w t : ℕ) (needs : List ColumnNeed) → AreWithinSizes needs → map (share w t) needs ≡ map (share_by_size w t) needs
 all_shares_are w t [] h = refl
 all_shares_are w t (n ∷ ns) h =
-    let P : ColumnNeed → Type 0 = λ m. m.least ≤ m.size in
+    let P : ColumnNeed → Type 0 = λ m. m.min_width ≤ m.preferred_width in
     ap (λ x. x ∷ map (share w t) ns) (share_is w t n (All-head P n ns h))
     ∙ ap (λ xs. share_by_size w t n ∷ xs) (all_shares_are w t ns (All-tail P n ns h))
 
 pub shares_are : (w : ℕ) (needs : List ColumnNeed) → AreWithinSizes needs →
-    shares w needs ≡ map (share_by_size w (sum_by (λ (m : ColumnNeed). m.size) needs)) needs
-shares_are w needs h = all_shares_are w (sum_by (λ (m : ColumnNeed). m.size) needs) needs h
+    shares w needs ≡ map (share_by_size w (sum_by (λ (m : ColumnNeed). m.preferred_width) needs)) needs
+shares_are w needs h = all_shares_are w (sum_by (λ (m : ColumnNeed). m.preferred_width) needs) needs h

@@ -6,13 +6,13 @@ use Rattle.html_render_parts.specs.Placement.{own_from, own_rows_from, due_end, 
 use Rattle.html_render_parts.specs.TableCells.{on_columns}
 use Rattle.html_render_parts.specs.declared.table.Span.{Span}
 use Rattle.html_render_parts.specs.declared.table.cells.GridCell.{GridCell}
-use Rattle.html_render_parts.specs.declared.table.placement.Standing.{Standing}
+use Rattle.html_render_parts.specs.declared.table.placement.PositionedCell.{PositionedCell}
 use Rattle.html_render_tree_mapping.specs.declared.tables.CellSpan.{CellSpan}
 use Rattle.html_render_layout_nodes.specs.declared.tree.NodeKind.{NodeKind}
 use Rattle.html_render_layout_nodes.specs.declared.tree.NodeKind.TheVariants.{Table, TableRow, TableCell}
 use Rattle.html_render_tree_mapping.specs.Tables.{spanned, spanned_in, width_of}
 use Rattle.html_render_tree_mapping.specs.Results.{Nodes, in_first}
-use Rattle.html_render_tree.specs.GoodTrees.{Place, Anywhere, Nowhere, InTable, InRow, is_leaf, around, are_good_below, are_good}
+use Rattle.html_render_tree.specs.GoodTrees.{TreePlace, Anywhere, Nowhere, InTable, InRow, is_leaf, places_around, are_good_below, are_good}
 
 -- two tests, each of which follows from another
 and-map : {a b a' b' : Bool} → (a ≡ true → a' ≡ true) → (b ≡ true → b' ≡ true) → (a && b) ≡ true → (a' && b') ≡ true
@@ -41,12 +41,12 @@ pub spanned_in-alike : (widest : ℕ) (rows : List (List CellSpan)) → rows_lik
 spanned_in-alike widest [] = refl
 spanned_in-alike widest (cells ∷ rows) = rw (cells_like-map (spanned (widest - width_of cells)) cells, spanned_in-alike widest rows) refl
 
-own-alike : (edges : List ℕ) (row cursor : ℕ) (hs : List Standing) (cells : List Span) →
+own-alike : (edges : List ℕ) (row cursor : ℕ) (hs : List PositionedCell) (cells : List Span) →
     cells_like (map (on_columns edges) (own_from row cursor hs cells)) ≡ cells_like cells
 own-alike edges row cursor hs [] = refl
 own-alike edges row cursor hs (s ∷ cells) = ap (λ cs. some_cell ∷ cs) (own-alike edges row (due_end cursor hs + s.colspan) (not_due cursor hs) cells)
 
-pub own_rows-alike : (edges : List ℕ) (row : ℕ) (hung : List Standing) (rows : List (List Span)) →
+pub own_rows-alike : (edges : List ℕ) (row : ℕ) (hung : List PositionedCell) (rows : List (List Span)) →
     rows_like (map (map (on_columns edges)) (own_rows_from row hung rows)) ≡ rows_like rows
 own_rows-alike edges row hung [] = refl
 own_rows-alike edges row hung (cells ∷ rows) =
@@ -54,8 +54,8 @@ own_rows-alike edges row hung (cells ∷ rows) =
 
 -- ---- a first tree and its later siblings
 
-abbrev pub good_over : Place → NodeKind → (children others : Nodes) → Bool
-good_over place kind children others = are_good_below (λ p. are_good p children) (λ p. are_good p others) (around place kind)
+abbrev pub good_over : TreePlace → NodeKind → (children others : Nodes) → Bool
+good_over place kind children others = are_good_below (λ p. are_good p children) (λ p. are_good p others) (places_around place kind)
 
 -- the later siblings may be others, if these are good
 at-anywhere : (kind : NodeKind) (t u u' : Nodes) → (are_good Anywhere u ≡ true → are_good Anywhere u' ≡ true) →

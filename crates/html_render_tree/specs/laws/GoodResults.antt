@@ -18,7 +18,7 @@ use Rattle.html_render_tree_mapping.specs.Results.{Nodes, Result, Role, Contents
 use Rattle.html_render_tree_mapping.specs.Results.{level_in, in_first, of_role, trees_of, over, spans_of, inserted, leaf, completed}
 use Rattle.html_render_tree_convert.specs.laws.Roles.{cell_spans, in_style, is_cell, is_row, joined, row_spans}
 use Rattle.html_render_tree_mapping.specs.Tables.{greatest_width, spanned_in}
-use Rattle.html_render_tree.specs.GoodTrees.{Place, Anywhere, InTable, InRow, around, is_over, are_good_below, are_good}
+use Rattle.html_render_tree.specs.GoodTrees.{TreePlace, Anywhere, InTable, InRow, places_around, is_over, are_good_below, are_good}
 use Rattle.html_render_tree.specs.laws.GoodPlaces.{some_cell, cells_like, rows_like, spanned_in-alike, at-row}
 use Rattle.html_render_tree.specs.laws.GoodPlaces.{followed-anywhere, followed-rows, into_cell-good, into_row-good, between-good}
 
@@ -32,7 +32,7 @@ a_node kind style estimate = record { kind = kind; style = style; estimate = est
 
 -- whether a node may have children, and is no table and no part of one
 abbrev pub IsPlain : NodeKind → Type 0
-IsPlain kind = around Anywhere kind ≡ Some (record { below = Anywhere; beside = Anywhere })
+IsPlain kind = places_around Anywhere kind ≡ Some (record { below = Anywhere; beside = Anywhere })
 
 -- whether a result is good in the place of its role: its node over the trees below it; of a caption a plain node and the trees, of
 -- `Rows` the trees alone
@@ -57,7 +57,7 @@ abbrev pub AllGoodOf : (Role → Bool) → List Result → Type 0
 AllGoodOf is = AllByRecursion (λ r. IsGoodResult r × (is r.role ≡ true))
 
 -- whether trees, if there are any, are good in a place
-abbrev pub AreGoodIn : Place → Option Nodes → Type 0
+abbrev pub AreGoodIn : TreePlace → Option Nodes → Type 0
 AreGoodIn place o = IfSome o (λ t. are_good place t ≡ true)
 
 -- those of good results that pass a test are good, and pass it
@@ -104,7 +104,7 @@ good-map P Q f is (Some x) h = is x h
 
 -- ---- results beside each other
 
-beside-good : (is : Role → Bool) (place : List Result → Place) → is_over (place []) ≡ true →
+beside-good : (is : Role → Bool) (place : List Result → TreePlace) → is_over (place []) ≡ true →
     ((r : Result) (rs : List Result) (t u : Nodes) → is r.role ≡ true → IsGood r.role r.node t → are_good (place rs) u ≡ true →
     are_good (place (r ∷ rs)) (node r.node t u) ≡ true) → (rs : List Result) → AllGoodOf is rs → AreGoodIn (place rs) (beside rs)
 beside-good is place last first [] g = last
@@ -134,7 +134,7 @@ trees_of-good rs g =
     (λ e. alone-good rs (all-good stands_alone rs g e)) (λ e. tt)
 
 -- cells are good in a row, and rows in a table
-abbrev cells_place : List Result → Place
+abbrev cells_place : List Result → TreePlace
 cells_place rs = InRow (cells_like (flat_map (λ r. cell_spans r.role) rs))
 
 pub cells-good : (rs : List Result) → AllGoodOf is_cell rs → AreGoodIn (cells_place rs) (beside rs)
@@ -146,7 +146,7 @@ cells-good = beside-good is_cell cells_place refl (λ r rs t u cell h k. by r.ro
     by (Cell span) n rs t u cell h k = at-row n.kind some_cell [] (cells_like (flat_map (λ r. cell_spans r.role) rs)) t t none u (λ e. e) (λ e. k) h
     by role n rs t u cell h k = cc
 
-abbrev rows_place : List Result → Place
+abbrev rows_place : List Result → TreePlace
 rows_place rs = InTable (rows_like (flat_map (λ r. row_spans r.role) rs))
 
 pub rows-good : (rs : List Result) → AllGoodOf is_row rs → AreGoodIn (rows_place rs) (beside rs)
@@ -185,7 +185,7 @@ joined-good (r ∷ rs) g = by r.role r.below (joined rs) g.0.1 g.0.0 (joined-goo
 -- ---- insertions
 
 -- if trees that are good in `place` are good for a role, so are optional trees
-pub below-good : (place : Place) (role : Role) (n : RenderNode) → ((t : Nodes) → are_good place t ≡ true → IsGood role n t) →
+pub below-good : (place : TreePlace) (role : Role) (n : RenderNode) → ((t : Nodes) → are_good place t ≡ true → IsGood role n t) →
     (o : Option Nodes) → AreGoodIn place o → IsGoodIn role n o
 below-good place role n is o h = IfSome_then o h is
 

@@ -7,12 +7,12 @@ use Rattle.std.proofs.lemmas.Bool.{and_from, cond_both}
 use Rattle.std.specs.Str.{bytes_eq}
 use Rattle.html_render_dom_values.specs.Forest.{Forest, none, node}
 use Rattle.html_render_dom_values.specs.Outcome.{◌>>=◌}
-use Rattle.html_render_dom_cascade.specs.Cascade.{value_of}
+use Rattle.html_render_dom_styles.specs.Cascade.{value_of}
 use Rattle.html_render_dom_nodes.specs.Content.{Content, document, doctype, text, comment, element, instruction, is_html}
 use Rattle.html_render_dom.specs.Dom.{Dom, tree_of}
 use Rattle.html_render_dom.specs.ElementStyle.{ElementStyle}
-use Rattle.html_render_dom_rules.specs.Rules.{Rule as StyleRule}
-use Rattle.html_render_dom_rules.specs.Selectors.{is_filled}
+use Rattle.html_render_dom_styles.specs.Rules.{Rule as StyleRule}
+use Rattle.html_render_dom_styles.specs.Selectors.{is_filled}
 use Rattle.html_render_parts.specs.Grid.{edges_of, positions_fit}
 use Rattle.html_render_parts.specs.Placement.{placed_rows, own_rows_from}
 use Rattle.html_render_parts.specs.TableCells.{CellGrid, on_columns}

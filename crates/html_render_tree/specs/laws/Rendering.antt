@@ -1,22 +1,24 @@
 -- Lines of a configuration with their promises, and their strings and texts.
 use Rattle.std.proofs.Common.{◌≡◌, ℕ, Bool, true, false, List, [], ◌∷◌, ◌++◌, Option, Some, None, ◌==◌, ◌↔◌, cond, option_map, option_and_then, refl}
 use Rattle.std.proofs.Common.{map, sym, ap, ◌∙◌}
-use Rattle.std.specs.Prelude.{encode_utf8}
+use Rattle.std.specs.Prelude.{◌≢◌, ◌≤◌, Result, Err, encode_utf8}
 use Rattle.std.specs.Cmp.Lexicographic.{pointwise}
 use Rattle.html_render_dom_values.specs.Forest.{Forest}
-use Rattle.html_render_parts_decorators.specs.Decoration.{Decoration}
+use Rattle.html_render_dom_values.specs.declared.errors.Error.{Error}
+use Rattle.html_render_dom_values.specs.declared.errors.Error.TheVariants.{TooNarrow}
+use Rattle.html_render_parts.specs.Decoration.{Decoration}
 use Rattle.html_render_layout_lines.specs.declared.line.Element.TheVariants.{Character, Mark}
 use Rattle.html_render_layout_lines.specs.Line.{Line, text_bytes}
 use Rattle.html_render_layout_lines.specs.Tags.{line_with, lines_with}
 use Rattle.html_render_layout_nodes.specs.declared.tree.RenderNode.{RenderNode}
 use Rattle.html_render_layout_estimates.specs.declared.settings.LayoutSettings.{LayoutSettings}
-use Rattle.html_render_layout_nodes.specs.Pass.{run}
+use Rattle.html_render_layout_nodes.specs.Visitor.{run}
 use Rattle.html_render_layout_blocks.specs.declared.block.BlockSetting.{BlockSetting}
-use Rattle.html_render_layout_states.specs.Layout.{layout_lines, mark_names, Defined, defined, estimated, empty_state, unannotated}
+use Rattle.html_render_layout.specs.Layout.{layout_lines, mark_names, Defined, defined, estimated, empty_state, unannotated}
 use Rattle.html_render_layout.specs.Promises.{AreLines}
-use Rattle.html_render_layout.specs.laws.Promises.{same-names}
-use Rattle.html_render_layout_tagged.specs.Grouping.{Piece, grouped}
-use Rattle.html_render_tree.specs.Rendering.{document_block, Options, rendered_lines, rendered_names, rendered_strings, Rendered, AreStrings}
+use Rattle.html_render_layout.specs.laws.Promises.{lines_there, same-names, texts_left}
+use Rattle.html_render_layout_tagged.specs.Grouping.{LinePart, grouped}
+use Rattle.html_render_tree.specs.Rendering.{document_block, Options, rendered_lines, rendered_names, rendered_strings, KeepsPromises, Rendered, AreStrings}
 use Rattle.html_render_tree.specs.Texts.{line_bytes, text_of}
 
 -- ---- texts
@@ -68,7 +70,7 @@ text-answered d options tree width bytes h = ap (option_map text_of) h.1.are ∙
 
 -- strings are the lines under the names of their marks, with all promises
 pub strings-rendered : {S A : Type 0} (d : Decoration S A) (options : Options S) (tree : Forest RenderNode) (width : ℕ) (eq : A → A → Bool)
-    (strings : List (List (Piece (List A)))) (lines : List (Line (List A) ℕ)) (names : List (List ℕ)) →
+    (strings : List (List (LinePart (List A)))) (lines : List (Line (List A) ℕ)) (names : List (List ℕ)) →
     AreLines d options.settings tree options.decorator (document_block options width) lines → rendered_names d options tree width ≡ Some names →
     strings ≡ map (grouped (pointwise eq) names) lines → Rendered d options tree width (AreStrings d options tree width eq strings)
 strings-rendered d options tree width eq strings lines names are there grouped = (
@@ -84,8 +86,17 @@ strings-rendered d options tree width eq strings lines names are there grouped =
 
 -- those strings are the definition's strings
 pub strings-answered : {S A : Type 0} (d : Decoration S A) (options : Options S) (tree : Forest RenderNode) (width : ℕ) (eq : A → A → Bool)
-    (strings : List (List (Piece (List A)))) → Rendered d options tree width (AreStrings d options tree width eq strings) →
+    (strings : List (List (LinePart (List A)))) → Rendered d options tree width (AreStrings d options tree width eq strings) →
     rendered_strings d options tree width eq ≡ Some strings
 strings-answered d options tree width eq strings h =
     ap (option_and_then (λ ls. option_and_then (λ ns. Some (map (grouped (pointwise eq) ns) ls)) (rendered_names d options tree width))) h.1.are
     ∙ ap (option_and_then (λ ns. Some (map (grouped (pointwise eq) ns) h.0))) h.2.are_names ∙ ap Some (sym h.2.are)
+
+-- ---- promises
+
+-- a call keeps its promises if it is `TooNarrow` at width 0, and with overflow on at no other width
+pub promises_kept : {S A R : Type 0} (d : Decoration S A) (options : Options S) (tree : Forest RenderNode) (width : ℕ) (result : Result R Error) →
+    (width ≡ 0 → result ≡ Err TooNarrow) → (options.overflow ≡ true → 1 ≤ width → result ≢ Err TooNarrow) →
+    KeepsPromises d options tree width result
+promises_kept d options tree width result none wide =
+    (none, wide, lines_there d options.settings tree options.decorator (document_block options width), texts_left d)

@@ -14,21 +14,20 @@ use Rattle.html_render_layout_nodes.specs.declared.tree.Estimate.{Estimate}
 use Rattle.html_render_layout_nodes.specs.declared.tree.NodeKind.{NodeKind}
 use Rattle.html_render_layout_nodes.specs.declared.tree.NodeKind.TheVariants.{Text, Break, Superscript, Image, Svg, FragmentStart, Table, TableRow, TableCell}
 use Rattle.html_render_layout_nodes.specs.declared.tree.RenderNode.{RenderNode}
-use Rattle.html_render_layout_nodes.specs.Pass.{Place, Bare, Skipped, Within, is_skipped, Places, bare, Visit, Leaf, Inner, Visits, through_visit, inside, followed}
-use Rattle.html_render_layout_nodes.specs.Pass.{placed, run_at, run, nodes_at}
+use Rattle.html_render_layout_nodes.specs.Visitor.{NodePlace, Bare, Skipped, Within, is_skipped, Places, bare, Visit, Leaf, Inner, Visits, through_visit, inside, followed}
+use Rattle.html_render_layout_nodes.specs.Visitor.{placed, run_at, run, nodes_at}
 use Rattle.html_render_layout_nodes.specs.laws.Visits.{from, from_state}
-use Rattle.html_render_layout_states.specs.declared.nesting.OwnBlock.{OwnBlock}
-use Rattle.html_render_layout_states.specs.declared.nesting.OwnBlock.TheVariants.{Shared, Prefixed, Indented}
-use Rattle.html_render_layout_states.specs.declared.state.LayoutState.{LayoutState}
+use Rattle.html_render_layout.specs.declared.nesting.OwnBlock.{OwnBlock}
+use Rattle.html_render_layout.specs.declared.nesting.OwnBlock.TheVariants.{Shared, Prefixed, Indented}
+use Rattle.html_render_layout.specs.declared.state.LayoutState.{LayoutState}
 use Rattle.html_render_layout_blocks.specs.declared.block.BlockSetting.{BlockSetting}
 use Rattle.html_render_layout_estimates.specs.Estimates.{measured_kind, measured}
 use Rattle.html_render_layout_estimates.specs.declared.settings.LayoutSettings.{LayoutSettings}
-use Rattle.html_render_parts_decorators.specs.Decoration.{Decoration}
-use Rattle.html_render_layout_states.specs.Layout.{Means, Write, Shape, Steps, Around, Items, Cells, digits_of, raised, superscript, block_of, shape_of, style_steps}
-use Rattle.html_render_layout_states.specs.Layout.{perform_all, block_place, shape_layout, kind_layout, layout_of}
-use Rattle.html_render_layout_states.specs.Layout.{by_stacks, defined, empty_state, estimated, layout_lines}
-use Rattle.html_render_tree.specs.GoodTrees.{Anywhere, Nowhere, InTable, InRow, is_leaf, around, are_good_below, are_good}
-use Rattle.html_render_tree.specs.GoodTrees.{Place as GoodPlace}
+use Rattle.html_render_parts.specs.Decoration.{Decoration}
+use Rattle.html_render_layout.specs.Layout.{Algebra, Write, Shape, Steps, Around, Items, Cells, digits_of, raised, superscript, block_of, shape_of, style_steps}
+use Rattle.html_render_layout.specs.Layout.{perform_all, block_place, shape_layout, kind_layout, layout_of}
+use Rattle.html_render_layout.specs.Layout.{by_stacks, defined, empty_state, estimated, layout_lines}
+use Rattle.html_render_tree.specs.GoodTrees.{TreePlace, Anywhere, Nowhere, InTable, InRow, is_leaf, places_around, are_good_below, are_good}
 use Rattle.html_render_tree.specs.Visited.{all_nodes, VisitedNode, visits_at, is_raised, leaves_out, with_left_out, left_out, VisitsAllBut}
 
 -- ---- trees whose leaves have no children
@@ -41,12 +40,12 @@ nothing-below : (t : Forest RenderNode) → are_good Nowhere t ≡ true → t �
 nothing-below none h = refl
 nothing-below (node n children beside) h = cc
 
-pub good-bare : (p : GoodPlace) (t : Forest RenderNode) → are_good p t ≡ true → LeavesBare t
+pub good-bare : (p : TreePlace) (t : Forest RenderNode) → are_good p t ≡ true → LeavesBare t
 good-bare p none h = tt
 good-bare p (node n children others) h = by p n.kind h (λ q k. good-bare q children k) (λ q k. good-bare q others k)
   where
-    by : (p : GoodPlace) (kind : NodeKind) → are_good_below (λ q. are_good q children) (λ q. are_good q others) (around p kind) ≡ true →
-        ((q : GoodPlace) → are_good q children ≡ true → LeavesBare children) → ((q : GoodPlace) → are_good q others ≡ true → LeavesBare others) →
+    by : (p : TreePlace) (kind : NodeKind) → are_good_below (λ q. are_good q children) (λ q. are_good q others) (places_around p kind) ≡ true →
+        ((q : TreePlace) → are_good q children ≡ true → LeavesBare children) → ((q : TreePlace) → are_good q others ≡ true → LeavesBare others) →
         (is_leaf kind ≡ true → children ≡ none) × (LeavesBare children × LeavesBare others)
     by Anywhere (Table grid) h below beside =
         let both = and_parts (are_good (InTable grid.cells.rows) children) (are_good Anywhere others) h in
@@ -123,7 +122,7 @@ left-count (v ∷ vs) =
 
 -- ---- nodes that a layout leaves out
 
-module _ {S A K T B : Type 0} (m : Means S A K T B) where
+module _ {S A K T B : Type 0} (m : Algebra S A K T B) where
   abbrev State : Type 0
   State = LayoutState S K T B
 
@@ -149,8 +148,8 @@ module _ {S A K T B : Type 0} (m : Means S A K T B) where
   block-enters : (leaves : Bool) (children : Forest RenderNode) (b : OwnBlock) (s : State) (visit : State → Visit State) →
       ((q : State) → Enters leaves children (visit q)) → Enters leaves children (placed (block_place m b s) visit s)
   block-enters leaves children Shared s visit h = h s
-  block-enters leaves children (Prefixed prefix least) s visit h = within-enters leaves children s _ _ visit h
-  block-enters leaves children (Indented prefix columns least) s visit h = within-enters leaves children s _ _ visit h
+  block-enters leaves children (Prefixed prefix min_width) s visit h = within-enters leaves children s _ _ visit h
+  block-enters leaves children (Indented prefix columns min_width) s visit h = within-enters leaves children s _ _ visit h
 
   shape-enters : (children : Forest RenderNode) (x : Shape S A) (s : State) → children ≡ none → Enters false children (shape_layout m x s)
   shape-enters children (Steps xs) s h = always ((false ≡ true) ⊎ (children ≡ none)) (perform_all m s xs s) (inr h)
@@ -187,7 +186,7 @@ module _ {S A K T B : Type 0} (m : Means S A K T B) where
           followed-enters (is_raised n.kind children) children (kind_layout m n.kind n.estimate children q) _
           (kind-enters n.kind n.estimate children q h)
 
-  place-enters : (p : Place State) (n : RenderNode) (children : Forest RenderNode) (s : State) → (is_leaf n.kind ≡ true → children ≡ none) →
+  place-enters : (p : NodePlace State) (n : RenderNode) (children : Forest RenderNode) (s : State) → (is_leaf n.kind ≡ true → children ≡ none) →
       Enters (is_skipped p || is_raised n.kind children) children (placed p (layout_of m n children) s)
   place-enters Bare n children s h = node-enters n children s h
   place-enters (Skipped t) n children s h = inl refl
@@ -283,8 +282,8 @@ module _ {S A K T B : Type 0} (m : Means S A K T B) where
   block-skips : (row : Bool) (b : OwnBlock) (s : State) (visit : State → Visit State) → ((q : State) → SkipsBelow row (visit q)) →
       SkipsBelow row (placed (block_place m b s) visit s)
   block-skips row Shared s visit h = h s
-  block-skips row (Prefixed prefix least) s visit h = within-skips row s _ _ visit h
-  block-skips row (Indented prefix columns least) s visit h = within-skips row s _ _ visit h
+  block-skips row (Prefixed prefix min_width) s visit h = within-skips row s _ _ visit h
+  block-skips row (Indented prefix columns min_width) s visit h = within-skips row s _ _ visit h
 
   -- whether a shape has cells
   abbrev has_cells : Shape S A → Bool
@@ -294,7 +293,7 @@ module _ {S A K T B : Type 0} (m : Means S A K T B) where
   shape-skips : (x : Shape S A) (s : State) → SkipsBelow (has_cells x) (shape_layout m x s)
   shape-skips (Steps xs) s = tt
   shape-skips (Around xs ys) s = λ number q e. e
-  shape-skips (Items prefix columns least) s = λ number q e. e
+  shape-skips (Items prefix columns min_width) s = λ number q e. e
   shape-skips Cells s = λ number q e. refl
 
   kind-cells : (settings : LayoutSettings) (kind : NodeKind) (e : Estimate) (children : Forest RenderNode) →
@@ -322,14 +321,14 @@ module _ {S A K T B : Type 0} (m : Means S A K T B) where
       by None = tt
       by (Some q) = followed-skips (is_row_kind n.kind) (kind_layout m n.kind n.estimate children q) _ (kind-skips n.kind n.estimate children q)
 
-  place-skips : (p : Place State) (n : RenderNode) (children : Forest RenderNode) (s : State) →
+  place-skips : (p : NodePlace State) (n : RenderNode) (children : Forest RenderNode) (s : State) →
       SkipsBelow (is_row_kind n.kind) (placed p (layout_of m n children) s)
   place-skips Bare n children s = node-skips n children s
   place-skips (Skipped t) n children s = tt
   place-skips (Within before after) n children s =
       within-skips (is_row_kind n.kind) s before after (layout_of m n children) (λ q. node-skips n children q)
 
-  abbrev is_row_place : GoodPlace → Bool
+  abbrev is_row_place : TreePlace → Bool
   is_row_place (InRow cells) = true
   is_row_place p = false
 
@@ -337,17 +336,17 @@ module _ {S A K T B : Type 0} (m : Means S A K T B) where
   IsCellIfSkipped v = v.skipped ≡ true → v.node.kind ≡ TableCell
 
   -- a good node in a row is a cell
-  row-cell : (p : GoodPlace) (kind : NodeKind) (children others : Forest RenderNode) →
-      are_good_below (λ q. are_good q children) (λ q. are_good q others) (around p kind) ≡ true → is_row_place p ≡ true → kind ≡ TableCell
+  row-cell : (p : TreePlace) (kind : NodeKind) (children others : Forest RenderNode) →
+      are_good_below (λ q. are_good q children) (λ q. are_good q others) (places_around p kind) ≡ true → is_row_place p ≡ true → kind ≡ TableCell
   row-cell (InRow (c ∷ cs)) TableCell children others h e = refl
   row-cell (InRow (c ∷ cs)) kind children others h e = cc
   row-cell (InRow []) kind children others h e = cc
   row-cell p kind children others h e = cc
 
   -- the places in which a node's children and its later siblings are good
-  pub places-good : (p : GoodPlace) (kind : NodeKind) (children others : Forest RenderNode) →
-      are_good_below (λ q. are_good q children) (λ q. are_good q others) (around p kind) ≡ true →
-      (below beside : GoodPlace) × ((are_good below children ≡ true) × (are_good beside others ≡ true)
+  pub places-good : (p : TreePlace) (kind : NodeKind) (children others : Forest RenderNode) →
+      are_good_below (λ q. are_good q children) (λ q. are_good q others) (places_around p kind) ≡ true →
+      (below beside : TreePlace) × ((are_good below children ≡ true) × (are_good beside others ≡ true)
       × ((is_row_kind kind ≡ true → is_row_place below ≡ true) × (is_row_place p ≡ true → is_row_place beside ≡ true)))
   places-good Anywhere (Table grid) children others h =
       let both = and_parts (are_good (InTable grid.cells.rows) children) (are_good Anywhere others) h in
@@ -374,7 +373,7 @@ module _ {S A K T B : Type 0} (m : Means S A K T B) where
   inside-skips row (Leaf behind) h = tt
   inside-skips row (Inner before places after) h = map_if (λ q. Unit {0}) (λ x. MayBeSkipped row x.0) (λ q. (places, q)) before (always (Unit {0}) before tt) (λ q u. h)
 
-  all-cells : (t : Forest RenderNode) (p : GoodPlace) (places : Places State) (number : ℕ) (s : State) → are_good p t ≡ true →
+  all-cells : (t : Forest RenderNode) (p : TreePlace) (places : Places State) (number : ℕ) (s : State) → are_good p t ≡ true →
       MayBeSkipped (is_row_place p) places → All IsCellIfSkipped (visits_at (layout_of m) places number t s)
   all-cells none p places number s h k = All-nil IsCellIfSkipped
   all-cells (node n children beside) p places number s h k =
@@ -415,14 +414,14 @@ module _ {D A : Type 0} (d : Decoration D A) (x : D) (settings : LayoutSettings)
   measured_depth none = refl
   measured_depth (node n children beside) = omega (arith, measured_depth children, measured_depth beside)
 
-  around-measured : (p : GoodPlace) (kind : NodeKind) (below : Forest RenderNode) → around p (measured_kind kind below) ≡ around p kind
+  around-measured : (p : TreePlace) (kind : NodeKind) (below : Forest RenderNode) → places_around p (measured_kind kind below) ≡ places_around p kind
   around-measured Anywhere (Table grid) below = refl
   around-measured (InTable (c ∷ cs)) (Table grid) below = refl
   around-measured (InRow (c ∷ cs)) (Table grid) below = refl
   around-measured p (Table grid) below = refl
   around-measured p kind below = refl
 
-  measured-good : (p : GoodPlace) (t : Forest RenderNode) → are_good p (measured d x settings t) ≡ are_good p t
+  measured-good : (p : TreePlace) (t : Forest RenderNode) → are_good p (measured d x settings t) ≡ are_good p t
   measured-good p none = refl
   measured-good p (node n children beside) =
       λ i. are_good_below (λ q. measured-good q children i) (λ q. measured-good q beside i)

@@ -3,8 +3,8 @@
 //! `add_all(alloc, &mut rules)?` appends ten rules, the first of which puts `*` before the contents of an `em`.
 
 ghost use Rattle.std.specs.Prelude.{◌≡◌, ◌∷◌, ◌++◌, [], IfOk, OnOk, map};
-ghost use Rattle.html_render_dom_rules.specs.Rules.{rule_of};
-ghost use Rattle.html_render_dom_rules.specs.Selectors.{specificity_of};
+ghost use Rattle.html_render_dom_styles.specs.Rules.{rule_of};
+ghost use Rattle.html_render_dom_styles.specs.Selectors.{specificity_of};
 ghost use Rattle.html_render_tree.specs.Decorations.{decoration, decoration_specificity, decorations, before_and_after};
 
 use html_render_dom::style::{Declaration, PseudoElement, Style, StyleOrigin, StyleRule};

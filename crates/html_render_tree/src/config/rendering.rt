@@ -1,14 +1,13 @@
 //! The calls of a configuration that render: to a text, to tagged lines, and to a text under a colour map.
 
-ghost use Rattle.std.specs.Prelude.{◌≡◌, ◌≢◌, ◌≤◌, List, true, false, Some, Err, IfOk, IfErr, option_map, string_bytes};
+ghost use Rattle.std.specs.Prelude.{◌≡◌, List, true, false, Some, Err, IfOk, IfErr, option_map, string_bytes};
 ghost use Rattle.html_render_dom_values.specs.Outcome.{Refuses};
 ghost use Rattle.html_render_layout_nodes.specs.Counts.{CountsNodes};
-ghost use Rattle.html_render_layout_states.specs.Layout.{defined, estimated, empty_state};
-ghost use Rattle.html_render_layout.specs.Promises.{HasLines, LeavesTexts};
+ghost use Rattle.html_render_layout.specs.Layout.{defined, estimated, empty_state};
 ghost use Rattle.html_render_layout_tagged.specs.Colouring.{IsColoured};
-ghost use Rattle.html_render_layout_tagged.specs.Grouping.{Piece, lines_of};
+ghost use Rattle.html_render_layout_tagged.specs.Grouping.{LinePart, lines_of};
 ghost use Rattle.html_render_layout_tagged.specs.TaggedLine.{AllTaggedWithinWidth};
-ghost use Rattle.html_render_tree.specs.Rendering.{document_block, rendered_lines, rendered_strings, AreStrings, Rendered};
+ghost use Rattle.html_render_tree.specs.Rendering.{document_block, rendered_lines, rendered_strings, AreStrings, KeepsPromises, Rendered};
 ghost use Rattle.html_render_tree.specs.Texts.{text_of};
 
 use crate::config::Config;
@@ -20,7 +19,7 @@ use html_render_layout_nodes::tree::RenderTree;
 use html_render_layout_tagged::colours::coloured;
 use html_render_layout_tagged::grouping::tagged_lines;
 use html_render_layout_tagged::line::TaggedLine;
-use html_render_parts_decorators::decorate::TextDecorator;
+use html_render_parts::decorate::TextDecorator;
 use html_render_parts_widths::Meter;
 use std::alloc::Global;
 
@@ -43,7 +42,7 @@ impl<D: TextDecorator> Config<D> {
     ///
     /// `TooNarrow` at width 0. With overflow off, also if a character is wider than a line, a prefix leaves too few columns,
     /// or a line with its prefix is wider than its block. `OutOfMemory`.
-    #[tactic(auto, using(html_render_layout::specs::laws::Promises::lines_there, html_render_layout::specs::laws::Promises::texts_left))]
+    #[tactic(auto, using(crate::specs::laws::Rendering::promises_kept))]
     pub fn render_to_string(
         &self,
         alloc: Global,
@@ -54,15 +53,11 @@ impl<D: TextDecorator> Config<D> {
         // runs out
         ensures ok { IfOk result (λ text. option_map text_of (rendered_lines D.decoration self.now tree width) ≡ Some (string_bytes text)) }
         ensures err { IfErr result (λ e. Refuses e (rendered_lines D.decoration self.now tree width)) }
-        ensures no_width { width ≡ 0 → result ≡ Err Error.TooNarrow }
 
         // promises of the lines: they keep to the width, are those of overflow off, and lose no visible character
         ensures lines { IfOk result (λ text. Rendered D.decoration self.now tree width (λ lines. string_bytes text ≡ text_of lines)) }
 
-        // with overflow on, only width 0 is too narrow; and after a tree texts are treated as before it
-        ensures wide { self.now.overflow ≡ true → 1 ≤ width → result ≢ Err Error.TooNarrow }
-        ensures there { HasLines D.decoration self.now.settings tree self.now.decorator (document_block self.now width) }
-        ensures stacks { LeavesTexts D.decoration }
+        ensures promises { KeepsPromises D.decoration self.now tree width result }
     {
         let lines = lay_out_untagged(
             alloc,
@@ -81,7 +76,7 @@ impl<D: TextDecorator> Config<D> {
     /// # Errors
     ///
     /// Those of [`Config::render_to_string`].
-    #[tactic(auto, using(html_render_layout::specs::laws::Promises::lines_there, html_render_layout::specs::laws::Promises::texts_left))]
+    #[tactic(auto, using(crate::specs::laws::Rendering::promises_kept))]
     pub fn render_to_lines(
         &self,
         alloc: Global,
@@ -92,16 +87,13 @@ impl<D: TextDecorator> Config<D> {
         // memory runs out
         ensures ok { IfOk result (λ lines. rendered_strings D.decoration self.now tree width D.Annotation.eq ≡ Some (lines_of lines.items)) }
         ensures err { IfErr result (λ e. Refuses e (rendered_lines D.decoration self.now tree width)) }
-        ensures no_width { width ≡ 0 → result ≡ Err Error.TooNarrow }
 
         // promises of the lines and of their strings, and the clauses of `render_to_string`
         ensures lines { IfOk result (λ answer. Rendered D.decoration self.now tree width
             (AreStrings D.decoration self.now tree width D.Annotation.eq (lines_of answer.items))) }
         ensures within { self.now.overflow ≡ false → self.now.settings.wrap_links ≡ true
             → IfOk result (λ lines. AllTaggedWithinWidth width lines.items) }
-        ensures wide { self.now.overflow ≡ true → 1 ≤ width → result ≢ Err Error.TooNarrow }
-        ensures there { HasLines D.decoration self.now.settings tree self.now.decorator (document_block self.now width) }
-        ensures stacks { LeavesTexts D.decoration }
+        ensures promises { KeepsPromises D.decoration self.now tree width result }
     {
         let mut meter = Meter::default();
         self.render_to_lines_metered(alloc, tree, width, &mut meter)
@@ -114,7 +106,7 @@ impl<D: TextDecorator> Config<D> {
     /// # Errors
     ///
     /// Those of [`Config::render_to_string`].
-    #[tactic(auto, using(html_render_layout::specs::laws::Promises::lines_there, html_render_layout::specs::laws::Promises::texts_left))]
+    #[tactic(auto, using(crate::specs::laws::Rendering::promises_kept))]
     pub fn render_to_lines_metered(
         &self,
         alloc: Global,
@@ -125,14 +117,11 @@ impl<D: TextDecorator> Config<D> {
         // the clauses of `render_to_lines`
         ensures ok { IfOk result (λ lines. rendered_strings D.decoration self.now tree width D.Annotation.eq ≡ Some (lines_of lines.items)) }
         ensures err { IfErr result (λ e. Refuses e (rendered_lines D.decoration self.now tree width)) }
-        ensures no_width { width ≡ 0 → result ≡ Err Error.TooNarrow }
         ensures lines { IfOk result (λ answer. Rendered D.decoration self.now tree width
             (AreStrings D.decoration self.now tree width D.Annotation.eq (lines_of answer.items))) }
         ensures within { self.now.overflow ≡ false → self.now.settings.wrap_links ≡ true
             → IfOk result (λ lines. AllTaggedWithinWidth width lines.items) }
-        ensures wide { self.now.overflow ≡ true → 1 ≤ width → result ≢ Err Error.TooNarrow }
-        ensures there { HasLines D.decoration self.now.settings tree self.now.decorator (document_block self.now width) }
-        ensures stacks { LeavesTexts D.decoration }
+        ensures promises { KeepsPromises D.decoration self.now tree width result }
 
         // counts of visited nodes and of nodes open at once, exact with lines and at most these without
         ensures counts { CountsNodes result (defined D.decoration)
@@ -160,7 +149,7 @@ impl<D: TextDecorator> Config<D> {
     /// # Errors
     ///
     /// Those of [`Config::render_to_string`]. `OutOfMemory` also if the map returns it.
-    #[tactic(auto, using(html_render_layout::specs::laws::Promises::lines_there, html_render_layout::specs::laws::Promises::texts_left))]
+    #[tactic(auto, using(crate::specs::laws::Rendering::promises_kept))]
     pub fn render_coloured<F: Fn(&[D::Annotation], &str) -> Result<String, Error>>(
         &self,
         alloc: Global,
@@ -173,19 +162,16 @@ impl<D: TextDecorator> Config<D> {
 
         // the text is that of the definition's strings under the map; the result is `TooNarrow` exactly if there are no
         // lines, unless memory runs out
-        ensures ok { IfOk result (λ text. (lines : List (List (Piece (List D.Annotation))))
+        ensures ok { IfOk result (λ text. (lines : List (List (LinePart (List D.Annotation))))
             × (rendered_strings D.decoration self.now tree width D.Annotation.eq ≡ Some lines)
             × IsColoured (F.post colour_map) lines (string_bytes text)) }
         ensures err { IfErr result (λ e. Refuses e (rendered_lines D.decoration self.now tree width)) }
-        ensures no_width { width ≡ 0 → result ≡ Err Error.TooNarrow }
 
         // promises of the lines and of their strings, and the clauses of `render_to_string`
-        ensures lines { IfOk result (λ text. (strings : List (List (Piece (List D.Annotation))))
+        ensures lines { IfOk result (λ text. (strings : List (List (LinePart (List D.Annotation))))
             × Rendered D.decoration self.now tree width (AreStrings D.decoration self.now tree width D.Annotation.eq strings)
             × IsColoured (F.post colour_map) strings (string_bytes text)) }
-        ensures wide { self.now.overflow ≡ true → 1 ≤ width → result ≢ Err Error.TooNarrow }
-        ensures there { HasLines D.decoration self.now.settings tree self.now.decorator (document_block self.now width) }
-        ensures stacks { LeavesTexts D.decoration }
+        ensures promises { KeepsPromises D.decoration self.now tree width result }
     {
         let lines = self.render_to_lines(alloc, tree, width)?;
         coloured(alloc, &lines, &colour_map)

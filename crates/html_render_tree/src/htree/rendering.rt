@@ -8,7 +8,7 @@ use super::faults::Fault;
 use super::words::{Preset, Settings};
 use crate::config::{Config, plain, plain_no_decorate, rich};
 use html_render_dom::dom::RcDom;
-use html_render_parts_decorators::decorate::TextDecorator;
+use html_render_parts::decorate::TextDecorator;
 use std::alloc::Global;
 
 /// Returns the configuration, with overflow if it is asked for.

@@ -4,13 +4,13 @@ ghost use Rattle.std.specs.Prelude.{◌≡◌, true, IfSome};
 ghost use Rattle.html_render_dom_values.specs.Forest.{Forest, count, depth};
 ghost use Rattle.html_render_layout_blocks.specs.declared.block.BlockSetting.{BlockSetting};
 ghost use Rattle.html_render_layout_estimates.specs.Estimates.{measured};
-ghost use Rattle.html_render_layout_states.specs.Layout.{defined, empty_state, estimated, layout_lines};
+ghost use Rattle.html_render_layout.specs.Layout.{defined, empty_state, estimated, layout_lines};
 ghost use Rattle.html_render_tree.specs.GoodTrees.{Anywhere, are_good};
 ghost use Rattle.html_render_tree.specs.Visited.{VisitsAllBut};
 
 use html_render_layout_estimates::settings::LayoutSettings;
 use html_render_layout_nodes::tree::RenderNode;
-use html_render_parts_decorators::decorate::TextDecorator;
+use html_render_parts::decorate::TextDecorator;
 
 /// Where the render tree of a document has lines, its layout visits each of its nodes once, except those below a skipped
 /// cell and those below a superscript that is written in digits.

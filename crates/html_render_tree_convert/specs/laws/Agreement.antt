@@ -8,7 +8,7 @@ use Rattle.html_render_dom_nodes.specs.Content.{Content, document, text, element
 use Rattle.html_render_dom.specs.Dom as documents
 use Rattle.html_render_dom.specs.Dom.{Dom, IsForest, node_count, children_at, below}
 use Rattle.html_render_dom.specs.laws.Trees.{below-children}
-use Rattle.html_render_dom_rules.specs.Rules.{Rule as StyleRule}
+use Rattle.html_render_dom_styles.specs.Rules.{Rule as StyleRule}
 use Rattle.html_render_layout_nodes.specs.declared.tree.NodeKind.TheVariants.{Container}
 use Rattle.html_render_layout_nodes.specs.RenderNodes.{no_style, without_style}
 use Rattle.html_render_tree_insertions.specs.declared.drafts.Draft.{Draft}
@@ -20,9 +20,9 @@ use Rattle.html_render_tree_mapping.specs.Outlines.{outline_of}
 use Rattle.html_render_tree_mapping.specs.Marks.{mark_of}
 use Rattle.html_render_tree_mapping.specs.Results.{Nodes, Result, over, render_tree_of, result_of, results, trees_of}
 use Rattle.html_render_tree_convert.specs.declared.elements.OpenKind.TheVariants.{Node}
-use Rattle.html_render_tree_orders.specs.declared.order.Pick.{Pick}
-use Rattle.html_render_tree_orders.specs.declared.order.Pick.TheVariants.{All, Captions, Feet, Others}
-use Rattle.html_render_tree_orders.specs.Order.{picks}
+use Rattle.html_render_tree_convert.specs.declared.order.Pick.{Pick}
+use Rattle.html_render_tree_convert.specs.declared.order.Pick.TheVariants.{All, Captions, Feet, Others}
+use Rattle.html_render_tree_convert.specs.Order.{picks}
 use Rattle.html_render_tree_convert.specs.Building.{Arrival, arrivals, closed, document_drafts, document_of, document_start, fresh}
 use Rattle.html_render_tree_convert.specs.laws.Arrivals.{all_arrive, all_came, arrivals_told, came}
 use Rattle.html_render_tree_convert.specs.laws.Closing.{ShowsIn, close-gives, node_closed, together-alone}

@@ -5,7 +5,7 @@ use Rattle.std.specs.Prelude.{option_to_list}
 use Rattle.html_render_dom_values.specs.Forest.{Forest, none, node}
 use Rattle.html_render_dom_values.specs.Outcome.{◌>>=◌}
 use Rattle.html_render_dom_nodes.specs.Content.{Content}
-use Rattle.html_render_dom_rules.specs.Rules.{Rule as StyleRule}
+use Rattle.html_render_dom_styles.specs.Rules.{Rule as StyleRule}
 use Rattle.html_render_layout_nodes.specs.declared.tree.NodeStyle.{NodeStyle}
 use Rattle.html_render_tree_mapping.specs.declared.mapping.ElementKind.{ElementKind}
 use Rattle.html_render_tree_mapping.specs.declared.mapping.ElementKind.TheVariants.{Part}
@@ -25,10 +25,10 @@ use Rattle.html_render_tree_mapping.specs.Outlines.{outline_of}
 use Rattle.html_render_tree_convert.specs.declared.elements.Element.{Element}
 use Rattle.html_render_tree_convert.specs.declared.elements.OpenKind.{OpenKind}
 use Rattle.html_render_tree_convert.specs.declared.elements.OpenKind.TheVariants.{Captioned, Table, Rows, Row}
-use Rattle.html_render_tree_orders.specs.declared.order.Pick.{Pick}
-use Rattle.html_render_tree_orders.specs.declared.order.Pick.TheVariants.{All, Captions, Feet, Others}
+use Rattle.html_render_tree_convert.specs.declared.order.Pick.{Pick}
+use Rattle.html_render_tree_convert.specs.declared.order.Pick.TheVariants.{All, Captions, Feet, Others}
 use Rattle.html_render_tree_convert.specs.Elements.{keeps, gathered, opened_kind}
-use Rattle.html_render_tree_orders.specs.Order.{picks}
+use Rattle.html_render_tree_convert.specs.Order.{picks}
 use Rattle.html_render_tree_convert.specs.Spans.{spans_of_parts}
 use Rattle.html_render_tree_convert.specs.Building.{Arrival, Holding, arrive, arrive_any, leaf_arrival, closed, closed_by, closed_into}
 use Rattle.html_render_tree_convert.specs.Building.{rows_of, is_captioned, table_stands, fresh, come_of, come, arrivals}

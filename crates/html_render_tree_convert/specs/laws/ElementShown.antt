@@ -22,7 +22,7 @@ use Rattle.html_render_tree_mapping.specs.declared.tables.Part.TheVariants as pa
 use Rattle.html_render_tree_convert.specs.laws.TableShown.{table_start}
 use Rattle.html_render_layout_nodes.specs.declared.tree.NodeKind.{NodeKind}
 use Rattle.html_render_dom.specs.ElementStyle.{ElementStyle}
-use Rattle.html_render_dom_cascade.specs.Cascade.{value_of}
+use Rattle.html_render_dom_styles.specs.Cascade.{value_of}
 use Rattle.html_render_tree_mapping.specs.declared.mapping.Mapping.{Mapping}
 use Rattle.html_render_tree_mapping.specs.declared.mapping.Mapping.TheVariants.{Nothing, Leaf, Parent}
 use Rattle.html_render_tree_mapping.specs.Outlines.{mark_alone, styled_outline}
@@ -30,8 +30,8 @@ use Rattle.html_render_tree_mapping.specs.declared.mapping.Outline.{Outline}
 use Rattle.html_render_tree_mapping.specs.declared.mapping.Outline.TheVariants.{Over}
 use Rattle.html_render_tree_mapping.specs.declared.mapping.Outline.TheVariants as outline
 use Rattle.html_render_tree_convert.specs.Elements.{opened_kind}
-use Rattle.html_render_tree_orders.specs.declared.order.Pick.{Pick}
-use Rattle.html_render_tree_orders.specs.declared.order.Pick.TheVariants.{All, Captions, Feet, Others}
+use Rattle.html_render_tree_convert.specs.declared.order.Pick.{Pick}
+use Rattle.html_render_tree_convert.specs.declared.order.Pick.TheVariants.{All, Captions, Feet, Others}
 use Rattle.html_render_tree_convert.specs.laws.Mappings.{fits, fits_kind, stands_as_is}
 use Rattle.html_render_tree_convert.specs.laws.PartsShown.{caption-closed, cell-closed, row-closed, rows-closed}
 use Rattle.html_render_tree_convert.specs.laws.TableParted.{AllShowAny, AnyShows, Parted, parted-shown, show-elsewhere, table_becomes, table_came}

@@ -5,12 +5,12 @@ use Rattle.std.specs.Str.{bytes_eq}
 use Rattle.html_render_dom_values.specs.Forest.{Forest, none, node}
 use Rattle.html_render_dom_values.specs.Outcome.{◌>>=◌}
 use Rattle.html_render_dom_nodes.specs.Content.{Content, element, is_html}
-use Rattle.html_render_dom_rules.specs.Rules.{Rule as StyleRule}
+use Rattle.html_render_dom_styles.specs.Rules.{Rule as StyleRule}
 use Rattle.html_render_tree_mapping.specs.Results as new
 use Rattle.html_render_tree_mapping.specs.Results.{Result, result_of, results, of_role}
-use Rattle.html_render_tree_orders.specs.Order.{is_named, picks}
-use Rattle.html_render_tree_orders.specs.declared.order.Pick.{Pick}
-use Rattle.html_render_tree_orders.specs.declared.order.Pick.TheVariants.{All, Captions, Feet, Others}
+use Rattle.html_render_tree_convert.specs.Order.{is_named, picks}
+use Rattle.html_render_tree_convert.specs.declared.order.Pick.{Pick}
+use Rattle.html_render_tree_convert.specs.declared.order.Pick.TheVariants.{All, Captions, Feet, Others}
 use Rattle.html_render_tree_convert.specs.laws.Mappings.{named-once}
 use Rattle.html_render_tree_convert.specs.laws.ResultRoles.{FitsAny, fits_role, result-fits}
 use Rattle.html_render_tree_convert.specs.laws.TableShown.{parts_of, rows-either}

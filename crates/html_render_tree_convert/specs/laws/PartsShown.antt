@@ -13,7 +13,7 @@ use Rattle.html_render_tree_insertions.specs.declared.drafts.Insertions.{Inserti
 use Rattle.html_render_tree_insertions.specs.Drafts.{draft, inserted_of}
 use Rattle.html_render_tree_mapping.specs.declared.mapping.IfEmpty.{IfEmpty}
 use Rattle.html_render_tree_mapping.specs.Conversion.{vanishes}
-use Rattle.html_render_dom_rules.specs.Selectors.{is_filled}
+use Rattle.html_render_dom_styles.specs.Selectors.{is_filled}
 use Rattle.html_render_tree_mapping.specs.Results as new
 use Rattle.html_render_tree_mapping.specs.Results.{Result, beside, completed, over, row_over, rows_over, trees_of}
 use Rattle.html_render_tree_convert.specs.declared.elements.OpenKind.{OpenKind}

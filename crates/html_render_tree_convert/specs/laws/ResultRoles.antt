@@ -8,10 +8,10 @@ use Rattle.std.specs.List.{list_any}
 use Rattle.std.specs.Str.{bytes_eq}
 use Rattle.html_render_dom_values.specs.Forest.{Forest}
 use Rattle.html_render_dom_values.specs.Outcome.{◌>>=◌}
-use Rattle.html_render_dom_cascade.specs.Cascade.{value_of}
+use Rattle.html_render_dom_styles.specs.Cascade.{value_of}
 use Rattle.html_render_dom_nodes.specs.Content.{Content, document, text, element, is_html}
 use Rattle.html_render_dom.specs.ElementStyle.{ElementStyle}
-use Rattle.html_render_dom_rules.specs.Rules.{Rule as StyleRule}
+use Rattle.html_render_dom_styles.specs.Rules.{Rule as StyleRule}
 use Rattle.html_render_layout_nodes.specs.Tables.{TableParts, unmeasured_table}
 use Rattle.html_render_layout_nodes.specs.declared.tree.NodeStyle.{NodeStyle}
 use Rattle.html_render_tree_mapping.specs.declared.mapping.ElementKind.{ElementKind}
@@ -22,11 +22,11 @@ use Rattle.html_render_tree_mapping.specs.declared.mapping.IfEmpty.{IfEmpty}
 use Rattle.html_render_tree_mapping.specs.declared.mapping.Mapping.{Mapping}
 use Rattle.html_render_tree_mapping.specs.declared.mapping.Mapping.TheVariants.{Leaf, Parent}
 use Rattle.html_render_tree_mapping.specs.Conversion.{element_mapping, node_style, own_style, vanishes}
-use Rattle.html_render_dom_rules.specs.Selectors.{is_filled}
+use Rattle.html_render_dom_styles.specs.Selectors.{is_filled}
 use Rattle.html_render_tree_mapping.specs.Results as new
 use Rattle.html_render_tree_mapping.specs.Results.{Nodes, Result, built, captioned, completed, inserted, level_in}
 use Rattle.html_render_tree_mapping.specs.Results.{leaf, mapped, of_role, result_of, styled, table_of, table_over}
-use Rattle.html_render_tree_orders.specs.Order.{is_named}
+use Rattle.html_render_tree_convert.specs.Order.{is_named}
 use Rattle.html_render_tree_convert.specs.laws.Inserting.{fronts}
 use Rattle.html_render_tree_convert.specs.laws.Mappings.{element_fits, fits, fits_kind}
 

@@ -10,7 +10,7 @@ use Rattle.html_render_layout_nodes.specs.laws.Splits.{followed_by-followed_by, 
 use Rattle.html_render_tree_insertions.specs.declared.drafts.Draft.{Draft}
 use Rattle.html_render_tree_insertions.specs.Drafts.{expanded}
 use Rattle.html_render_tree_insertions.specs.laws.Drafts.{expanded-followed_by}
-use Rattle.html_render_dom_rules.specs.Selectors.{is_filled}
+use Rattle.html_render_dom_styles.specs.Selectors.{is_filled}
 use Rattle.html_render_tree_mapping.specs.Results as new
 use Rattle.html_render_tree_mapping.specs.Results.{Nodes, Result}
 use Rattle.html_render_tree_convert.specs.declared.elements.Element.{Element}

@@ -12,7 +12,7 @@ use Rattle.html_render_layout_nodes.specs.declared.tree.RenderNode.{RenderNode}
 use Rattle.html_render_tree_insertions.specs.declared.drafts.Draft.{Draft}
 use Rattle.html_render_tree_insertions.specs.declared.drafts.Insertions.{Insertions}
 use Rattle.html_render_tree_insertions.specs.Drafts.{inserted_of, insert_first, front, back, plain_draft}
-use Rattle.html_render_dom_rules.specs.Selectors.{is_filled}
+use Rattle.html_render_dom_styles.specs.Selectors.{is_filled}
 use Rattle.html_render_tree_mapping.specs.Results as new
 use Rattle.html_render_tree_mapping.specs.Results.{Nodes, Result, beside, completed, in_first, captioned, table_over}
 use Rattle.html_render_tree_convert.specs.Elements.{has_place}

@@ -9,7 +9,7 @@ use Rattle.html_render_layout_nodes.specs.declared.tree.NodeStyle.{NodeStyle}
 use Rattle.html_render_tree_insertions.specs.Drafts.{inserted_of}
 use Rattle.html_render_tree_mapping.specs.declared.mapping.ElementKind.TheVariants.{Part}
 use Rattle.html_render_tree_mapping.specs.Conversion.{vanishes}
-use Rattle.html_render_dom_rules.specs.Selectors.{is_filled}
+use Rattle.html_render_dom_styles.specs.Selectors.{is_filled}
 use Rattle.html_render_tree_mapping.specs.Results as new
 use Rattle.html_render_tree_mapping.specs.Results.{Result, completed, captioned, table_over, built, of_role}
 use Rattle.html_render_tree_convert.specs.Building.{Arrival, Holding, arrive, closed, fresh, closed_into}

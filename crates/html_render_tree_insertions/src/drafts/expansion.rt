@@ -1,7 +1,8 @@
 //! The nodes that drafts become. Where nothing is inserted, these are turned round where they stand; otherwise each is moved
 //! once, and what is inserted at the end of a node's children waits until they are written.
 
-ghost use Rattle.std.specs.Prelude.{◌≡◌, ◌≢◌, ◌+◌, ◌≤◌, ◌<◌, OnOk, IfOk, IfErr, IfSome, IfNone, List, [], ◌∷◌, ◌++◌, length, reverse, option_to_list};
+ghost use Rattle.std.specs.Prelude.{◌≡◌, ◌≢◌, ◌+◌, ◌≤◌, ◌<◌, OnOk, IfOk, IfSome, IfNone, List, [], ◌∷◌, ◌++◌, length, reverse, option_to_list};
+ghost use Rattle.html_render_dom_values.specs.Outcome.{OnlyOutOfMemory};
 ghost use Rattle.html_render_dom_values.specs.Forest as forest;
 ghost use Rattle.html_render_dom_values.specs.Forest.{none};
 ghost use Rattle.html_render_layout_nodes.specs.Preorder.{flatten};
@@ -14,7 +15,7 @@ ghost use Rattle.html_render_tree_insertions.specs.Notes.{inserted_at, Falls, Sa
 use super::{Drafts, Inserted, Insertions, Noted, pop_from};
 use html_render_dom_values::Error;
 use html_render_layout_nodes::text::NodeText;
-use html_render_layout_nodes::tree::{Entry, Flat, NodeKind, RenderNode};
+use html_render_layout_nodes::tree::{Entry, NodeKind, PreorderForest, RenderNode};
 use std::alloc::Global;
 
 /// A node whose children are being written.
@@ -31,11 +32,11 @@ struct Opened {
 /// Writes a node without children.
 fn push_leaf(nodes: &mut Vec<Entry<RenderNode>>, kind: NodeKind) -> Result<(), Error>
     ensures ok { OnOk result (nodes.new.items ≡ nodes.old.items ++ flatten (forest.node (without_style kind) none none)) }
-    ensures err { IfErr result (λ e. e ≡ Error.OutOfMemory) }
+    ensures err { OnlyOutOfMemory result }
 {
     nodes.push(Entry {
         node: RenderNode::from(kind),
-        size: 1,
+        subtree_len: 1,
     })?;
     Ok(())
 }
@@ -48,7 +49,7 @@ fn push_front(
 ) -> Result<(), Error>
     ensures front { OnOk result (nodes.new.items ≡ nodes.old.items ++ flatten (front_of insertions)) }
     ensures behind { OnOk result (behind.new.items ≡ behind.old.items ++ option_to_list insertions.after) }
-    ensures err { IfErr result (λ e. e ≡ Error.OutOfMemory) }
+    ensures err { OnlyOutOfMemory result }
 {
     let Insertions {
         mark,
@@ -76,7 +77,7 @@ fn push_fronts(
 ) -> Result<Vec<NodeText>, Error>
     ensures front { OnOk result (nodes.new.items ≡ nodes.old.items ++ flatten (front inserted)) }
     ensures behind { IfOk result (λ behind. leaves (reverse behind.items) ≡ back inserted) }
-    ensures err { IfErr result (λ e. e ≡ Error.OutOfMemory) }
+    ensures err { OnlyOutOfMemory result }
 {
     let mut behind = Vec::new(alloc);
     let mut rounds = inserted.into_rounds(alloc);
@@ -94,16 +95,16 @@ fn open(
     inserted: Inserted,
     left: usize,
 ) -> Result<Opened, Error>
-    requires some { 1 ≤ entry.size }
-    requires within { entry.size ≤ left + 1 }
+    requires some { 1 ≤ entry.subtree_len }
+    requires within { entry.subtree_len ≤ left + 1 }
     ensures written { OnOk result (nodes.new.items ≡ nodes.old.items ++ entry ∷ flatten (front inserted)) }
     ensures place { IfOk result (λ o. o.place ≡ length nodes.old.items) }
-    ensures left { IfOk result (λ o. o.left + entry.size ≡ left + 1) }
+    ensures left { IfOk result (λ o. o.left + entry.subtree_len ≡ left + 1) }
     ensures behind { IfOk result (λ o. leaves (reverse o.behind.items) ≡ back inserted) }
-    ensures err { IfErr result (λ e. e ≡ Error.OutOfMemory) }
+    ensures err { OnlyOutOfMemory result }
 {
     let place = nodes.len();
-    let size = entry.size;
+    let size = entry.subtree_len;
     nodes.push(entry)?;
     let behind = push_fronts(alloc, nodes, inserted)?;
     Ok(Opened {
@@ -117,14 +118,14 @@ fn open(
 fn close(nodes: &mut Vec<Entry<RenderNode>>, done: Opened) -> Result<(), Error>
     requires { done.place < length nodes.old.items }
     ensures ok { OnOk result (Closes nodes.old.items done.place (flatten (leaves (reverse done.behind.items))) nodes.new.items) }
-    ensures err { IfErr result (λ e. e ≡ Error.OutOfMemory) }
+    ensures err { OnlyOutOfMemory result }
 {
     let mut behind = done.behind;
     while let Some(text) = behind.pop() {
         push_leaf(nodes, NodeKind::Text(text))?;
     }
     let size = nodes.len() - done.place;
-    nodes[done.place].size = size;
+    nodes[done.place].subtree_len = size;
     Ok(())
 }
 
@@ -148,7 +149,7 @@ fn take_inserted(noted: &mut Vec<Noted>, place: usize) -> Result<Inserted, Error
     ensures taken { IfOk result (λ i. i ≡ inserted_at place (reverse noted.old.items)) }
     ensures below { OnOk result (Falls (reverse noted.new.items) place) }
     ensures same { OnOk result (SameBelow place noted.old.items noted.new.items) }
-    ensures err { IfErr result (λ e. e ≡ Error.OutOfMemory) }
+    ensures err { OnlyOutOfMemory result }
 {
     let mut inserted = Inserted::none();
     while let Some(last) = pop_from(noted, place) {
@@ -165,22 +166,22 @@ impl Drafts {
     /// # Errors
     ///
     /// `OutOfMemory`.
-    pub fn into_nodes(self, alloc: Global) -> Result<Flat<RenderNode>, Error>
+    pub fn into_nodes(self, alloc: Global) -> Result<PreorderForest<RenderNode>, Error>
         ensures ok { IfOk result (λ nodes. nodes ≡ expanded self) }
-        ensures err { IfErr result (λ e. e ≡ Error.OutOfMemory) }
+        ensures err { OnlyOutOfMemory result }
     {
         if self.noted.is_empty() {
             let mut nodes = self.entries;
             nodes.reverse();
-            return Ok(Flat::from_entries(nodes));
+            return Ok(PreorderForest::from_entries(nodes));
         }
         self.into_expanded(alloc)
     }
 
     /// The same, where something may be inserted.
-    fn into_expanded(self, alloc: Global) -> Result<Flat<RenderNode>, Error>
+    fn into_expanded(self, alloc: Global) -> Result<PreorderForest<RenderNode>, Error>
         ensures ok { IfOk result (λ nodes. nodes ≡ expanded self) }
-        ensures err { IfErr result (λ e. e ≡ Error.OutOfMemory) }
+        ensures err { OnlyOutOfMemory result }
     {
         let Drafts { entries, noted } = self;
         let mut entries = entries;
@@ -195,14 +196,14 @@ impl Drafts {
             match entries.pop() {
                 Some(entry) => {
                     let inserted = take_inserted(&mut noted, entries.len())?;
-                    if entry.size == 1 && inserted.is_empty() {
+                    if entry.subtree_len == 1 && inserted.is_empty() {
                         nodes.push(entry)?;
                     } else {
                         let node = open(alloc, &mut nodes, entry, inserted, entries.len())?;
                         opened.push(node)?;
                     }
                 }
-                None => return Ok(Flat::from_entries(nodes)),
+                None => return Ok(PreorderForest::from_entries(nodes)),
             }
         }
     }

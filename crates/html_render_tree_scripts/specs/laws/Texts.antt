@@ -12,7 +12,7 @@ use Rattle.html_render_dom_nodes.specs.Nodes.{Node, lone, node_in}
 use Rattle.html_render_dom.specs.Dom.{Dom, IsNode}
 use Rattle.html_render_dom.specs.laws.Changes.{kept}
 use Rattle.html_render_tree_scripts.specs.Commands.{append_text, unescaped}
-use Rattle.html_render_tree_scripts.specs.Plain.{with_more}
+use Rattle.html_render_tree_scripts.specs.Plain.{text_followed_by}
 use Rattle.html_render_tree_scripts.specs.Scripts.{Cursor, line_taken, taken, texts_put, with_text}
 
 -- whether a text appended after another one in the same place is the same as both appended at once
@@ -139,7 +139,7 @@ with_text-twice dom h s t at =
 -- ---- lines
 
 text-taken : (waiting new : Option (List ℕ)) (b : Cursor) (known : Bool) → IsNode b.dom b.current → (more : Option (List ℕ)) →
-    MatchOption (with_more (unwrap_or waiting []) more) (known ≡ false) (λ all. (known ≡ true) × (new ≡ Some all)) →
+    MatchOption (text_followed_by (unwrap_or waiting []) more) (known ≡ false) (λ all. (known ≡ true) × (new ≡ Some all)) →
     option_map (λ (node : ℕ). texts_put new (record b { current = node })) (then_some known b.current) ≡ option_and_then (taken (texts_put waiting b)) (option_map append_text more)
 text-taken waiting new b known at None h = rw h refl
 text-taken None new b known at (Some t) h = rw (h.0, h.1) refl
@@ -148,7 +148,7 @@ text-taken (Some s) new b known at (Some t) h =
 
 -- the text of a line joins the pending texts
 pub text_line-taken : (waiting new : Option (List ℕ)) (b : Cursor) (line more : List ℕ) (known : Bool) → line ≡ 34 ∷ more → IsNode b.dom b.current →
-    MatchOption (with_more (unwrap_or waiting []) (unescaped more)) (known ≡ false) (λ all. (known ≡ true) × (new ≡ Some all)) →
+    MatchOption (text_followed_by (unwrap_or waiting []) (unescaped more)) (known ≡ false) (λ all. (known ≡ true) × (new ≡ Some all)) →
     option_map (λ (node : ℕ). texts_put new (record b { current = node })) (then_some known b.current) ≡ line_taken (texts_put waiting b) line
 text_line-taken waiting new b line more known e at h =
     text-taken waiting new b known at (unescaped more) h ∙ sym (ap (line_taken (texts_put waiting b)) e)

@@ -1,7 +1,7 @@
 use Rattle.std.proofs.Common.{rules}
 use Rattle.html_render_layout_nodes.specs.laws.Counts.{failed-counted}
-use Rattle.html_render_layout_states.specs.Layout.{layout_of}
-use Rattle.html_render_layout_states.specs.Working.{by_tags}
+use Rattle.html_render_layout.specs.Layout.{layout_of}
+use Rattle.html_render_layout.specs.Working.{by_tags}
 use Rattle.html_render_layout.proofs.walk.laid_out_from.Goals as goal
 
 pub returns-in_err-lay_out_into-clause-counts : goal.returns-in_err-lay_out_into-clause-counts

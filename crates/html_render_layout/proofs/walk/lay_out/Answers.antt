@@ -2,10 +2,10 @@ use Rattle.std.proofs.Common.{◌≡◌, Some, IfOk, IfErr, refl, sym, ◌∙◌
 use Rattle.std.proofs.lemmas.Result.{IfOk-weaker}
 use Rattle.html_render_dom_values.specs.Outcome.{Refuses}
 use Rattle.html_render_layout_nodes.specs.laws.Counts.{none-counted}
-use Rattle.html_render_layout_states.specs.Layout.{defined, empty_state, estimated, layout_lines}
+use Rattle.html_render_layout.specs.Layout.{defined, empty_state, estimated, layout_lines}
 use Rattle.html_render_layout.specs.laws.LayoutWorks.{empty_worked, layout_lines-works, mark_names-works, counts-work}
 use Rattle.html_render_layout.specs.laws.Promises.{are-lines, wide_enough}
-use Rattle.html_render_layout_states.specs.Working.{work_lines}
+use Rattle.html_render_layout.specs.Working.{work_lines}
 use Rattle.html_render_layout_tagged.specs.LaidOut.{laid_out}
 use Rattle.html_render_layout.proofs.walk.lay_out.Goals as goal
 use Rattle.html_render_layout.proofs.walk.lay_out.Given.{Over}
@@ -38,8 +38,8 @@ returns-clause-names g c =
 pub returns-clause-err : goal.returns-clause-err
 returns-clause-err g c = subst (λ o. IfErr c.lines_from.result (λ e. Refuses e o)) (works g c) c.lines_from.ensures.err
 
-pub returns-clause-wide : goal.returns-clause-wide
-returns-clause-wide g c =
+pub returns-clause-never_too_narrow : goal.returns-clause-never_too_narrow
+returns-clause-never_too_narrow g c =
     wide_enough g.D.TextDecorator.decoration c.args.settings.now c.args.tree c.args.decorator.now c.args.block c.lines_from.result
     (returns-clause-err g c)
 

@@ -2,11 +2,11 @@ use Rattle.std.proofs.Common.{◌≡◌, IfErr, Result, Ok, Err, option_map, sym
 use Rattle.std.proofs.lemmas.Result.{IfOk-weaker}
 use Rattle.html_render_dom_values.specs.declared.errors.Error.{Error}
 use Rattle.html_render_dom_values.specs.Outcome.{Refuses}
-use Rattle.html_render_layout_states.specs.declared.tagging.Untagged.{Untagged as Nothing}
-use Rattle.html_render_layout_states.specs.Layout.{layout_lines, unannotated}
+use Rattle.html_render_layout.specs.declared.tagging.Untagged.{Untagged as Nothing}
+use Rattle.html_render_layout.specs.Layout.{layout_lines, unannotated}
 use Rattle.html_render_layout.specs.laws.LayoutWorks.{empty_untagged, untagged_lines-works}
 use Rattle.html_render_layout.specs.laws.Promises.{unannotated-are-lines, refuses-mapped, wide_enough}
-use Rattle.html_render_layout_states.specs.Working.{untagged_work}
+use Rattle.html_render_layout.specs.Working.{untagged_work}
 use Rattle.html_render_layout.proofs.walk.lay_out_untagged.Goals as goal
 use Rattle.html_render_layout.proofs.walk.lay_out_untagged.Given.{Over}
 
@@ -37,7 +37,7 @@ returns-clause-err g c = by c.untagged_lines_from.result c.untagged_lines_from.e
     by (Ok v) h = h
     by (Err e) h = refuses-mapped unannotated e _ (subst (Refuses e) (works g c) h)
 
-pub returns-clause-wide : goal.returns-clause-wide
-returns-clause-wide g c =
+pub returns-clause-never_too_narrow : goal.returns-clause-never_too_narrow
+returns-clause-never_too_narrow g c =
     wide_enough g.D.TextDecorator.decoration c.args.settings.now c.args.tree c.args.decorator.now c.args.block
     c.untagged_lines_from.result (returns-clause-err g c)

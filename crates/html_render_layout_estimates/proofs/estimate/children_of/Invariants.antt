@@ -7,7 +7,7 @@ abbrev pub invariant-loop-first : goal.invariant-loop-first
 invariant-loop-first l = record {
   kept : flatten (forest_of l.rest) ≡ l.rest;
   count : l.count + trees (forest_of l.rest) ≡ trees (forest_of l.nodes);
-  least : max l.least (greatest_least (forest_of l.rest)) ≡ greatest_least (forest_of l.nodes);
+  min_width : max l.min_width (greatest_least (forest_of l.rest)) ≡ greatest_least (forest_of l.nodes);
   few : l.count + length l.rest ≤ length l.nodes;
 }
 

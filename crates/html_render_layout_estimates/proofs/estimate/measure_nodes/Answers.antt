@@ -18,12 +18,12 @@ overflow_add-below-in-loop-at g c =
 pub slice_bounds-below-count : goal.slice_bounds-below-count
 slice_bounds-below-count g c =
     let f = Measuring-at _ _ _ _ _ _ c.loop-at.invariant c.loop-at-test.true c.as_slice-all.ensures.value c.index-all-at.is in
-    omega (arith, f.size)
+    omega (arith, f.subtree_len)
 
 pub slice_bounds-below-start : goal.slice_bounds-below-start
 slice_bounds-below-start g c =
     let f = Measuring-at _ _ _ _ _ _ c.loop-at.invariant c.loop-at-test.true c.as_slice-all.ensures.value c.index-all-at.is in
-    omega (arith, f.size)
+    omega (arith, f.subtree_len)
 
 pub slice_bounds-below-end : goal.slice_bounds-below-end
 slice_bounds-below-end g c =

@@ -7,8 +7,8 @@ use Rattle.html_render_layout_estimates.proofs.sized.total_size.Given as goal
 abbrev pub invariant-loop-first : goal.invariant-loop-first
 invariant-loop-first l = record {
   kept : flatten (forest_of l.rest) ≡ l.rest;
-  small : l.size < 2 ^ 64;
-  sum : saturated (l.size + total_size (forest_of l.rest)) ≡ total_size (forest_of l.trees);
+  small : l.preferred_width < 2 ^ 64;
+  sum : saturated (l.preferred_width + total_size (forest_of l.rest)) ≡ total_size (forest_of l.trees);
 }
 
 abbrev pub decreases-loop-first : goal.decreases-loop-first

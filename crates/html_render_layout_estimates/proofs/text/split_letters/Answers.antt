@@ -1,6 +1,6 @@
 use Rattle.std.proofs.Common.{◌+◌, cond, false, sym, ap, ◌∙◌, arith}
 use Rattle.std.specs.Str.{chars}
-use Rattle.html_render_layout_estimates.specs.TextSize.{columns_of}
+use Rattle.html_render_layout_estimates.specs.TextSize.{collapsed_columns}
 use Rattle.html_render_layout_estimates.proofs.Sizes.{letters-columns}
 use Rattle.html_render_layout_estimates.proofs.text.split_letters.Goals as goal
 
@@ -10,4 +10,4 @@ returns-clause-columns c = λ spaced.
     let n = c.letters_end-letters.result in
     letters-columns text spaced n (omega (arith, c.if-letters-eq0.false)) (omega (arith, c.letters_end-letters.ensures.within.1, c.as_bytes.ensures.len))
     (rw c.as_bytes.ensures.value at c.letters_end-letters.ensures.letters)
-    ∙ ap (λ rest. cond spaced 1 0 + n + columns_of false (chars rest)) (sym c.in_ok-behind.ensures.back)
+    ∙ ap (λ rest. cond spaced 1 0 + n + collapsed_columns false (chars rest)) (sym c.in_ok-behind.ensures.back)

@@ -1,7 +1,7 @@
 use Rattle.std.proofs.Common.{◌≡◌, ◌==◌, ◌<◌, ℕ, zero, suc, true, false, length, sym, ap, ◌∙◌, arith}
 use Rattle.std.proofs.lemmas.Bool.{true≢false}
 use Rattle.std.specs.Str.{chars}
-use Rattle.html_render_layout_estimates.specs.TextSize.{columns_of}
+use Rattle.html_render_layout_estimates.specs.TextSize.{collapsed_columns}
 use Rattle.html_render_layout_estimates.proofs.Sizes.{space-columns}
 use Rattle.html_render_layout_estimates.proofs.text.split_space.Goals as goal
 
@@ -15,4 +15,4 @@ returns-clause-columns c = λ spaced.
     (some (length c.args.text.now) (ap (λ bs. length bs == 0) (sym c.as_bytes-bytes.ensures.value) ∙ sym c.is_empty.ensures ∙ c.if-is_empty.false))
     (rw c.as_bytes-bytes.ensures.value at c.if-not-is_space.ensures.collapsible)
     (rw c.as_bytes-bytes.ensures.value at c.if-not-is_space.ensures.ascii)
-    ∙ ap (λ rest. columns_of true (chars rest)) (sym c.in_ok-behind.ensures.back)
+    ∙ ap (λ rest. collapsed_columns true (chars rest)) (sym c.in_ok-behind.ensures.back)

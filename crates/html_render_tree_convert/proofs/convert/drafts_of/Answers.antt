@@ -3,7 +3,7 @@ use Rattle.std.proofs.Common.{option_map, ◌-◌, take, get_or}
 use Rattle.std.specs.Result.{IsErrAnd}
 use Rattle.std.proofs.lemmas.Bool.{eqb-false}
 use Rattle.std.proofs.lemmas.Result.{IfOk-weaker}
-use Rattle.html_render_dom_rules.specs.Rules.{rule_of}
+use Rattle.html_render_dom_styles.specs.Rules.{rule_of}
 use Rattle.html_render_dom_values.specs.Forest.{Forest}
 use Rattle.html_render_dom_values.specs.declared.errors.Error.{Error}
 use Rattle.html_render_dom_values.specs.declared.errors.Error.TheVariants.{TooNarrow, Fail, OutOfMemory}
@@ -14,7 +14,7 @@ use Rattle.html_render_tree_insertions.specs.declared.drafts.Draft.{Draft}
 use Rattle.html_render_tree_insertions.specs.Drafts.{expanded}
 use Rattle.html_render_tree_convert.specs.Building.{document_drafts, document_of}
 use Rattle.html_render_tree_convert.specs.Opened.{IsOpened, NextChild}
-use Rattle.html_render_tree_orders.specs.Order.{children_in}
+use Rattle.html_render_tree_convert.specs.Order.{children_in}
 use Rattle.html_render_tree_convert.specs.laws.Agreement.{tree_of_drafts}
 use Rattle.html_render_tree_convert.proofs.Closing.{Ending, Converting-closed, Converting-ending, Converting-none, Converting-top, Ending-fails, Ending-last, Ending-split}
 use Rattle.html_render_tree_convert.proofs.Lasts.{last_of}

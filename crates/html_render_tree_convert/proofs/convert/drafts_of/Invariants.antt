@@ -1,5 +1,5 @@
 use Rattle.std.proofs.Common.{map}
-use Rattle.html_render_dom_rules.specs.Rules.{rule_of}
+use Rattle.html_render_dom_styles.specs.Rules.{rule_of}
 use Rattle.html_render_tree_convert.proofs.Paths.{Converting}
 use Rattle.html_render_tree_convert.proofs.Working.{work}
 use Rattle.html_render_tree_convert.proofs.convert.drafts_of.Given as goal

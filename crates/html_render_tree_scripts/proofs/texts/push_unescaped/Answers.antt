@@ -1,6 +1,6 @@
 use Rattle.std.proofs.Common.{◌≡◌, ◌<◌, ◌++◌, ◌∷◌, [], ℕ, List, length, arith, Some, sym, ap, ◌∙◌, string_bytes}
 use Rattle.html_render_tree_scripts.specs.Commands.{unescaped}
-use Rattle.html_render_tree_scripts.specs.Plain.{with_more}
+use Rattle.html_render_tree_scripts.specs.Plain.{text_followed_by}
 use Rattle.html_render_tree_scripts.specs.laws.Lines.{Lacks-none, cut_parts}
 use Rattle.html_render_tree_scripts.specs.laws.Escapes.{unescaped-plain, unescaped-step, unescaped-stop}
 use Rattle.html_render_tree_scripts.proofs.texts.push_unescaped.Goals as goal
@@ -22,7 +22,7 @@ loop-before-preserved c =
       known.2,
       c.loop-before.invariant.1
           ∙ unescaped-step was rest before after more byte parts.0 parts.1 known.3
-          ∙ ap (λ (bs : List ℕ). with_more bs (unescaped more)) (sym put),
+          ∙ ap (λ (bs : List ℕ). text_followed_by bs (unescaped more)) (sym put),
     )
 
 pub loop-before-smaller : goal.loop-before-smaller
@@ -42,5 +42,5 @@ pub returns : goal.returns
 returns c =
     let plain = Lacks-none 92 c.loop-before.rest.now c.in_default.ensures in
     c.loop-before.invariant.1
-    ∙ ap (with_more (string_bytes c.loop-before.plain)) (unescaped-plain c.loop-before.rest.now plain)
+    ∙ ap (text_followed_by (string_bytes c.loop-before.plain)) (unescaped-plain c.loop-before.rest.now plain)
     ∙ ap Some (sym c.in_ok-push_str-2.ensures.bytes)

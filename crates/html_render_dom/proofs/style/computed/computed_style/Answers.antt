@@ -3,9 +3,9 @@ use Rattle.std.proofs.Common.{ℕ, List, [], Option, sym, ap, ◌∙◌, arith, 
 use Rattle.std.specs.List.{flat_map}
 use Rattle.std.proofs.lemmas.List.{take_all}
 use Rattle.html_render_dom_nodes.specs.Content.{property_of}
-use Rattle.html_render_dom_rules.specs.Rules.{rule_of}
+use Rattle.html_render_dom_styles.specs.Rules.{rule_of}
 use Rattle.html_render_dom.specs.Attributes.{first_value}
-use Rattle.html_render_dom_rules.specs.Selectors.{selects}
+use Rattle.html_render_dom_styles.specs.Selectors.{selects}
 use Rattle.html_render_dom.specs.ElementStyle.{applied, style_by, style_of, with_declarations}
 use Rattle.html_render_dom.proofs.Applies.{said_to, said_to-all, said_to-selected, said_to-other, with_declarations-more}
 use Rattle.html_render_dom.proofs.style.computed.computed_style.Goals as goal

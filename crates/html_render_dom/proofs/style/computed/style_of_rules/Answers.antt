@@ -1,9 +1,9 @@
 -- Each iteration of the loop applies the declarations of a rule if it hasn't been applied yet and selects the element.
 use Rattle.std.proofs.Common.{◌≡◌, true, length, refl, ◌+◌, ◌<◌, [], sym, ap, ◌∙◌, arith, get_or, take, subst, option_copied}
 use Rattle.std.specs.List.{flat_map}
-use Rattle.html_render_dom_rules.specs.declared.rules.StyleRule.{StyleRule}
-use Rattle.html_render_dom_rules.specs.Rules.{rule_of}
-use Rattle.html_render_dom_rules.specs.Selectors.{selects}
+use Rattle.html_render_dom_styles.specs.declared.rules.StyleRule.{StyleRule}
+use Rattle.html_render_dom_styles.specs.Rules.{rule_of}
+use Rattle.html_render_dom_styles.specs.Selectors.{selects}
 use Rattle.html_render_dom.specs.ElementStyle.{style_by, style_of, with_declarations}
 use Rattle.html_render_dom.proofs.Applies.{said_to, still, said_to-all, said_to-selected, with_declarations-more}
 use Rattle.html_render_dom.proofs.RuleIndex.{Left, Left-done, Left-passed, Left-start, done-all, done-before}

@@ -2,7 +2,7 @@ use Rattle.std.proofs.Common.{◌≡◌, Some, map, sym, subst, OnOk, IfErr}
 use Rattle.std.specs.Prelude.{string_bytes}
 use Rattle.html_render_dom_values.specs.Outcome.{Refuses}
 use Rattle.html_render_layout_blocks.specs.Machine as machine
-use Rattle.html_render_layout_states.specs.Ending.{closing_texts}
+use Rattle.html_render_layout.specs.Ending.{closing_texts}
 use Rattle.html_render_layout.proofs.Ending.{ended-by, new-ok, new-err}
 use Rattle.html_render_layout.proofs.walk.ending.end.Goals as goal
 

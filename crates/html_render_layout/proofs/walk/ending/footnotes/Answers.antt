@@ -1,7 +1,7 @@
 use Rattle.std.proofs.Common.{◌+◌, [], ◌∷◌, ◌++◌, map, drop, sym, ap, ◌∙◌}
 use Rattle.std.proofs.lemmas.List.{at_drop_more, map-append}
 use Rattle.std.specs.Prelude.{string_bytes}
-use Rattle.html_render_layout_states.specs.Ending.{footnotes}
+use Rattle.html_render_layout.specs.Ending.{footnotes}
 use Rattle.html_render_layout.proofs.Ending.{footnotes-more}
 use Rattle.html_render_layout.proofs.walk.ending.footnotes.Goals as goal
 

@@ -1,6 +1,6 @@
 use Rattle.std.proofs.Common.{◌≡◌, ◌+◌, ◌++◌, map, drop}
 use Rattle.std.specs.Prelude.{string_bytes}
-use Rattle.html_render_layout_states.specs.Ending.{footnotes}
+use Rattle.html_render_layout.specs.Ending.{footnotes}
 use Rattle.html_render_layout.proofs.walk.ending.footnotes.Given as goal
 
 -- all footnotes are those so far, and then those of the remaining links

@@ -1,12 +1,12 @@
 use Rattle.std.proofs.Common.{◌≡◌, ◌∙◌, Some, IfOk, IfErr, sym, subst}
 use Rattle.html_render_dom_values.specs.Outcome.{Refuses}
 use Rattle.html_render_layout_blocks.specs.Machine as machine
-use Rattle.html_render_layout_nodes.specs.Pass.{way}
+use Rattle.html_render_layout_nodes.specs.Visitor.{way}
 use Rattle.html_render_layout_nodes.specs.Preorder.{forest_of}
-use Rattle.html_render_layout_states.specs.declared.state.Interruption.TheVariants.{Cell}
-use Rattle.html_render_layout_states.specs.Layout.{within}
-use Rattle.html_render_layout_states.specs.Opening.{cell_opened, opened_in}
-use Rattle.html_render_layout_states.specs.Working.{by_tags}
+use Rattle.html_render_layout.specs.declared.state.Suspended.TheVariants.{Cell}
+use Rattle.html_render_layout.specs.Layout.{within}
+use Rattle.html_render_layout.specs.Opening.{cell_opened, opened_in}
+use Rattle.html_render_layout.specs.Working.{by_tags}
 use Rattle.html_render_layout.proofs.walk.steps.open_cell.Goals as goal
 
 pub returns-clause-ok : goal.returns-clause-ok

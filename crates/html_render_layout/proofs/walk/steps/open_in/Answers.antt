@@ -1,8 +1,8 @@
 use Rattle.std.proofs.Common.{Some, option_and_then, sym, ap, ◌∙◌}
-use Rattle.html_render_layout_nodes.specs.Pass.{way}
+use Rattle.html_render_layout_nodes.specs.Visitor.{way}
 use Rattle.html_render_layout_nodes.specs.Preorder.{forest_of}
-use Rattle.html_render_layout_states.specs.Opening.{keeping}
-use Rattle.html_render_layout_states.specs.Working.{by_tags}
+use Rattle.html_render_layout.specs.Opening.{keeping}
+use Rattle.html_render_layout.specs.Working.{by_tags}
 use Rattle.html_render_layout.specs.laws.Opening.{opened-by}
 use Rattle.html_render_layout.proofs.walk.steps.open_in.Goals as goal
 

@@ -1,8 +1,8 @@
 use Rattle.std.proofs.Common.{◌≡◌, Some, IfOk, IfErr, sym, subst}
 use Rattle.html_render_dom_values.specs.Outcome.{Refuses}
-use Rattle.html_render_layout_nodes.specs.Pass.{way}
+use Rattle.html_render_layout_nodes.specs.Visitor.{way}
 use Rattle.html_render_layout_nodes.specs.Preorder.{forest_of}
-use Rattle.html_render_layout_states.specs.Working.{by_tags}
+use Rattle.html_render_layout.specs.Working.{by_tags}
 use Rattle.html_render_layout.specs.laws.Opening.{texts_pass}
 use Rattle.html_render_layout.proofs.walk.steps.open_shared.Goals as goal
 

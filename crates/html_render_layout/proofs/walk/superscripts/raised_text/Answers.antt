@@ -2,7 +2,7 @@ use Rattle.std.proofs.Common.{◌≡◌, ℕ, List, [], ◌∷◌, ◌++◌, ◌
 use Rattle.std.proofs.lemmas.List.{map_more, take_all}
 use Rattle.std.specs.String.{string_bytes}
 use Rattle.std.proofs.lemmas.Str.{IsUtf8-string_bytes, chars_from_encodes, encodes-append}
-use Rattle.html_render_layout_states.specs.Layout.{raised}
+use Rattle.html_render_layout.specs.Layout.{raised}
 use lib.Utf8.{encode, encodes}
 use Rattle.html_render_layout.proofs.walk.superscripts.raised_text.Goals as goal
 

@@ -3,7 +3,7 @@ use Rattle.std.proofs.lemmas.Iterator.{YieldsList-from_chars}
 use Rattle.std.proofs.lemmas.Iterator.Consumers.{YieldsList-end}
 use Rattle.std.specs.String.{string_bytes}
 use Rattle.std.proofs.lemmas.Str.{IsUtf8-string_bytes, chars_from_encodes}
-use Rattle.html_render_layout_states.specs.Layout.{struck}
+use Rattle.html_render_layout.specs.Layout.{struck}
 use Rattle.html_render_layout.proofs.Struck.{struck-more}
 use Rattle.html_render_layout.proofs.walk.texts.struck.Goals as goal
 

@@ -4,7 +4,7 @@ use Rattle.html_render_layout_paragraphs.specs.Paragraph.{put_items}
 use Rattle.html_render_layout_paragraphs.specs.Stream.{on_page, styled}
 use Rattle.html_render_layout_paragraphs.proofs.paragraph.Paragraph.put_characters.Given as goal
 
--- The result is that of placing the rest of the text on the present page.
+-- The result is that of placing the rest of the text on the present line buffer.
 abbrev pub invariant-loop-rest : goal.invariant-loop-rest
 invariant-loop-rest g l = record {
   utf8 : IsUtf8 l.rest;

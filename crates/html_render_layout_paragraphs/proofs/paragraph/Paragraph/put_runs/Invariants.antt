@@ -4,7 +4,7 @@ use Rattle.html_render_layout_paragraphs.specs.Stream.{on_page}
 use Rattle.html_render_layout_lines.specs.TaggedText.{Cuts}
 use Rattle.html_render_layout_paragraphs.proofs.paragraph.Paragraph.put_runs.Given as goal
 
--- The result is that of placing the remaining runs on the present page.
+-- The result is that of placing the remaining runs on the present line buffer.
 abbrev pub invariant-loop-run : goal.invariant-loop-run
 invariant-loop-run g l = record {
   within : l.at ≤ length l.text;

@@ -1,5 +1,5 @@
 use Rattle.std.proofs.Common.{◌++◌, ◌∷◌, [], ◌≤◌, append_assoc, sym, ap, ◌∙◌, arith}
-use Rattle.html_render_layout_glyphs.specs.declared.borders.TheConstants.{BORDERS}
+use Rattle.html_render_layout_pictures.specs.declared.borders.TheConstants.{BORDERS}
 use Rattle.html_render_layout_lines.specs.declared.line.Element.TheVariants.{Character}
 use Rattle.html_render_layout_lines.specs.Line.{Line}
 use Rattle.html_render_layout_pictures.specs.Padding.{repeated}

@@ -1,12 +1,17 @@
-use Rattle.std.proofs.Common.{◌≡◌, subst, Some}
+use Rattle.std.proofs.Common.{◌≡◌, ◌∙◌, ap, subst, Some}
+use Rattle.std.specs.Prelude.{◌≢◌, Result, Ok, Err}
 use Rattle.std.proofs.lemmas.Result.{IfOk-weaker}
-use Rattle.html_render_layout_states.specs.Layout.{mark_names}
+use Rattle.html_render_dom_values.specs.Outcome.{OnlyOutOfMemory}
+use Rattle.html_render_dom_values.specs.declared.errors.Error.{Error}
+use Rattle.html_render_dom_values.specs.declared.errors.Error.TheVariants.{TooNarrow}
+use Rattle.html_render_layout.specs.Layout.{mark_names}
 use Rattle.html_render_layout.specs.Promises.{AreLines}
+use Rattle.html_render_layout_blocks.specs.declared.block.BlockSetting.{BlockSetting}
 use Rattle.html_render_layout_tagged.specs.LaidOut.{laid_out}
 use Rattle.html_render_layout_tagged.specs.Grouping.{lines_of}
 use Rattle.html_render_layout_tagged.specs.laws.Grouping.{within-lines}
 use Rattle.html_render_tree.specs.Rendering.{Options, document_block}
-use Rattle.html_render_tree.specs.laws.Rendering.{strings-answered, strings-rendered}
+use Rattle.html_render_tree.specs.laws.Rendering.{promises_kept, strings-answered, strings-rendered}
 use Rattle.html_render_tree.proofs.config.Config.render_to_lines_metered.Goals as goal
 
 pub returns-clause-within : goal.returns-clause-within
@@ -43,3 +48,17 @@ returns-clause-ok g c =
     IfOk-weaker c.tagged_lines.result _ _ (λ made told.
     strings-answered g.D.TextDecorator.decoration c.args.self.now c.args.tree c.args.width g.D.Annotation.PartialEq.eq (lines_of made.items) told)
     (returns-clause-lines g c)
+
+-- the result is no error but `OutOfMemory`, and width 0 has no lines
+pub returns-clause-promises : goal.returns-clause-promises
+returns-clause-promises g c =
+    promises_kept g.D.TextDecorator.decoration c.args.self.now c.args.tree c.args.width c.tagged_lines.result
+    (λ zero. never (c.in_ok-laid_out.ensures.no_width (ap (λ (b : BlockSetting). b.width) c.block.ensures ∙ zero)))
+    (λ on some. no_other c.tagged_lines.result c.tagged_lines.ensures.err)
+  where
+    never : {A R : Type 0} {a : A} {r : Result R Error} → ◌≡◌ {A = Result A Error} (Ok a) (Err TooNarrow) → r ≡ Err TooNarrow
+    never e = cc
+
+    no_other : {R : Type 0} (r : Result R Error) → OnlyOutOfMemory r → r ≢ Err TooNarrow
+    no_other (Ok v) only e = cc
+    no_other (Err x) only e = cc

@@ -1,5 +1,5 @@
 use Rattle.std.proofs.Common.{◌≡◌, subst}
-use Rattle.html_render_layout_states.specs.Layout.{unannotated}
+use Rattle.html_render_layout.specs.Layout.{unannotated}
 use Rattle.html_render_layout.specs.Promises.{Lines}
 use Rattle.html_render_tree.specs.Rendering.{Options, document_block}
 use Rattle.html_render_tree.specs.laws.Rendering.{text-answered, text-rendered}

@@ -4,7 +4,7 @@ use Rattle.std.proofs.lemmas.List.Elements.{All-head}
 use Rattle.html_render_layout_nodes.specs.declared.tree.Entry.{Entry}
 use Rattle.html_render_layout_nodes.specs.declared.tree.RenderNode.{RenderNode}
 use Rattle.html_render_layout_nodes.specs.Preorder.{flatten}
-use Rattle.html_render_layout_nodes.specs.laws.Preorder.{IsForest}
+use Rattle.html_render_layout_nodes.specs.laws.Preorder.{IsPreorderOf}
 use Rattle.html_render_tree_insertions.specs.Drafts.{expanded, front, node_of}
 use Rattle.html_render_tree_insertions.specs.Notes.{drafted, drafts_of, inserted_at, Falls, IsUnmeasured, SameBelow}
 use Rattle.html_render_tree_insertions.proofs.Expanding.{Opening, Over, writing_starts, writing_over, next_opening, all_written, over_within}
@@ -61,7 +61,7 @@ left_unmeasured c =
 
 own : (c : In_ok-inserted-in-Some-pop) →
     let d = drafted c.in-Some-pop.entry c.in_ok-inserted-in-Some-pop.inserted in
-    let e : Entry RenderNode = record { node = node_of d.node; size = c.in-Some-pop.entry.size } in c.in-Some-pop.entry ≡ e
+    let e : Entry RenderNode = record { node = node_of d.node; subtree_len = c.in-Some-pop.entry.subtree_len } in c.in-Some-pop.entry ≡ e
 own c =
     sym (own_node c.in-Some-pop.entry c.in_ok-inserted-in-Some-pop.inserted
     (All-head IsUnmeasured c.in-Some-pop.entry []
@@ -76,7 +76,7 @@ writing-preserved-then-is_empty c =
     record {
       written = (next at).bare c.push.new.self.items c.if-entry-eq1.true (c.if-is_empty.ensures.0 (search rules))
           (c.in_ok-push-in-Some-pop.ensures.items ∙ ap (λ (x : Entry RenderNode). nodes ++ x ∷ []) (own at)
-          ∙ ap (λ n. let x : Entry RenderNode = record { node = kept; size = n } in nodes ++ x ∷ []) c.if-entry-eq1.true);
+          ∙ ap (λ n. let x : Entry RenderNode = record { node = kept; subtree_len = n } in nodes ++ x ∷ []) c.if-entry-eq1.true);
       not_measured = left_unmeasured at;
       in_order = left_order at;
     }
@@ -109,7 +109,7 @@ writing-preserved c =
       in_order = left_order at;
     }
 
-made : (c : In-None) → IsForest c.writing.nodes.items (expanded c.args.self)
+made : (c : In-None) → IsPreorderOf c.writing.nodes.items (expanded c.args.self)
 made c =
     let drafts_are = length-drafts_of c.writing.entries.items c.writing.noted.items in
     all_written c.args.self c.writing.invariant.written c.in_default.ensures.not_done

@@ -1,6 +1,6 @@
 use Rattle.std.proofs.Common.{◌≡◌, [], ℕ, Bool, true, false, List, Option, Some, None, if◌then◌else◌, unwrap_or, MatchOption, refl, sym, ap, ◌∙◌, string_bytes}
 use Rattle.html_render_tree_scripts.specs.Commands.{unescaped}
-use Rattle.html_render_tree_scripts.specs.Plain.{with_more}
+use Rattle.html_render_tree_scripts.specs.Plain.{text_followed_by}
 use Rattle.html_render_tree_scripts.specs.laws.Escapes.{unescaped-plain}
 use Rattle.html_render_tree_scripts.proofs.texts.Texts.add.Goals as goal
 
@@ -18,11 +18,11 @@ pub returns-then-is_plain : goal.returns-then-is_plain
 returns-then-is_plain c =
     let was = gathered c.self.inside.is_any (string_bytes c.self.inside.gathered) c.args.self.now c.self.view_is c.self.invariant in
     let plain = unescaped-plain c.args.text.now (c.requires c.if-is_plain.true) in
-    told (with_more (unwrap_or c.args.self.now []) (unescaped c.args.text.now)) true (string_bytes c.push_str.new.self)
+    told (text_followed_by (unwrap_or c.args.self.now []) (unescaped c.args.text.now)) true (string_bytes c.push_str.new.self)
     (rw (was, plain) (ap Some (sym c.in_ok-push_str.ensures.bytes)))
 
 pub returns : goal.returns
 returns c =
     let was = gathered c.self.inside.is_any (string_bytes c.self.inside.gathered) c.args.self.now c.self.view_is c.self.invariant in
-    told (with_more (unwrap_or c.args.self.now []) (unescaped c.args.text.now)) c.in_ok-is_known.is_known (string_bytes c.push_unescaped.new.plain)
+    told (text_followed_by (unwrap_or c.args.self.now []) (unescaped c.args.text.now)) c.in_ok-is_known.is_known (string_bytes c.push_unescaped.new.plain)
     (rw was c.in_ok-is_known.ensures)

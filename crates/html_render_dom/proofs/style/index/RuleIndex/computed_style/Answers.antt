@@ -1,6 +1,6 @@
 use Rattle.std.proofs.Common.{map, option_copied, sym, subst}
 use Rattle.std.specs.List.{Contains}
-use Rattle.html_render_dom_rules.specs.Rules.{rule_of}
+use Rattle.html_render_dom_styles.specs.Rules.{rule_of}
 use Rattle.html_render_dom.proofs.RuleIndex.{finds-selected}
 use Rattle.html_render_dom.proofs.style.index.RuleIndex.computed_style.Goals as goal
 

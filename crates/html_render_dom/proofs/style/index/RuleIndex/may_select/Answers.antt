@@ -7,9 +7,9 @@ use Rattle.std.specs.Vec.{vec_len}
 use Rattle.html_render_dom_nodes.specs.declared.names.Attribute.{Attribute}
 use Rattle.html_render_dom_nodes.specs.Content.{property_of}
 use Rattle.html_render_dom.specs.ElementStyle.{element_style, style_by}
-use Rattle.html_render_dom.specs.RuleIndex.{Finds, is_told, key_of}
-use Rattle.html_render_dom_rules.specs.Rules.{Rule}
-use Rattle.html_render_dom_rules.specs.Selectors.{is_filled}
+use Rattle.html_render_dom.specs.RuleIndex.{Finds, is_told, text_key}
+use Rattle.html_render_dom_styles.specs.Rules.{Rule}
+use Rattle.html_render_dom_styles.specs.Selectors.{is_filled}
 use Rattle.html_render_dom.proofs.RuleIndex.{none_selects}
 use Rattle.html_render_dom.proofs.style.index.RuleIndex.may_select.Goals as goal
 use Rattle.html_render_dom.proofs.style.index.RuleIndex.may_select.Goals.{Else-not-is_empty, then-index, else-index}
@@ -31,10 +31,10 @@ both c = elim c.if-index.branch [
   | then-index w ↦ (let no : true ≡ false = sym w.if-index.true ∙ sym w.value-is ∙ c.if-not-is_empty.false in absurd (cc))
   | else-index w ↦ (
       let keys = c.args.self.now.keys.items in
-      let key = key_of c.args.element.now in
-      let within : key < length keys = omega (arith, c.key_of.ensures.key, c.key_of.ensures.small, c.requires) in (
+      let key = text_key c.args.element.now in
+      let within : key < length keys = omega (arith, c.text_key.ensures.key, c.text_key.ensures.small, c.requires) in (
         get_or_default keys key true c.index.result.now within
-            ∙ ap (λ k. get_or keys k c.index.result.now) (sym c.key_of.ensures.key)
+            ∙ ap (λ k. get_or keys k c.index.result.now) (sym c.text_key.ensures.key)
             ∙ sym c.index.ensures
             ∙ w.if-index.false,
         empty c.args.self.now.general (sym w.is_empty.ensures ∙ not_false w.is_empty.result (sym w.value-is ∙ c.if-not-is_empty.false)),

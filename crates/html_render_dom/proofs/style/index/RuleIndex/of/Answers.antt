@@ -4,8 +4,8 @@ use Rattle.std.proofs.lemmas.List.{length-map, length-set, length-take-le, map-a
 use Rattle.std.proofs.lemmas.List.Elements.{Contains-push}
 use Rattle.std.specs.List.{Contains}
 use Rattle.html_render_dom.specs.declared.style.index.RuleIndex.{RuleIndex}
-use Rattle.html_render_dom.specs.RuleIndex.{Finds, IsFound, asks_attributes, key_of, stated_text}
-use Rattle.html_render_dom_rules.specs.Rules.{rule_of}
+use Rattle.html_render_dom.specs.RuleIndex.{Finds, IsFound, asks_attributes, text_key, stated_text}
+use Rattle.html_render_dom_styles.specs.Rules.{rule_of}
 use Rattle.html_render_dom.proofs.RuleIndex.{Finds-more, general-keeps, key_small, put-found, put-keeps}
 use Rattle.html_render_dom.proofs.style.index.RuleIndex.of.Goals as goal
 use Rattle.html_render_dom.proofs.style.index.RuleIndex.of.Goals.{in-Some+in_ok-put-in-Some, in-None+in_ok-push-in-None}
@@ -32,7 +32,7 @@ loop-number-preserved c =
           let e = w.in_ok-put-in-Some.ensures in
           let put = w.put.new.self in
           subst (λ x. Finds x (before ++ rule_of rule ∷ [])) (sym w.index-is)
-          (Finds-more old put before (rule_of rule) c.loop-number.invariant (ap length e.keys ∙ length-set old.keys.items (key_of text) true ∙ long)
+          (Finds-more old put before (rule_of rule) c.loop-number.invariant (ap length e.keys ∙ length-set old.keys.items (text_key text) true ∙ long)
           (put-keeps old put text i long (key_small text) e.keys e.numbers e.general)
           (subst (λ n. IsFound put n (stated_text (rule_of rule))) (sym number)
           (subst (IsFound put i) (sym stated) (put-found old put text i long (key_small text) e.keys e.numbers))) (e.asks ∙ asks))

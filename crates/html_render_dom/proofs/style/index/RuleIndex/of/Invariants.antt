@@ -1,6 +1,6 @@
 use Rattle.std.proofs.Common.{map, take}
 use Rattle.html_render_dom.specs.RuleIndex.{Finds}
-use Rattle.html_render_dom_rules.specs.Rules.{rule_of}
+use Rattle.html_render_dom_styles.specs.Rules.{rule_of}
 use Rattle.html_render_dom.proofs.style.index.RuleIndex.of.Given as goal
 
 abbrev pub invariant-loop-number : goal.invariant-loop-number

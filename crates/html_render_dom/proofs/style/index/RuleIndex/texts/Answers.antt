@@ -5,7 +5,7 @@ use Rattle.std.proofs.lemmas.List.Elements.{filter-append}
 use Rattle.std.specs.Str.Iter.{split_ascii_whitespace_text}
 use Rattle.std.specs.Option.{unwrap_or}
 use Rattle.html_render_dom.specs.RuleIndex.{is_told}
-use Rattle.html_render_dom_rules.specs.Selectors.{words}
+use Rattle.html_render_dom_styles.specs.Selectors.{words}
 use Rattle.html_render_dom.proofs.Words.{next_word, no_words}
 use Rattle.html_render_dom.proofs.style.index.RuleIndex.texts.Goals as goal
 use Rattle.html_render_dom.proofs.style.index.RuleIndex.texts.Goals.{in-Some+in_ok-add_told-2, in_default, in-Some-classes+in_default-next, in_default-classes}

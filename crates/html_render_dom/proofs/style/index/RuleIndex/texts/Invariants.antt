@@ -1,7 +1,7 @@
 use Rattle.std.proofs.Common.{◌≡◌, ◌++◌, filter, length, map, option_copied}
 use Rattle.std.specs.Str.Iter.{split_ascii_whitespace_text}
 use Rattle.html_render_dom.specs.RuleIndex.{is_told, texts_of}
-use Rattle.html_render_dom_rules.specs.Selectors.{words}
+use Rattle.html_render_dom_styles.specs.Selectors.{words}
 use Rattle.html_render_dom.proofs.style.index.RuleIndex.texts.Given as goal
 
 -- the texts so far and those of the remaining words are the texts of the element

@@ -1,6 +1,6 @@
 use Rattle.std.proofs.Common.{◌≡◌, ◌+◌, ◌<◌, ◌++◌, ◌∷◌, [], drop, length, sym, ap, ◌∙◌, arith, rules, append_assoc, drop-cons, suc}
 use Rattle.std.proofs.Output.{has_written_append}
-use Rattle.html_render_layout_nodes.specs.Dump.{dump, line}
+use Rattle.html_render_layout_nodes.specs.Dump.{tree_dump, tree_line}
 use Rattle.html_render_layout_nodes.specs.Kinds.{kind_name}
 use Rattle.html_render_layout_nodes.specs.Preorder.{flatten}
 use Rattle.html_render_layout_nodes.proofs.Depths.{length-depths, lines, lines-whole}
@@ -13,7 +13,7 @@ loop-at-init g c p = (
   [],
   search rules,
   ap (λ es. lines es c.self.inside.depths.items) c.entries-entry-items.ensures
-      ∙ ap (lines (flatten c.self.inside.nodes)) c.self.invariant ∙ lines-whole c.self.inside.nodes ∙ ap (dump 0) c.self.view_is,
+      ∙ ap (lines (flatten c.self.inside.nodes)) c.self.invariant ∙ lines-whole c.self.inside.nodes ∙ ap (tree_dump 0) c.self.view_is,
 )
 
 within : (g : Over) (c : After-entry-item g) → c.loop-at.at < length c.self.inside.depths.items
@@ -37,7 +37,7 @@ loop-at-preserved g c p =
     let depths = c.self.inside.depths.items in
     let e = c.entry-item.result in
     let d = c.index.result.now in
-    let piece = line d (kind_name e.node.kind) in
+    let piece = tree_line d (kind_name e.node.kind) in
     let next : suc at ≡ at + 1 = omega arith in
     let there : drop at items ≡ e ∷ drop (at + 1) items =
     drop-cons items at e c.loop-at-test.true ∙ ap (λ x. x ∷ drop (suc at) items) (sym c.entry-item.is)

@@ -1,2 +1,0 @@
--- widths of the characters that draw tables
-pub mod Widths

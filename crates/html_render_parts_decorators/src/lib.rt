@@ -1,4 +1,0 @@
-//! Texts written around the parts of a document, and annotations of its characters.
-#![tactic(auto)]
-
-pub mod decorate;

@@ -1,3 +1,0 @@
--- in which order the children of a table are converted
-pub mod ChildLists
-pub mod Order

@@ -1,4 +1,0 @@
-//! In which order the children of a table are converted.
-#![tactic(auto)]
-
-pub mod order;

@@ -1,0 +1,14 @@
+-- steps, and the documents that they build
+pub mod Steps
+-- faults of a step that isn't taken
+pub mod StepFaults
+-- the result of a call without bytes
+pub mod Faults
+-- options that records of settings make
+pub mod Settings
+-- lines as records of bytes
+pub mod Records
+-- the outcome of a call for a document of steps
+pub mod Pages
+-- laws of the definitions
+pub mod laws
