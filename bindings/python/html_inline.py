@@ -15,7 +15,7 @@ UNSIGNED = "\x01unsigned"
 BLOCKS = ("block", "parted", "list", "item")
 LINK_MODES = ("notes", "inline", "list", "none")
 
-_INVISIBLE = frozenset("\u034f\u200b\u200c\u200d\u2060\ufeff")
+_INVISIBLE = frozenset("\u034f\u200b\u200c\u200d\u2060\u206a\u206b\u206c\u206d\u206e\u206f\ufeff")
 _WITHOUT_SPACES = re.compile("[\u0e00-\u0eff\u1000-\u109f\u1780-\u17ff\u2e80-\ua4cf\uf900-\ufaff\uff66-\uff9f\U00020000-\U0003ffff]")
 # characters of a page's own base, which each target may repeat
 _MAX_BASE = 500
@@ -169,7 +169,8 @@ class _Link:
 class _Gaps:
     """Blank lines where browsers have margins and the library makes none. Where one may be missing an empty element is recorded, which
     becomes a line break if contents without a margin follow it. `before` is what is directly before: nothing (at the "start" of lines
-    that are rendered together), a "margin", a "list", "contents" or a "gap"."""
+    that are rendered together), a "margin", the "end" of a block with a margin, which makes no blank line before a list, a "list",
+    "contents" or a "gap"."""
 
     def __init__(self, steps):
         self._steps = steps
@@ -206,10 +207,10 @@ class _Gaps:
     def end(self, run):
         """Notes that an element ends."""
         if run == "item":
-            self._is_after_margin = self.before in ("margin", "list", "gap")
+            self._is_after_margin = self.before in ("margin", "end", "list", "gap")
             self.before = "start" if self.before == "start" else "contents"
         elif run == "parted":
-            self.before = "margin"
+            self.before = "end"
         elif run == "list" and self.before == "contents":
             self.before = "list"
 
@@ -217,6 +218,14 @@ class _Gaps:
         """Has a blank line in a node part what is before from contents that follow."""
         if self.before in ("contents", "list"):
             self._placeholder, self.before = ["element", node, "span", 1], "gap"
+            self._steps.add_made(self._placeholder)
+
+    def part_list(self, node):
+        """Has a blank line in a node part a list from what is before it."""
+        if self.before in ("contents", "end", "list"):
+            # a line may be open
+            division = self._steps.add_element(node, "div", 1)
+            self._placeholder, self.before = ["element", division, "span", 1], "gap"
             self._steps.add_made(self._placeholder)
 
     def part_term(self, node):
@@ -272,7 +281,7 @@ class Inline:
                 self._drop_signs(self._ended + waiting)
             if middle.startswith("*"):
                 self._drop_signs([it for it in waiting if it.is_starred])
-            self._fill()
+            self.fill()
         self._ended = []
         if text:
             self._last = text[-1]
@@ -311,7 +320,7 @@ class Inline:
         self._show()
         if self._links:
             self._links[-1].differs = True
-        self._fill()
+        self.fill()
 
     def add_image(self, node, element):
         """Notes an image without a text, which is shown if nothing else in the link around it is."""
@@ -352,7 +361,7 @@ class Inline:
             image, element = link.image
             self._steps.add_attribute(image, "alt", name_of(element, link.element))
             self.gaps.add_contents()
-            self._fill()
+            self.fill()
         is_told = link.target is not None and not link.differs and link.is_shown and _is_told_by(_parted(link.text)[1], link.target)
         is_shown = link.is_shown or link.image is not None
         if not is_shown:
@@ -393,7 +402,8 @@ class Inline:
             link = self._links[-1]
             link.is_shown, link.is_line_open, link.block = True, True, None
 
-    def _fill(self):
+    def fill(self):
+        """Notes that something is shown, or that lines begin whose white space stays where it is."""
         self._ended = []
         for signed in self._emphasis:
             signed.is_filled, signed.has_space_before = True, False

@@ -6,7 +6,7 @@
     world
 
 html5lib parses the HTML as browsers do (Debian's python3-html5lib); its tree becomes the calls of which the library builds the
-document that it renders, with what a browser shows (html_shown.py, html_inline.py, html_tables.py). The library is the shared one that
+document that it renders, with what a browser shows (html_shown.py, html_inline.py, html_lines.py, html_tables.py). The library is the shared one that
 `bindings/build` makes, in bindings/out, or the file that the variable HTML_RENDER_LIB of the environment names.
 """
 
@@ -18,7 +18,8 @@ from pathlib import Path
 
 import html5lib
 
-from html_inline import LINK_MODES, UNSIGNED, Inline, Steps, base_of, cut, scheme
+from html_inline import BLOCKS, LINK_MODES, UNSIGNED, Inline, Steps, base_of, cut, scheme
+from html_lines import MARKS, Code, has_crossings, joined, without_rules
 from html_shown import (
     ASKED,
     HTML,
@@ -30,7 +31,9 @@ from html_shown import (
     is_item,
     is_loose,
     loose_in,
+    measured,
     name_of_image,
+    raised,
     shown,
     takes,
     title_of,
@@ -106,6 +109,9 @@ class _Recording:
         self._steps = Steps()
         self._inline = None
         self._tables = None
+        self._code = Code()
+        self._cuts_code = False
+        self._end_of_citation = 0
         self._recording = _library.html_render_new()
         if not self._recording:
             raise MemoryError
@@ -116,10 +122,10 @@ class _Recording:
     def __exit__(self, *_):
         _library.html_render_drop(self._recording)
 
-    def add_children(self, parent, tree, tables, inline_of, keep_controls):
+    def add_children(self, parent, tree, tables, inline_of, keep_controls, cuts_code):
         """Records the nodes below one of html5lib's tree, whose own node is `parent`, as a browser shows them, and as `tables` says of
         tables. A function returns the text of steps. It doesn't recurse: documents may be deep. Returns the lines after the text."""
-        self._keeps_controls = keep_controls
+        self._keeps_controls, self._cuts_code = keep_controls, cuts_code
         self._inline = inline_of(self._steps)
         self._tables = tables
         ahead = [(parent, Around(), Items(), iter(tree.childNodes), None)]
@@ -133,7 +139,15 @@ class _Recording:
                 text = tables.cut(child) if around.line else child.data
                 if text and not around.hides_texts:
                     place = self._place_of(child, above, around, items)
-                    self._inline.add_text(above if place is None else place, self._kept(text, is_shown=True))
+                    text = self._kept(text, is_shown=True)
+                    if around.is_in_code:
+                        text = self._code.indented(text)
+                    elif around.is_in_citation:
+                        text = raised(text)
+                    elif tables.is_mark_missing:
+                        text = tables.marked(text)
+                    if text:
+                        self._inline.add_text(above if place is None else place, text)
             elif child.nodeType == child.ELEMENT_NODE:
                 place = self._place_of(child, above, around, items)
                 found = shown(child, around if place is None else around.in_loose(), tables)
@@ -171,6 +185,7 @@ class _Recording:
 
     def _kept(self, text, is_shown=False):
         if self._keeps_controls:
+            text = MARKS.sub("", text)
             return text.replace("\u00ad", "") if is_shown else text
         return without_controls(text, is_shown)
 
@@ -179,6 +194,15 @@ class _Recording:
         inline, outer = self._inline, parent
         found.outer = outer
         inline.begin(found.run)
+        if found.around.is_in_code and found.kind != "code":
+            if found.run == "break":
+                self.add_text(parent, self._code.end_line())
+            elif found.run in BLOCKS:
+                self._code.begin_line()
+        if found.kind == "citation" and self._end_of_citation == len(self._steps):
+            inline.add_text(parent, " ")
+        if found.kind == "list":
+            inline.gaps.part_list(parent)
         if found.gap:
             gap = self.add_element(parent, "span")
             self._add_attribute(gap, "class", " " + WHITE_SPACE["pre-wrap"])
@@ -197,6 +221,11 @@ class _Recording:
             inline.add_image(parent, element)
         elif found.kind == "object":
             inline.add_object()
+        elif found.kind == "code":
+            room = max(self._tables.columns - found.around.margin, 0)
+            is_wrapped = found.elements[0][2].get("class", "").endswith(tuple(WHITE_SPACE.values()))
+            inline.fill()
+            self._code.begin(measured(element, room, self._tables.signs), self._cuts_code or is_wrapped)
         elif found.kind == "spacer":
             self.add_text(parent, " ")
             inline.gaps.part(parent)
@@ -232,12 +261,21 @@ class _Recording:
             return
         if ending.after and not self._is_needless(ending, "end"):
             self._inline.add_text(node, ending.after)
-        if ending.kind == "signed":
+        if ending.kind == "code":
+            self.add_text(node, self._code.end_line())
+        elif ending.kind == "signed":
             self._inline.close_signed()
         elif ending.kind in ("link", "embedded"):
             self._inline.close_link(node, name_of_image)
         self._inline.end(node, ending.run)
+        if ending.kind == "citation":
+            self._end_of_citation = len(self._steps)
+        if ending.run in BLOCKS:
+            self._code.begin_line()
+        if ending.kind == "list":
+            self._inline.gaps.part(ending.outer)
         if ending.kind in ("layout", "drawn"):
+            self._tables.is_mark_missing = False
             self._inline.gaps.end_table(ending.outer if ending.kind == "drawn" else node, ending.kind == "drawn")
 
     def add_element(self, parent, name, space=HTML):
@@ -270,9 +308,19 @@ class _Recording:
         _library.html_render_set(self._recording, call, number, text)
 
     def text(self, decorator, width):
-        """Returns the text of the document."""
+        """Returns the text of the document, with the lines that are joined and dropped after rendering."""
         for step in self._steps:
             self._replay(*step)
+        text = self._rendered(decorator, width)
+        if self._code.has_long_lines:
+            text = joined(text)
+        if self._tables.has_drawn and self._tables.drops_rules:
+            # a line of the page itself could be taken for a border
+            has_own = any(has_crossings(it) for step in self._steps for it in step if isinstance(it, str))
+            text = MARKS.sub("", text) if has_own else without_rules(text)
+        return text
+
+    def _rendered(self, decorator, width):
         out, length = ctypes.c_void_p(), ctypes.c_size_t()
         status = _library.html_render_text_of(self._recording, decorator, width, ctypes.byref(out), ctypes.byref(length))
         if status == 0:
@@ -359,8 +407,10 @@ def render(
     wrap_links=False,
     overflow=True,
     tables="data",
+    row_rules=False,
     raw_tables=False,
     borders=True,
+    wrap_code=False,
     pad=False,
     keep_controls=False,
 ):
@@ -371,8 +421,9 @@ def render(
     them after each link, "list" at the end without numbers, "none" nowhere; without it that is "notes", or "none" without `footnotes`.
     `base` is the page's address, against which targets are resolved; with `wrap_links` those at the end are cut at the width.
     `overflow` lets what is wider than a line stay so rather than raise TooNarrow. `tables` says which tables are drawn: those with
-    `data`, `all` or `none`; the others are shown as the blocks and lines in their cells. `raw_tables` stacks the cells of tables, and
-    without `borders` tables are drawn without lines. `pad` fills lines with spaces; without it none are at their ends.
+    `data`, `all` or `none`; the others are shown as the blocks and lines in their cells. `row_rules` draws a line under each row of a table,
+    also between rows of one line. `raw_tables` stacks the cells of tables, and without `borders` tables are drawn without lines.
+    `wrap_code` cuts lines of preformatted text at the width. `pad` fills lines with spaces; without it none are at their ends.
     `keep_controls` keeps control characters of the page, which can control a terminal.
 
     >>> print(render("<a href=a>b</a>", base="https://c.example/"), end="")
@@ -397,8 +448,9 @@ def render(
         if title and title_of(tree):
             recording.add_text(recording.add_element(0, "p"), without_controls(title_of(tree), is_shown=True))
         address = base_of(tree, base)
-        shown_tables = Tables(tree, width, Signs(decorate, mode), tables, raw_tables)
-        notes = recording.add_children(0, tree, shown_tables, lambda steps: Inline(steps, decorate, mode, address), keep_controls)
+        drops_rules = borders and not (row_rules or raw_tables)
+        shown_tables = Tables(tree, width, Signs(decorate, mode), tables, raw_tables, drops_rules)
+        notes = recording.add_children(0, tree, shown_tables, lambda steps: Inline(steps, decorate, mode, address), keep_controls, wrap_code or pad)
         for call, wanted, number in ((2, decorate, 0), (1, overflow, 0), (10, raw_tables, 1), (11, not borders, 0), (7, pad, 0)):
             if wanted:
                 recording.set(call, number)

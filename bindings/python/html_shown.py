@@ -9,6 +9,7 @@ from dataclasses import dataclass, replace
 from itertools import takewhile
 
 from html_inline import columns_of, file_name, is_visible, leads_out, written
+from html_lines import MARKS, Measure
 
 HTML = "http://www.w3.org/1999/xhtml"
 SVG = "http://www.w3.org/2000/svg"
@@ -33,6 +34,7 @@ _SIGNED = frozenset("b code em strong".split())
 _LINES = frozenset("blockquote body caption dd div dl dt frameset h1 h2 h3 h4 h5 h6 head hr html li ol p pre ul".split())
 _MARGINS = frozenset("blockquote h1 h2 h3 h4 h5 h6 p pre".split())
 _LISTS = frozenset("dl ol ul".split())
+_HEADINGS = frozenset("h1 h2 h3 h4 h5 h6".split())
 _PREFIXES = {"blockquote": 2, "dd": 2, "h1": 2, "h2": 3, "h3": 4, "h4": 5, "h5": 6, "h6": 7}
 _PARTS = {"table": ("table", None), "caption": ("caption", "table"), "tbody": ("section", "table"), "thead": ("section", "table"), "tfoot": ("section", "table")}
 _PARTS.update({"tr": ("row", "section"), "td": ("cell", "row"), "th": ("cell", "row")})
@@ -48,7 +50,7 @@ _DESCRIPTIONS = frozenset(["dd", "div", "dt"])
 _SHOWN_WITHOUT_TEXT = frozenset("audio embed frame hr iframe img input object video".split())
 _UNREAD = frozenset("head script style template".split())
 _ON_LINES = frozenset("br div dl dt frame li ol p pre textarea ul".split())
-# nodes that are looked at for the first text in an element
+# nodes that are looked at for the first text in an element, or the first field
 _NODES_BEFORE_TEXT = 16
 _OWN_SIGNS = {"button": 4, "q": 2, "sup": 3}
 _EMPHASIS_SIGNS = {"b": 4, "strong": 4, "code": 2, "em": 2}
@@ -57,6 +59,9 @@ _IMAGE_SIGNS = 2
 _NUMBER = 5
 _TARGET_SIGNS = 3
 _LABEL_SPACES = 2
+_CITATION = re.compile(r"\[[0-9]+\]")
+_DIGITS = frozenset("0123456789")
+_RAISED = "\u2070\u00b9\u00b2\u00b3\u2074\u2075\u2076\u2077\u2078\u2079"
 _RULE = "\u2500"
 _RULE_IN_CELL = 3
 
@@ -70,6 +75,10 @@ class Around:
     is_in_drawing: bool = False
     quotations: int = 0
     is_in_pre: bool = False
+    is_in_code: bool = False
+    is_in_citation: bool = False
+    is_in_list: bool = False
+    is_unsigned: bool = False
     is_in_table: bool = False
     part: str = None
     margin: int = 0
@@ -129,9 +138,9 @@ class Shown:
     """How an element is recorded: names and attributes, the outermost one first; texts before and after its children. `run` is what it
     is to the text around it: inline, a line break, apart or a block; `kind` is that of a signed element, a link, an image, a link with
     its text in `before`, an object, which is shown without texts of the tree, a label, a rule, a
-    `dl`, a term, a spacer, which parts what is around it, a layout or a drawn table, or a part of one that is rendered apart; `titles` are those of a drawing that is
-    recorded before the children; `gap` are spaces before the element, which are kept; `outer` is the node that it
-    was recorded in."""
+    `dl`, a term, a spacer, which parts what is around it, a preformatted block whose lines are indented, a citation, an outermost list, a layout or a drawn table, or a
+    part of one that is rendered apart; `titles` are those of a drawing that is recorded before the children; `gap` are spaces before the
+    element, which are kept; `outer` is the node that it was recorded in."""
 
     elements: list
     around: Around
@@ -149,8 +158,8 @@ class Shown:
 
 
 def without_controls(text, is_shown=False):
-    """Returns a text without control characters; without soft hyphens too, if it is shown."""
-    text = _CONTROLS.sub("", text)
+    """Returns a text without control characters, and those that are marks; without soft hyphens too, if it is shown."""
+    text = MARKS.sub("", _CONTROLS.sub("", text))
     return text.replace("\u00ad", "") if is_shown else text
 
 
@@ -303,7 +312,7 @@ def _select(element, attributes):
     return f"[{', '.join(filter(None, names)) or _FILL}]"
 
 
-def _changed_field(recorded, element, attributes):
+def _changed_field(recorded, element, attributes, signs):
     """Returns how a form's field is recorded."""
     tag, hides_texts = element.tagName, recorded.around.hides_texts
     recorded.run, recorded.kind = "apart", "" if tag == "textarea" or hides_texts else "object"
@@ -311,6 +320,8 @@ def _changed_field(recorded, element, attributes):
         recorded.elements.append(("pre", HTML, {}))
         return recorded
     if tag == "button":
+        if not has_any(element, signs):
+            return None
         recorded.before, recorded.after = ("", "") if hides_texts else ("[ ", " ]")
         return recorded
     text = _input(attributes) if tag == "input" else _select(element, attributes)
@@ -453,8 +464,53 @@ def seen(element, signs):
         return _seen_text(element, attributes, signs)
     if tag == "a" and "href" in attributes:
         return "link", signs.of_link(attributes["href"])
-    is_unsigned = tag == "sup" and _begins_with_bracket(element, signs)
+    if tag == "button" and not has_any(element, signs):
+        return "nothing", 0
+    is_unsigned = tag == "sup" and (_begins_with_bracket(element, signs) or not has_any(element, signs))
     return "signs" if tag in ("button", "q") else "contents", 0 if is_unsigned else signs.of_element(tag)
+
+
+def next_of(node, is_entered, top):
+    """Returns the node after another in document order, or the one after all in it, among those in `top`."""
+    if is_entered and node.childNodes:
+        return node.childNodes[0]
+    while node is not top:
+        if node.nextSibling is not None:
+            return node.nextSibling
+        node = node.parentNode
+    return None
+
+
+def has_any(cell, signs):
+    """Whether a cell has something to show: a visible text, an image with one or in a link, a field, or a table."""
+    node, link = cell.childNodes[0] if cell.childNodes else None, None
+    while node is not None:
+        kind = "nothing"
+        if link is node:
+            link = None
+        if node.nodeType == node.TEXT_NODE and is_visible(node.data) and not is_in_drawing(node):
+            return True
+        if node.nodeType == node.ELEMENT_NODE:
+            kind, _ = seen(node, signs)
+        if kind in ("signs", "text", "table") or kind == "image" and link:
+            return True
+        if kind == "link" and link is None:
+            link = next_of(node, False, cell) or cell
+        node = next_of(node, kind in ("contents", "block", "link"), cell)
+    return False
+
+
+def has_field(cell, signs):
+    """Whether a cell begins with a field of a form, or with few nodes before one."""
+    node = cell.childNodes[0] if cell.childNodes else None
+    for _ in range(_NODES_BEFORE_TEXT):
+        if node is None:
+            return False
+        is_field = node.nodeType == node.ELEMENT_NODE and node.namespaceURI == HTML and node.tagName in _FIELDS
+        if is_field and seen(node, signs)[0] != "nothing":
+            return True
+        node = next_of(node, True, cell)
+    return False
 
 
 def _begins_with_bracket(element, signs):
@@ -472,6 +528,52 @@ def _begins_with_bracket(element, signs):
                 return False
             ahead += node.childNodes[::-1] if kind in ("contents", "link") else []
     return False
+
+
+def _is_citation(element, signs):
+    """Whether an element shows a number in brackets alone, as that of a citation."""
+    ahead, found = element.childNodes[::-1], ""
+    for _ in range(_NODES_BEFORE_TEXT):
+        if not ahead:
+            return _CITATION.fullmatch(found.strip()) is not None
+        node = ahead.pop()
+        if node.nodeType == node.TEXT_NODE:
+            found += node.data
+            if found.strip() and found.strip()[0] != "[":
+                return False
+        if node.nodeType == node.ELEMENT_NODE:
+            kind, _ = seen(node, signs)
+            if kind not in ("contents", "link", "nothing"):
+                return False
+            ahead += node.childNodes[::-1] if kind != "nothing" else []
+    return False
+
+
+def raised(text):
+    """Returns the raised digits of a citation's text."""
+    return "".join(_RAISED[int(c)] for c in text if c in _DIGITS)
+
+
+def measured(block, room, signs):
+    """Returns the measure of the lines of a preformatted block."""
+    measure, ahead = Measure(room), block.childNodes[::-1]
+    while ahead:
+        node = ahead.pop()
+        if node.nodeType == node.TEXT_NODE:
+            measure.add_text(without_controls(node.data, is_shown=True))
+        if node.nodeType != node.ELEMENT_NODE:
+            continue
+        kind, columns = seen(node, signs)
+        if kind in ("link", "text"):
+            measure.column += columns
+        elif kind == "block":
+            measure.end_line()
+        if kind == "table" or kind == "block" and node.tagName != "br":
+            measure.is_plain = False
+        if kind in ("contents", "link", "signs") or kind == "block" and node.tagName != "br":
+            ahead += node.childNodes[::-1]
+    measure.end_line()
+    return measure
 
 
 def shown(element, around, tables):
@@ -566,27 +668,38 @@ def _changed_element(recorded, element, attributes, around, tables):
     if tag in _DROPPED or tag == "dialog" and "open" not in attributes:
         return None
     if tag in _FIELDS:
-        return _changed_field(recorded, element, attributes)
+        return _changed_field(recorded, element, attributes, tables.signs)
     if tag in _WITHIN:
         recorded.elements.append((_WITHIN[tag], HTML, {}))
     if tag == "pre" or _WITHIN.get(tag) == "pre":
-        recorded.around = replace(inside, is_in_pre=True)
-    elif tag in ("ul", "dir", "menu"):
-        recorded.around = replace(inside, item_margin=2, holds=_ITEMS)
-    elif tag == "ol":
-        recorded.numbers, columns = _numbers(element, attributes)
-        recorded.around = replace(inside, item_margin=columns, holds=_ITEMS)
+        is_in_code = inside.is_in_code or not (inside.is_in_pre or inside.is_in_cell or inside.line)
+        recorded.kind = "code" if is_in_code and not inside.is_in_code else ""
+        recorded.around = replace(inside, is_in_pre=True, is_in_code=is_in_code)
+    elif tag in ("ul", "ol", "dir", "menu"):
+        recorded.kind = "" if inside.is_in_list or inside.is_in_cell else "list"
+        columns = 2
+        if tag == "ol":
+            recorded.numbers, columns = _numbers(element, attributes)
+        recorded.around = replace(inside, item_margin=columns, holds=_ITEMS, is_in_list=True)
+    if tag == "ol":
         recorded.elements[0] = (tag, HTML, {**attributes, "start": str(recorded.numbers.following)})
     elif tag == "dl":
         recorded.kind, recorded.around = "descriptions", replace(inside, holds=_DESCRIPTIONS)
     elif tag in _PREFIXES:
-        recorded.around = replace(inside, margin=inside.margin + _PREFIXES[tag])
+        is_unsigned = inside.is_unsigned or tag in _HEADINGS
+        recorded.around = replace(inside, margin=inside.margin + _PREFIXES[tag], is_unsigned=is_unsigned)
     elif tag in _SIGNED:
-        recorded.kind, recorded.is_signed = "signed", not inside.hides_texts and not inside.is_in_pre
-    elif tag == "sup" and _begins_with_bracket(element, tables.signs):
-        recorded.elements[0] = ("span", HTML, attributes)
+        recorded.kind, recorded.is_signed = "signed", not (inside.hides_texts or inside.is_in_pre or inside.is_unsigned)
+    elif tag == "sup":
+        is_citation = not inside.is_in_pre and _is_citation(element, tables.signs)
+        recorded.around = replace(inside, is_in_citation=inside.is_in_citation or is_citation, is_unsigned=True)
+        recorded.kind = "citation" if is_citation else ""
+        if _begins_with_bracket(element, tables.signs) or not has_any(element, tables.signs):
+            recorded.elements[0] = ("span", HTML, attributes)
     elif tag == "a" and "href" in attributes:
         recorded.kind, recorded.target = "link", attributes["href"]
+        if without_controls(attributes["href"]).startswith("#") and not inside.is_in_pre and _is_citation(element, tables.signs):
+            recorded.around = replace(inside, is_in_citation=True)
         recorded.elements[0] = (tag, HTML, {key: value for key, value in attributes.items() if key != "href"})
     elif tag == "img" and attributes.get("src", "").strip():
         recorded.kind = "object" if attributes.get("alt", "").strip() else "image"
@@ -596,7 +709,8 @@ def _changed_element(recorded, element, attributes, around, tables):
             recorded = tables.divided(recorded, element, around)
             recorded.kind = "layout" if part == "table" and not around.is_in_table else ""
         else:
-            recorded.around = replace(inside, part=part, is_in_cell=inside.is_in_cell or part == "cell")
+            is_unsigned = inside.is_unsigned or tag == "th" or part == "row" and tables.begin_row(element)
+            recorded.around = replace(inside, part=part, is_in_cell=inside.is_in_cell or part == "cell", is_unsigned=is_unsigned)
             recorded.kind = {"table": "drawn", "section": "", "row": ""}.get(part, "part")
         recorded.around = replace(recorded.around, is_in_table=True)
     elif tag == "hr":

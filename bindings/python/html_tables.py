@@ -6,7 +6,8 @@ A table that isn't drawn becomes divisions, and a row of short cells that fits a
 from dataclasses import dataclass, field, replace
 
 from html_inline import columns_of, is_visible
-from html_shown import HTML, Shown, Signs, columns_of_image, is_hidden, is_in_drawing, name_of_image, seen
+from html_lines import APART
+from html_shown import HTML, Shown, Signs, columns_of_image, has_any, has_field, is_hidden, is_in_drawing, name_of_image, next_of, seen
 
 DRAWN = ("all", "data", "none")
 
@@ -19,17 +20,6 @@ def _is_html(node, *names):
     return node.nodeType == node.ELEMENT_NODE and node.namespaceURI == HTML and node.tagName in names
 
 
-def _next(node, is_entered, top):
-    """Returns the node after another in document order, or the one after all in it, among those in `top`."""
-    if is_entered and node.childNodes:
-        return node.childNodes[0]
-    while node is not top:
-        if node.nextSibling is not None:
-            return node.nextSibling
-        node = node.parentNode
-    return None
-
-
 @dataclass
 class _Link:
     """A link in a cell, as its contents are read: its element, the node after all that is in it, and the columns of what follows it;
@@ -40,25 +30,6 @@ class _Link:
     columns: int = 0
     is_shown: bool = False
     image: object = None
-
-
-def _has_any(cell, signs):
-    """Whether a cell has something to show: a visible text, an image with one or in a link, a field, or a table."""
-    node, link = cell.childNodes[0] if cell.childNodes else None, None
-    while node is not None:
-        kind = "nothing"
-        if link and link.end is node:
-            link = None
-        if node.nodeType == node.TEXT_NODE and is_visible(node.data) and not is_in_drawing(node):
-            return True
-        if node.nodeType == node.ELEMENT_NODE:
-            kind, _ = seen(node, signs)
-        if kind in ("signs", "text", "table") or kind == "image" and link:
-            return True
-        if kind == "link" and link is None:
-            link = _Link(node, _next(node, False, cell))
-        node = _next(node, kind in ("contents", "block", "link"), cell)
-    return False
 
 
 @dataclass
@@ -126,7 +97,7 @@ class _Line:
         if kind in ("nothing", "image"):
             return False
         if kind == "link" and self.link is None:
-            self.link = _Link(node, _next(node, False, cell), columns)
+            self.link = _Link(node, next_of(node, False, cell), columns)
         if kind != "link":
             self.measure.add(columns)
         if kind in ("signs", "text"):
@@ -151,7 +122,7 @@ def _run_of(cell, room, signs):
             is_entered = line.read_element(node, kind, columns, cell)
         if line.measure.columns > room:
             return None
-        node = _next(node, is_entered, cell)
+        node = next_of(node, is_entered, cell)
     line.leave_link(None)
     return None if line.measure.columns > room else (line.measure.columns, line.first, line.last)
 
@@ -166,20 +137,61 @@ def _says_data(table):
 
 def _is_data(table, signs):
     """Whether a table without others in it has data in columns."""
-    if table.getAttribute("role").lower().split()[:1] in _PRESENTATION:
+    is_navigation = table.getAttribute("summary").strip().lower().startswith("navigation")
+    if table.getAttribute("role").lower().split()[:1] in _PRESENTATION or is_navigation:
         return False
-    is_marked, positions, full_rows = _says_data(table), set(), 0
+    is_marked, positions, full_rows, has_fields = _says_data(table), set(), 0, False
     for part in (it for it in table.childNodes if _is_html(it, "caption", "thead", "tbody", "tfoot")):
         is_marked = is_marked or part.tagName in ("caption", "thead")
         for row in (it for it in part.childNodes if _is_html(it, "tr") and not is_hidden(it)):
             cells = [it for it in row.childNodes if _is_html(it, "td", "th") and not is_hidden(it)]
             is_marked = is_marked or any(it.tagName == "th" for it in cells)
-            filled = [position for position, cell in enumerate(cells) if _has_any(cell, signs)]
+            filled = [position for position, cell in enumerate(cells) if has_any(cell, signs)]
             positions.update(filled)
             full_rows += len(filled) > 1
-            if len(positions) > 1 and (is_marked or full_rows > 1):
+            has_fields = has_fields or any(has_field(cells[position], signs) for position in filled[:2])
+            if len(positions) > 1 and (is_marked or full_rows > 1 and not has_fields):
                 return True
     return len(positions) > 1 and is_marked
+
+
+def _has_before(node, *names):
+    """Whether an element of one of the names precedes another among its siblings."""
+    while node.previousSibling is not None:
+        node = node.previousSibling
+        if _is_html(node, *names):
+            return True
+    return False
+
+
+def _has_bold_alone(cell, signs):
+    """Whether all that a cell shows is bold; None if it shows nothing."""
+    node, is_bold = cell.childNodes[0] if cell.childNodes else None, None
+    while node is not None:
+        kind = "nothing"
+        if node.nodeType == node.TEXT_NODE and is_visible(node.data):
+            return False
+        if _is_html(node, "b", "strong"):
+            is_bold = is_bold or has_any(node, signs) or None
+        elif node.nodeType == node.ELEMENT_NODE:
+            kind, _ = seen(node, signs)
+            if kind in ("signs", "table", "text"):
+                return False
+        node = next_of(node, kind in ("block", "contents", "link"), cell)
+    return is_bold
+
+
+def _is_apart(row, signs):
+    """Whether a line parts a row of a table from the rows beside it: it is in a `thead` or a `tfoot`, all its cells are `th`, or it is the
+    first one and all in it is bold, in several cells."""
+    section = row.parentNode
+    cells = [it for it in row.childNodes if _is_html(it, "td", "th") and not is_hidden(it)]
+    if _is_html(section, "thead", "tfoot") or cells and all(it.tagName == "th" for it in cells):
+        return True
+    if _has_before(row, "tr") or _has_before(section, "thead", "tbody", "tfoot"):
+        return False
+    bold = [it for it in (_has_bold_alone(cell, signs) for cell in cells) if it is not None]
+    return len(bold) > 1 and all(bold)
 
 
 def _tables_around_others(tree):
@@ -198,13 +210,17 @@ def _tables_around_others(tree):
 @dataclass
 class Tables:
     """How the tables of a page are recorded: the columns of a line, the signs around texts, which tables are drawn, and whether cells are
-    never side by side on a line; and the row that is being recorded as a line."""
+    never side by side on a line, and whether lines between short rows are dropped; whether the row that is being recorded is set apart, and
+    has no mark yet, and whether a table was drawn; and the row that is being recorded as a line."""
 
     tree: object
     columns: int
     signs: Signs
     drawn: str = "data"
     stacks_cells: bool = False
+    drops_rules: bool = True
+    is_mark_missing: bool = False
+    has_drawn: bool = False
     nesting: set = None
     cells: tuple = ()
     count: int = 0
@@ -214,11 +230,27 @@ class Tables:
 
     def is_drawn(self, table):
         """Whether a table is drawn as one."""
-        if self.drawn != "data":
-            return self.drawn == "all"
-        if self.nesting is None:
-            self.nesting = _tables_around_others(self.tree)
-        return id(table) not in self.nesting and _is_data(table, self.signs)
+        is_drawn = self.drawn == "all"
+        if self.drawn == "data":
+            if self.nesting is None:
+                self.nesting = _tables_around_others(self.tree)
+            is_drawn = id(table) not in self.nesting and _is_data(table, self.signs)
+        self.has_drawn |= is_drawn
+        return is_drawn
+
+    def begin_row(self, row):
+        """Begins a row of a table that is drawn. Returns whether lines part it from the rows beside it."""
+        is_apart = _is_apart(row, self.signs)
+        self.is_mark_missing = is_apart and self.drops_rules
+        return is_apart
+
+    def marked(self, text):
+        """Returns a text with the mark of its row before the first visible character, if it has one."""
+        rest = text.lstrip()
+        if not rest:
+            return text
+        self.is_mark_missing = False
+        return text[: len(text) - len(rest)] + APART + rest
 
     def divided(self, recorded, element, around):
         """Returns how a part of a table is recorded that isn't drawn: as a division, the cell of a row that is a line as a piece of it."""
@@ -228,7 +260,7 @@ class Tables:
         elif part == "cell" and around.line == "row":
             gap = _GAP if self._enter(element) and self.count > 1 else ""
             return Shown([("span", HTML, attributes)], replace(inside, line="cell"), run="apart", gap=gap)
-        elif part == "cell" and not _has_any(element, self.signs):
+        elif part == "cell" and not has_any(element, self.signs):
             inside = replace(inside, line="cell")
             self.first, self.last, self.at = None, None, "end"
         return Shown([("div", HTML, attributes)], inside, run="block")

@@ -1,7 +1,7 @@
 //! Renders pages as a browser shows them, and looks at the texts: `shown LIST`, where LIST has the path of a file of HTML on each line.
 //!
 //! At 80, 40 and 20 columns no page may be refused, no text may have a control character, and no line may pass the width, with targets of
-//! links cut at it; a page that is too narrow for its prefixes, or for a character, is rendered with overflow.
+//! links and lines of preformatted text cut at it; a page that is too narrow for its prefixes, or for a character, is rendered with overflow.
 
 use html_render::config::plain;
 use html_render::{Error, Options};
@@ -19,7 +19,7 @@ fn is_control(c: char) -> bool {
 
 /// Whether a page is within a width, or why it is at fault.
 fn look(page: &[u8], width: usize) -> Result<bool, String> {
-    let config = || plain().as_shown(Options::new().wrap_links(true));
+    let config = || plain().as_shown(Options::new().wrap_links(true).wrap_code(true));
     let (text, is_within) = match config().string_from_read(page, width) {
         Err(Error::TooNarrow) => (config().allow_width_overflow().string_from_read(page, width), false),
         text => (text, true),

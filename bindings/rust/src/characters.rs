@@ -12,6 +12,23 @@ pub(crate) struct Filter {
     pub keeps_controls: bool,
     /// Whether soft hyphens (U+00AD) are dropped.
     pub drops_soft_hyphens: bool,
+    /// Whether the characters of `mark` are dropped, which an adapted document has for itself.
+    pub drops_marks: bool,
+}
+
+/// Characters without a column that say what becomes of rendered lines. Unicode has deprecated them, and an adapted page has none.
+pub(crate) mod mark {
+    /// In a row of a table that lines part from its neighbours: U+206A in UTF-8.
+    pub const APART: &str = "\u{206a}";
+    /// At the start of a line that is shown uncut.
+    pub const LONG: &str = "\u{206b}";
+    /// At the end of such a line.
+    pub const LONG_END: &str = "\u{206c}";
+}
+
+/// Whether a character is deprecated by Unicode: an adapted document has some as marks of its own.
+fn is_mark(c: char) -> bool {
+    matches!(c, '\u{206a}'..='\u{206f}')
 }
 
 /// Whether a character can control a terminal, or the direction of text beyond its own.
@@ -46,17 +63,17 @@ impl Filter {
         if is_suspect(page) || memchr_iter(b'&', page.as_bytes()).any(refers) {
             self
         } else {
-            Filter { keeps_controls: true, drops_soft_hyphens: false }
+            Filter { keeps_controls: true, ..Filter::default() }
         }
     }
 
     fn drops(self, c: char) -> bool {
-        (is_control(c) && !self.keeps_controls) || (c == '\u{ad}' && self.drops_soft_hyphens)
+        (is_control(c) && !self.keeps_controls) || (c == '\u{ad}' && self.drops_soft_hyphens) || (is_mark(c) && self.drops_marks)
     }
 
     #[inline]
     fn drops_something_of(self, text: &str) -> bool {
-        (!self.keeps_controls || self.drops_soft_hyphens) && is_suspect(text)
+        (!self.keeps_controls || self.drops_soft_hyphens || self.drops_marks) && is_suspect(text)
     }
 
     /// Appends a text, without what is dropped.
@@ -102,6 +119,7 @@ mod tests {
         assert_eq!(Filter::default().filtered(page), kept);
         assert_eq!(Filter { keeps_controls: true, ..Filter::default() }.filtered(page), page);
         assert_eq!(Filter { drops_soft_hyphens: true, ..Filter::default() }.filtered("so\u{ad}ft"), "soft");
+        assert_eq!(Filter { keeps_controls: true, drops_marks: true, ..Filter::default() }.filtered("a\u{206a}\u{206f}\u{2069}b"), "a\u{2069}b");
     }
 
     #[test]
@@ -117,7 +135,7 @@ mod tests {
 
     #[test]
     fn each_dropped_character_is_suspect() {
-        let all = Filter { keeps_controls: false, drops_soft_hyphens: true };
+        let all = Filter { keeps_controls: false, drops_soft_hyphens: true, drops_marks: true };
         for c in ('\0'..=char::MAX).filter(|&c| all.drops(c)) {
             assert!(is_suspect(&c.to_string()) && is_suspect(&format!("{c:a>300}")), "{c:?}");
         }

@@ -3,6 +3,7 @@
 use crate::adapt::{self, Adaptation, Adapted, UNSIGNED_CLASS};
 use crate::characters::Filter;
 use crate::css::{self, Origin, Unsigned};
+use crate::edits::{self, Edits};
 use crate::encoding;
 use crate::error::Error;
 use crate::footnotes::Footnotes;
@@ -10,7 +11,6 @@ use crate::hiding::Hiding;
 use crate::limits::Refusal;
 use crate::lines::{self, RichAnnotation, TaggedLine, TaggedLineElement, TaggedString};
 use crate::options::{LinkMode, Options};
-use crate::padding;
 use crate::pass::Pass;
 use crate::reader::Reader;
 use crate::record::{self, Recorder};
@@ -305,7 +305,7 @@ impl<D: Decorator> Config<D> {
     /// Returns the settings of the configuration and of a page's style sheets.
     fn sheets(&self, css: &str) -> Sheets {
         let (mut settings, mut text) = (self.settings.clone(), self.text.clone());
-        let filter = Filter { keeps_controls: self.keeps_controls, ..Filter::default() };
+        let filter = Filter { keeps_controls: self.keeps_controls, drops_marks: self.options.is_some(), ..Filter::default() };
         let sheet = css::read(css, Origin::Author, filter, &mut settings, |piece| keep(&mut text, piece));
         Sheets {
             settings,
@@ -329,7 +329,7 @@ impl<D: Decorator> Config<D> {
             None => encoding::decode_utf8(bytes)?,
         };
         let is_adapted = self.options.is_some();
-        let filter = Filter { keeps_controls: self.keeps_controls, drops_soft_hyphens: is_adapted }.for_page(&page);
+        let filter = Filter { keeps_controls: self.keeps_controls, drops_soft_hyphens: is_adapted, drops_marks: is_adapted }.for_page(&page);
         let wanted = Wanted { is_asked: if is_adapted { adapt::is_asked } else { record::is_asked }, css: self.uses_doc_css };
         let options = TreeBuilderOpts { drop_doctype: true, scripting_enabled: !is_adapted, ..TreeBuilderOpts::default() };
         let sink = Reader::read(&page, Sink::new(Tree::new(filter), wanted), wanted, options).map_err(|refusal| match refusal {
@@ -353,6 +353,8 @@ impl<D: Decorator> Config<D> {
             names_parts: sheets.names_parts,
             stacks_cells: self.number_of(call::RAW_MODE) != 0,
             shows_images: self.number_of(call::EMPTY_IMG_MODE) != 0,
+            cuts_code: options.wraps_code || self.is_padded() || sheets.settings.iter().any(css::sets_white_space),
+            drops_rules: self.drops_rules(),
         });
         let text = mem::take(&mut tree.text);
         let (recorder, adapted) = Pass::record(&tree, Recorder::new(text, Filter { drops_soft_hyphens: false, ..filter }), adaptation);
@@ -369,8 +371,14 @@ impl<D: Decorator> Config<D> {
         self.options.as_ref().map_or(true, |options| options.is_padded) || self.settings.iter().any(|setting| setting.kind == call::PAD_BLOCK_WIDTH)
     }
 
-    /// Calls a function with the page of a document. Returns what it returns, and the footnotes of the document.
-    fn with_page<T>(&self, input: impl Read, width: usize, render: impl FnOnce(Page<'_>) -> Result<T, Error>) -> Result<(T, Footnotes), Error> {
+    /// Whether lines between rows of tables are dropped: if tables have any.
+    fn drops_rules(&self) -> bool {
+        let has_borders = |setting: &Setting| !matches!(setting.kind, call::NO_TABLE_BORDERS | call::RAW_MODE);
+        self.options.as_ref().map_or(false, |options| !options.has_row_rules) && self.settings.iter().all(has_borders)
+    }
+
+    /// Calls a function with the page of a document, and with what is changed after it is rendered. Returns what it returns, and the footnotes of the document.
+    fn with_page<T>(&self, input: impl Read, width: usize, render: impl FnOnce(Page<'_>, Edits) -> Result<T, Error>) -> Result<(T, Footnotes), Error> {
         let Recorded { mut recorder, adapted, sheets } = self.record(input, width)?;
         let (start, _) = recorder.keep(&sheets.text);
         let mut settings = Vec::with_capacity(sheets.settings.len());
@@ -384,7 +392,15 @@ impl<D: Decorator> Config<D> {
         if recorder.is_out_of_memory {
             return Err(Error::OutOfMemory);
         }
-        let rendered = render(Page { steps: &recorder.steps, text: &recorder.text, settings: &settings, decorator: D::NUMBER, width })?;
+        let edits = Edits {
+            is_padded: self.is_padded(),
+            joins_lines: adapted.has_long_lines,
+            has_row_marks: adapted.has_row_marks,
+            // a line of the page itself could be taken for a border
+            drops_rules: adapted.has_tables && self.drops_rules() && !edits::has_crossings(&recorder.text),
+        };
+        let page = Page { steps: &recorder.steps, text: &recorder.text, settings: &settings, decorator: D::NUMBER, width };
+        let rendered = render(page, edits)?;
         Ok((rendered, self.footnotes(adapted, width)))
     }
 
@@ -415,8 +431,7 @@ impl<D: Decorator> Config<D> {
     ///
     /// `IoError` where the input can't be read; `TooNarrow`, `Fail`, `TooLarge` or `OutOfMemory` where it can't be rendered.
     pub fn string_from_read<R: Read>(self, input: R, width: usize) -> Result<String, Error> {
-        let is_padded = self.is_padded();
-        let (mut text, footnotes) = self.with_page(input, width, |page| records::text(page, |text| padding::kept(text, is_padded))?)?;
+        let (mut text, footnotes) = self.with_page(input, width, |page, edits| records::text(page, |text| edits.text(text))?)?;
         footnotes.append_to(&mut text)?;
         Ok(text)
     }
@@ -427,8 +442,7 @@ impl<D: Decorator> Config<D> {
     ///
     /// As [`Config::string_from_read`].
     pub fn lines_from_read<R: Read>(self, input: R, width: usize) -> Result<Vec<TaggedLine<Vec<D::Annotation>>>, Error> {
-        let (lines, footnotes) = self.with_page(input, width, |page| records::lines(page, lines::read))?;
-        let mut lines = lines.ok_or(Error::Fail)?;
+        let (mut lines, footnotes) = self.with_page(input, width, |page, edits| Ok(edits.lines(records::lines(page, lines::read)?.ok_or(Error::Fail)?)))?;
         if !self.is_padded() {
             lines.iter_mut().for_each(|line| line.trim_end(|tag| !tag.iter().any(shows_spaces)));
         }

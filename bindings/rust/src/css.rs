@@ -273,6 +273,11 @@ pub(crate) fn hides(setting: &Setting) -> bool {
     setting.kind == ADD_STYLE_RULE && setting.number == DISPLAY_NONE && setting.flags & (Place::Before as u32 | Place::After as u32) == 0
 }
 
+/// Whether a record is a rule for white space.
+pub(crate) fn sets_white_space(setting: &Setting) -> bool {
+    setting.kind == ADD_STYLE_RULE && setting.number == WHITE_SPACE
+}
+
 pub(crate) fn has_element(rule: &Setting) -> bool {
     rule.flags & HAS_ELEMENT != 0
 }

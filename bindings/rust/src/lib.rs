@@ -16,6 +16,7 @@ mod adapt;
 mod characters;
 pub mod config;
 mod css;
+mod edits;
 mod encoding;
 mod error;
 mod footnotes;

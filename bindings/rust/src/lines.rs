@@ -83,6 +83,50 @@ impl<T> TaggedLine<T> {
         }
     }
 
+    /// Returns its strings as one text.
+    pub(crate) fn text(&self) -> String {
+        self.tagged_strings().map(|string| string.s.as_str()).collect()
+    }
+
+    /// Removes each place of a text in its strings.
+    pub(crate) fn remove(&mut self, text: &str) {
+        self.elements.retain_mut(|element| match element {
+            TaggedLineElement::Str(string) if string.s.contains(text) => {
+                string.s = string.s.replace(text, "");
+                !string.s.is_empty()
+            }
+            _ => true,
+        });
+    }
+
+    /// Removes so many characters at its start.
+    pub(crate) fn remove_start(&mut self, characters: usize) {
+        let mut rest = characters;
+        self.elements.retain_mut(|element| match element {
+            TaggedLineElement::Str(string) if rest > 0 => {
+                let end = string.s.char_indices().nth(rest).map_or(string.s.len(), |(at, _)| at);
+                rest -= string.s[..end].chars().count();
+                string.s.drain(..end);
+                !string.s.is_empty()
+            }
+            _ => true,
+        });
+    }
+
+    /// Removes its strings, and keeps the places where parts of the document begin.
+    pub(crate) fn clear(&mut self) {
+        self.elements.retain(|element| matches!(element, TaggedLineElement::FragmentStart(_)));
+    }
+
+    /// Appends the elements of another line.
+    pub(crate) fn append(&mut self, mut other: TaggedLine<T>) {
+        if self.elements.is_empty() {
+            *self = other;
+        } else {
+            self.elements.append(&mut other.elements);
+        }
+    }
+
     /// Its elements, in order.
     pub fn iter(&self) -> impl Iterator<Item = &TaggedLineElement<T>> + '_ {
         self.elements.iter()

@@ -52,6 +52,8 @@ pub struct Options {
     pub(crate) wraps_links: bool,
     pub(crate) tables: Tables,
     pub(crate) is_padded: bool,
+    pub(crate) wraps_code: bool,
+    pub(crate) has_row_rules: bool,
 }
 
 impl Options {
@@ -104,6 +106,17 @@ impl Options {
     /// Chooses the tables that are drawn. Without the call they are those of data.
     pub fn tables(self, tables: Tables) -> Options {
         Options { tables, ..self }
+    }
+
+    /// Whether lines of preformatted text are cut at the width. Without the call they may pass it.
+    pub fn wrap_code(self, wraps: bool) -> Options {
+        Options { wraps_code: wraps, ..self }
+    }
+
+    /// Draws a line under each row of a table. Without the call there is none between two short rows, unless one of them is a row of
+    /// heads, or of a `tfoot`, and the other isn't.
+    pub fn row_rules(self) -> Options {
+        Options { has_row_rules: true, ..self }
     }
 
     /// Keeps the spaces at the ends of lines that fill the last cells of tables.

@@ -7,22 +7,25 @@ use memchr::memmem;
 pub(crate) fn kept(text: &str, is_padded: bool) -> Result<String, Error> {
     let mut kept = String::new();
     kept.try_reserve_exact(text.len()).map_err(|_| Error::OutOfMemory)?;
-    if is_padded {
-        kept.push_str(text);
-    } else {
-        push_trimmed(text, &mut kept);
-    }
+    push(text, is_padded, &ends(), &mut kept);
     Ok(kept)
 }
 
-/// Appends the lines of a text, without the spaces at their ends. Lines without any are appended together.
-fn push_trimmed(text: &str, to: &mut String) {
+/// Returns what finds the last space before the end of a line.
+pub(crate) fn ends() -> memmem::Finder<'static> {
+    memmem::Finder::new(b" \n")
+}
+
+/// Appends the lines of a text, with the spaces at their ends or without them. Lines without any are appended together.
+pub(crate) fn push(text: &str, is_padded: bool, ends: &memmem::Finder<'_>, to: &mut String) {
     let bytes = text.as_bytes();
     let mut start = 0;
-    for last in memmem::find_iter(bytes, b" \n") {
-        let spaces = bytes[start..last].iter().rev().take_while(|&&byte| byte == b' ').count();
-        to.push_str(&text[start..last - spaces]);
-        start = last + 1;
+    if !is_padded {
+        for last in ends.find_iter(bytes) {
+            let spaces = bytes[start..last].iter().rev().take_while(|&&byte| byte == b' ').count();
+            to.push_str(&text[start..last - spaces]);
+            start = last + 1;
+        }
     }
     to.push_str(&text[start..]);
 }

@@ -41,6 +41,14 @@ pub(crate) enum End {
     Signed,
     /// Its number is recorded.
     Link,
+    /// The text around it is interrupted, and another line of a preformatted block begins.
+    BlockInCode(Run),
+    /// The last line of a preformatted block ends.
+    Code,
+    /// The number of steps is noted.
+    Citation,
+    /// A list in a node is parted from what follows.
+    List { parent: Handle },
     /// A table in a node is parted from what follows.
     Table { parent: Handle, is_drawn: bool },
 }
@@ -135,7 +143,15 @@ impl<'a> Pass<'a> {
                         self.recorder.part_texts(parent);
                     }
                     let piece = match &mut self.adapter {
-                        Some(adapter) => adapter.add_text(&mut self.recorder, piece),
+                        Some(adapter) => {
+                            if context.changes_texts() {
+                                piece = adapter.changed_text(&mut self.recorder, &context, piece);
+                                if piece.1 == 0 {
+                                    continue;
+                                }
+                            }
+                            adapter.add_text(&mut self.recorder, piece)
+                        }
                         None => piece,
                     };
                     if piece.1 > 0 {

@@ -97,6 +97,34 @@ fn tables() {
 }
 
 #[test]
+fn rows_of_tables() {
+    let table = "<table><thead><tr><td>a<td>b<tbody><tr><td>c<td>d<tr><td>e<td>f</table>";
+    let whole = "─┬─\na│b\n─┼─\nc│d\n─┼─\ne│f\n─┴─\n";
+    for style in ["-splain", "-sbare", "-srich"] {
+        assert_eq!(text(&[style], table), "─┬─\na│b\n─┼─\nc│d\ne│f\n─┴─\n");
+        assert_eq!(text(&[style, "--row-rules"], table), whole);
+        assert_eq!(text(&[style, "--no-borders"], table), "a b\nc d\ne f\n");
+        assert_eq!(text(&[style, "--raw-tables"], table), "a\nb\nc\nd\ne\nf\n");
+    }
+    // a line of the page itself could be taken for a border
+    for (page, lines) in [("<p>\u{253c}", "\u{253c}"), ("<img src=a alt='\u{2534}'>", "[\u{2534}]")] {
+        assert_eq!(text(&[], &format!("{page}{table}")), format!("{lines}\n\n{whole}"));
+    }
+}
+
+#[test]
+fn preformatted_text() {
+    let page = "<ul><li>a<pre>one two three\n\tfour</pre></ul>";
+    assert_eq!(text(&["-w30"], page), "* a\n\n      one two three\n              four\n");
+    assert_eq!(text(&["-w16"], page), "* a\n\n   one two three\n           four\n");
+    for style in ["-splain", "-sbare", "-srich"] {
+        assert_eq!(text(&[style, "-w12"], page), "* a\n\n      one two three\n              four\n");
+    }
+    assert_eq!(text(&["-w12", "--wrap-code"], page), "* a\n\n      one tw\n  o three\n\n    four\n");
+    assert_eq!(text(&["-w12", "--css", "pre { white-space: pre-wrap }"], page), "* a\n\n      one\n  two three\n\n  four\n");
+}
+
+#[test]
 fn style_rules() {
     let page = "<style>.ad { display: none }</style><p class=ad>buy<p>text";
     assert_eq!(text(&[], page), "buy\n\ntext\n");

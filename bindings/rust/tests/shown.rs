@@ -142,7 +142,7 @@ fn rules_hide_cells_of_lines() {
     }
     let table = "<table><tr><td>a<td>b<tr class=c><td>d<td>e</table>";
     assert_eq!(shown(table, plain().add_css(".c { display: none }").unwrap(), 80), "a  b\n");
-    assert_eq!(shown(table, plain().add_css("* { color: red }").unwrap(), 80), "─┬─\na│b\n─┼─\nd│e\n─┴─\n");
+    assert_eq!(shown(table, plain().add_css("* { color: red }").unwrap(), 80), "─┬─\na│b\nd│e\n─┴─\n");
 }
 
 #[test]
@@ -163,9 +163,9 @@ fn images_in_cells() {
 fn spaces_at_the_ends_of_lines() {
     let page = "<table border=1><tr><td>a<td>bc<tr><td>d<td style='background-color: red'>e</table>";
     let drawn = "─┬──\na│bc\n─┼──\nd│e";
-    assert_eq!(shown(page, plain(), 80), format!("{drawn}\n─┴──\n"));
+    assert_eq!(shown(page, plain(), 80), "─┬──\na│bc\nd│e\n─┴──\n");
     let padded = format!("{drawn} \n─┴──\n");
-    assert_eq!(plain().as_shown(Options::new().pad()).string_from_read(page.as_bytes(), 80).unwrap(), padded);
+    assert_eq!(plain().as_shown(Options::new().pad().row_rules()).string_from_read(page.as_bytes(), 80).unwrap(), padded);
     assert_eq!(from_read(page.as_bytes(), 80).unwrap(), padded);
     assert_eq!(shown("<p>a", plain().pad_block_width(), 3), "a  \n");
     let lines = |config: Config<RichDecorator>| {
@@ -173,8 +173,8 @@ fn spaces_at_the_ends_of_lines() {
         let texts = lines.iter().map(|line| line.tagged_strings().map(|string| string.s.as_str()).collect::<String>());
         texts.collect::<Vec<_>>()
     };
-    assert_eq!(lines(rich().as_shown(Options::new())), ["a", "", "b  ", "", "c  "]);
-    assert_eq!(lines(rich().as_shown(Options::new().pad())), ["a    ", "", "b  ", "", "c  "]);
+    assert_eq!(lines(rich().as_shown(Options::new())), ["    a", "", "    b  ", "", "    c  "]);
+    assert_eq!(lines(rich().as_shown(Options::new().pad())), ["    a    ", "", "    b  ", "", "    c  "]);
 }
 
 #[test]

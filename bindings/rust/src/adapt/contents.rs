@@ -14,7 +14,7 @@ const NUMBER: u32 = 5;
 /// Columns of the signs around a target that follows its link.
 const TARGET_SIGNS: u32 = 3;
 
-/// Maximum number of nodes that are looked at for the first text in an element.
+/// Maximum number of nodes that are looked at for the first text in an element, or the first field.
 const NODES_BEFORE_TEXT: usize = 16;
 
 /// Columns of the spaces around a label of a drawing.
@@ -24,7 +24,7 @@ const LABEL_SPACES: u32 = 2;
 const IMAGE_SIGNS: u32 = 2;
 
 /// What an element shows.
-enum Shown {
+pub(super) enum Shown {
     /// Neither the element nor what is in it.
     Nothing,
     /// What is in it.
@@ -177,7 +177,7 @@ impl Line {
 
 impl<'a> Contents<'a> {
     /// Returns the node after another in document order, or the one after all in it, among those in a third one.
-    fn next(self, node: Id, is_entered: bool, top: Id) -> Id {
+    pub fn next(self, node: Id, is_entered: bool, top: Id) -> Id {
         let first = self.tree.first_child(node);
         if is_entered && first != NONE {
             return first;
@@ -247,6 +247,24 @@ impl<'a> Contents<'a> {
         false
     }
 
+    /// Whether a cell begins with a field of a form, or with few nodes before one.
+    pub fn has_field(self, cell: Id) -> bool {
+        let mut node = self.tree.first_child(cell);
+        for _ in 0..NODES_BEFORE_TEXT {
+            if node == NONE {
+                return false;
+            }
+            if let Data::Element(element) = self.tree.data(node) {
+                let is_field = element.space == ns!(html) && matches!(change_of(&element.name), Change::Field(_));
+                if is_field && !matches!(self.shown(node, element), Shown::Nothing) {
+                    return true;
+                }
+            }
+            node = self.next(node, true, cell);
+        }
+        false
+    }
+
     /// Whether all in a block are no-break spaces and white space.
     pub fn is_spacer(self, block: Id) -> bool {
         let mut has_spaces = false;
@@ -288,6 +306,35 @@ impl<'a> Contents<'a> {
                     Shown::Contents | Shown::Link => true,
                     Shown::Image | Shown::Nothing => false,
                     Shown::Block | Shown::Signs | Shown::Table | Shown::Text => return false,
+                },
+                Data::Comment | Data::Root => false,
+            };
+            node = self.next(node, is_entered, top);
+        }
+        false
+    }
+
+    /// Whether an element shows a number in brackets alone, as that of a citation.
+    pub fn is_citation(self, top: Id) -> bool {
+        let mut found = String::new();
+        let mut node = self.tree.first_child(top);
+        for _ in 0..NODES_BEFORE_TEXT {
+            if node == NONE {
+                let digits = found.trim().strip_prefix('[').and_then(|found| found.strip_suffix(']')).unwrap_or_default();
+                return !digits.is_empty() && digits.bytes().all(|byte| byte.is_ascii_digit());
+            }
+            let is_entered = match self.tree.data(node) {
+                &Data::Text { start, length, .. } => {
+                    found.push_str(text_of(self.text, (start, length)));
+                    if !found.trim_start().is_empty() && !found.trim_start().starts_with('[') {
+                        return false;
+                    }
+                    false
+                }
+                Data::Element(element) => match self.shown(node, element) {
+                    Shown::Contents | Shown::Link => true,
+                    Shown::Nothing => false,
+                    _ => return false,
                 },
                 Data::Comment | Data::Root => false,
             };
@@ -359,7 +406,7 @@ impl<'a> Contents<'a> {
         !matches!(shown, Shown::Text)
     }
 
-    fn shown(self, node: Id, element: &Element) -> Shown {
+    pub fn shown(self, node: Id, element: &Element) -> Shown {
         if self.is_hidden(element) {
             return Shown::Nothing;
         }
@@ -386,6 +433,7 @@ impl<'a> Contents<'a> {
             Change::Embedded | Change::Object if embedded::link(self.tree, node, &element.name).is_none() => Shown::Nothing,
             Change::Embedded if element.name == local_name!("frame") => Shown::Block,
             Change::Embedded | Change::Object => Shown::Text,
+            Change::Field(Field::Button) if !self.has_any(node) => Shown::Nothing,
             Change::Quotation | Change::Field(Field::Button) => Shown::Signs,
             Change::Field(Field::Input) if forms::input(self.tree, node).is_none() => Shown::Nothing,
             Change::Field(Field::Input | Field::Select) => Shown::Text,
@@ -448,7 +496,7 @@ impl<'a> Contents<'a> {
     }
 
     /// Returns the columns of an element that is shown by a text of its own.
-    fn columns_of(self, node: Id, element: &Element) -> u32 {
+    pub fn columns_of(self, node: Id, element: &Element) -> u32 {
         let text: Cow<'_, str> = match element.name {
             local_name!("img") => return self.columns_of_image(self.image_of(node).unwrap_or_default()),
             local_name!("input") => forms::input(self.tree, node).unwrap_or_default().into(),
@@ -467,7 +515,7 @@ impl<'a> Contents<'a> {
             _ if element.space == ns!(svg) => self.signs_in_drawing(node, element),
             local_name!("button") => 4,
             local_name!("q") => 2,
-            local_name!("sup") if self.begins_with_bracket(node) => 0,
+            local_name!("sup") if self.begins_with_bracket(node) || !self.has_any(node) => 0,
             local_name!("sup") => 3,
             local_name!("b") | local_name!("strong") if self.adaptation.has_signs => 4,
             local_name!("code") | local_name!("em") if self.adaptation.has_signs => 2,
@@ -487,7 +535,7 @@ impl<'a> Contents<'a> {
     }
 
     /// Returns the columns of what follows a link to a target, as far as it is written.
-    fn link_signs(self, target: &str) -> u32 {
+    pub fn link_signs(self, target: &str) -> u32 {
         let written = targets::written(target);
         match self.adaptation.links {
             _ if !targets::leads_out(&written) => 0,
@@ -538,6 +586,8 @@ pub(super) mod tests {
             names_parts: false,
             stacks_cells: false,
             shows_images: false,
+            cuts_code: false,
+            drops_rules: true,
         }
     }
 
@@ -564,7 +614,7 @@ pub(super) mod tests {
             "<img src=i alt=b>",
             "<input>",
             "<select></select>",
-            "<button></button>",
+            "<button>a</button>",
             "<table></table>",
             "<iframe src=c></iframe>",
             "<svg><title>d</title></svg>",
@@ -578,6 +628,7 @@ pub(super) mod tests {
             " &nbsp;\u{200b}\u{34f}",
             "<img src=i><img alt=b>",
             "<input type=hidden>",
+            "<button> </button>",
             "<script>a</script><style>b</style><template>c</template>",
             "<span style='color: red; DISPLAY: none'>a</span><b hidden>b</b>",
             "<p></p><hr><svg></svg>",

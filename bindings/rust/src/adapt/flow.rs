@@ -36,7 +36,7 @@ const MAX_TRAILING: usize = 16;
 /// Whether a character shows nothing: white space, or without width.
 #[inline]
 pub(crate) fn is_blank_char(c: char) -> bool {
-    c.is_whitespace() || matches!(c, '\u{34f}' | '\u{200b}'..='\u{200d}' | '\u{2060}' | '\u{feff}')
+    c.is_whitespace() || matches!(c, '\u{34f}' | '\u{200b}'..='\u{200d}' | '\u{2060}' | '\u{206a}'..='\u{206f}' | '\u{feff}')
 }
 
 /// Whether a character is part of a word. Those of scripts that are written without spaces aren't, since any two of them would be.

@@ -1,12 +1,12 @@
-//! Blank lines where browsers have margins and the library makes none: beside tables, between the entries of a `dl`, and for blocks of
-//! white space.
+//! Blank lines where browsers have margins and the library makes none: beside tables and lists, between the entries of a `dl`, and for
+//! blocks of white space.
 //!
 //! Where one may be missing an empty element is recorded at the start of a line. It shows nothing, and becomes a line break if contents
 //! without a margin follow it.
 
 use super::elements::Run;
 use super::flow;
-use crate::record::{Handle, Recorder};
+use crate::record::{self, Handle, Recorder};
 use crate::tree::Piece;
 use html5ever::local_name;
 
@@ -18,6 +18,8 @@ enum Before {
     Start,
     /// A margin, which the library makes a blank line.
     Margin,
+    /// The end of a block with a margin, which the library makes a blank line before a text or a block, and not before a list.
+    End,
     /// A list, around which the library makes no blank lines.
     List,
     Contents,
@@ -97,11 +99,11 @@ impl Gaps {
     /// Notes that an element ends.
     pub fn end(&mut self, run: Run) {
         match run {
-            Run::Parted => self.before = Before::Margin,
+            Run::Parted => self.before = Before::End,
             Run::List if self.before == Before::Contents => self.before = Before::List,
             Run::Item if self.before == Before::Start => self.is_after_margin = false,
             Run::Item => {
-                self.is_after_margin = matches!(self.before, Before::Margin | Before::List | Before::Gap);
+                self.is_after_margin = matches!(self.before, Before::Margin | Before::End | Before::List | Before::Gap);
                 self.before = Before::Contents;
             }
             Run::Inline | Run::Apart | Run::Break | Run::Block | Run::List => {}
@@ -112,6 +114,16 @@ impl Gaps {
     pub fn part(&mut self, recorder: &mut Recorder, parent: Handle) {
         if matches!(self.before, Before::Contents | Before::List) {
             recorder.record_placeholder(parent);
+            self.before = Before::Gap;
+        }
+    }
+
+    /// Has a blank line in a node part a list from what is before it.
+    pub fn part_list(&mut self, recorder: &mut Recorder, parent: Handle) {
+        if matches!(self.before, Before::Contents | Before::End | Before::List) {
+            // a line may be open
+            let division = recorder.element(parent, record::HTML, &local_name!("div"));
+            recorder.record_placeholder(division);
             self.before = Before::Gap;
         }
     }
@@ -151,8 +163,11 @@ mod tests {
             (format!("{TABLE}<p>z</p>"), format!("{DRAWN}<span></><p>z</>")),
             (format!("{TABLE}<br>z"), format!("{DRAWN}<span></><br></>z")),
             (format!("{TABLE}<hr>"), format!("{DRAWN}<br></><div>{}</>", "\u{2500}".repeat(20))),
-            (format!("{TABLE}<ul><li>z</ul>"), format!("{DRAWN}<br></><ul><li>z</></>")),
-            (format!("<ul><li>{TABLE}<li>z</ul>"), format!("<ul><li>{DRAWN}<span></></><li>z</></>")),
+            (format!("{TABLE}<ul><li>z</ul>"), format!("{DRAWN}<br></><ul><li>z</></><span></>")),
+            (format!("<ul><li>{TABLE}<li>z</ul>"), format!("<ul><li>{DRAWN}<span></></><li>z</></><span></>")),
+            ("a <ul><li>b<ul><li>c</ul></ul>d".to_owned(), "a <div><br></></><ul><li>b<ul><li>c</></></></><br></>d".to_owned()),
+            ("<p>a</p><ul> <li>b</ul><p>c".to_owned(), "<p>a</><div><br></></><ul> <li>b</></><span></><p>c</>".to_owned()),
+            ("<h3>a</h3><menu></menu>b".to_owned(), "<h3>a</><div><br></></><menu><ul></></>b".to_owned()),
             ("a<table><tr><td>b<tr><td>c</table>d".to_owned(), "a<div><br></><div><div><div>b</></><div><div>c</></></><br></></>d".to_owned()),
             ("<p>a<div>\u{a0}</div>b".to_owned(), "<p>a</><div> </>b".to_owned()),
             ("a<p><o>\u{a0}</o> </p>b<p>\u{a0}c".to_owned(), "a<div> <br></></>b<p>\u{a0}c</>".to_owned()),

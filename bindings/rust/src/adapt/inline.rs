@@ -91,6 +91,11 @@ impl Inline {
         self.emphasis.fill();
     }
 
+    /// Notes that lines begin whose white space stays where it is.
+    pub fn begin_lines(&mut self) {
+        self.emphasis.fill();
+    }
+
     /// Notes that an element begins.
     #[inline]
     pub fn begin(&mut self, recorder: &mut Recorder, run: Run) {
@@ -245,10 +250,10 @@ mod tests {
             ("<b></b><em> </em>a", "<span></> <span></>a"),
             ("<b><em></em></b>", "<span><!span></></>"),
             ("<b><img src=x></b><b><img src=x alt=y></b>", "<span><img></></><b><img y></></>"),
-            ("<b><pre>a</pre></b>", "<!b><pre>a</></>"),
+            ("<b><pre>a</pre></b>", "<!b><pre>    a</></>"),
             ("<b>a<div>b<em>c</em></div></b>", "<!b>a<div>b<!em>c</></></>"),
-            ("<pre><code>a</code>\n</pre>", "<pre><!code>a</>\n</>"),
-            ("<pre>a <b>b</b></pre><listing><i><em>c</em></i></listing>", "<pre>a <!b>b</></><listing><pre><i><!em>c</></></></>"),
+            ("<pre><code>a</code>\n</pre>", "<pre>    <!code>a</>\n</>"),
+            ("<pre>a <b>b</b></pre><listing><i><em>c</em></i></listing>", "<pre>    a <!b>b</></><listing><pre><i>    <!em>c</></></></>"),
             ("<b style='visibility: hidden'>a</b>", "<!span></>"),
         ] {
             assert_eq!(recorded(page), wanted, "{page}");
@@ -322,6 +327,30 @@ mod tests {
         assert_eq!(notes(Options::new(), "<base href='http://g/'><a href=d>a</a>"), ["[1]: http://g/d"]);
         assert_eq!(notes(Options::new(), "<base href='g/'><a href=d>a</a>"), ["[1]: d"]);
         assert_eq!(outline::of(&rich().as_shown(base()), "<a href='#d'>a</a>"), "<a https://a.example/b/c#d>a</>");
+    }
+
+    #[test]
+    fn citations_are_raised() {
+        for (page, wanted) in [
+            ("a<sup><a href='#b'><span>[</span>12]</a></sup><sup>[3]</sup> <sup> [4] </sup>", "a<span><a><span></>\u{b9}\u{b2}</></> <span>\u{b3}</> <span>\u{2074}</>"),
+            ("<sup><a href=b:c>[1]</a></sup>", "<span><a>\u{b9}[1]</></>"),
+            ("<sup>[a]</sup><sup>[]</sup><sup>[1</sup><sup>[1]2</sup>", "<span>[a]</><span>[]</><span>[1</><span>[1]2</>"),
+            ("<sup>[1<img src=a alt=b>]</sup><pre><sup>[1]</sup></pre>", "<span>[1<img b></>]</><pre><span>    [1]</></>"),
+        ] {
+            assert_eq!(recorded(page), wanted, "{page}");
+        }
+    }
+
+    #[test]
+    fn headings_have_no_signs() {
+        for (page, wanted) in [
+            ("<h2><b>a</b> <code>b</code></h2><b>c</b>", "<h2><!b>a</> <!code>b</></><b>c</>"),
+            ("<sup><b>a</b></sup>", "<sup><!b>a</></>"),
+            ("<table><tr><th><b>a</b><td>b</table>", "<table><tbody><tr><th><!b>a</></><td>b</></></></>"),
+            ("<table border=1><tr><td><p><b>a</b></p><td><b>b</b><tr><td><b>c</b><td>d</table>", "<table><tbody><tr><td><p>\u{206a}<!b>a</></></><td><!b>b</></></><tr><td><b>c</></><td>d</></></></>"),
+        ] {
+            assert_eq!(recorded(page).replace("<span></>", ""), wanted, "{page}");
+        }
     }
 
     #[test]

@@ -36,6 +36,11 @@ impl Margins {
         self.is_in_cell = true;
     }
 
+    /// Whether the cell of a table is around.
+    pub fn is_in_cell(self) -> bool {
+        self.is_in_cell
+    }
+
     /// Returns the columns that the prefixes leave, where a line of the document has so many.
     pub fn room(self, columns: u32) -> u32 {
         columns.saturating_sub(self.columns)

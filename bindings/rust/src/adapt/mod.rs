@@ -2,6 +2,8 @@
 //!
 //! `docs/HTML.md` has a row for each: the element, what a browser does, what is shown, and the option that changes it.
 
+mod apart;
+mod code;
 mod contents;
 mod drawings;
 mod elements;
@@ -27,11 +29,13 @@ pub(crate) use lists::{is_blank, Holds};
 pub(crate) use numbers::Numbers;
 pub(crate) use private::{PrivateRules, RULE_CLASS};
 
+use crate::characters::mark;
 use crate::hiding::Hiding;
 use crate::options::{LinkMode, Tables};
 use crate::pass::{End, Entered, Last, Place};
 use crate::record::{self, Handle, Recorder};
 use crate::tree::{Attr, Element, Id, Piece, Tree, DOCUMENT};
+use code::Code;
 use elements::{change_of, Change, Field, Inner, List, Part};
 use emphasis::{Signed, UNSIGNED_SUFFIX};
 use html5ever::{local_name, namespace_url, ns, LocalName};
@@ -47,21 +51,63 @@ use tables::Nesting;
 use tendril::StrTendril;
 use url::Url;
 
+/// What is recorded of texts.
+#[derive(Clone, Copy, Debug, Default, PartialEq, Eq)]
+enum Texts {
+    /// What they are.
+    #[default]
+    Own,
+    /// Lines of a `pre`, which are indented.
+    Code,
+    /// The raised digits of a citation.
+    Citation,
+    /// The texts of a row that lines part from its neighbours, with one mark.
+    Marked,
+}
+
+/// What is so of a place, or of the texts there, by the elements around it: bits of a number.
+#[derive(Clone, Copy, Debug, Default, PartialEq, Eq)]
+struct Flags(u8);
+
+impl Flags {
+    /// Texts are invisible.
+    const INVISIBLE: Flags = Flags(1);
+    /// Texts have a size of 0.
+    const WITHOUT_SIZE: Flags = Flags(2);
+    /// Only labels of a drawing are shown.
+    const DRAWING: Flags = Flags(4);
+    /// Texts aren't shown.
+    const HIDDEN: Flags = Flags(7);
+    /// A `pre` is around.
+    const PRE: Flags = Flags(8);
+    /// A list is around.
+    const LIST: Flags = Flags(16);
+    /// A table is around.
+    const TABLE: Flags = Flags(32);
+    /// Emphasis has no signs: in a heading, a `th`, a row that is set apart, or a `sup`.
+    const UNSIGNED: Flags = Flags(64);
+
+    /// Whether one of some flags is set.
+    #[inline(always)]
+    fn has(self, flags: Flags) -> bool {
+        self.0 & flags.0 != 0
+    }
+
+    /// Sets a flag or takes it back. Returns whether it was set.
+    fn set(&mut self, flag: Flags, is_set: bool) -> bool {
+        let was_set = self.has(flag);
+        self.0 = self.0 & !flag.0 | if is_set { flag.0 } else { 0 };
+        was_set
+    }
+}
+
 /// What is known of the elements around a place.
 #[derive(Clone, Copy, Debug, Default)]
 pub(crate) struct Context {
-    /// Whether texts are invisible.
-    is_invisible: bool,
-    /// Whether texts have a size of 0.
-    has_no_size: bool,
-    /// Whether only labels of a drawing are shown.
-    is_in_drawing: bool,
+    flags: Flags,
     /// Number of quotations around.
     quotations: u8,
-    /// Whether a `pre` is around.
-    is_in_pre: bool,
-    /// Whether a table is around.
-    is_in_table: bool,
+    texts: Texts,
     /// The part of a table that is directly around, as it is recorded.
     part: Option<Part>,
     line: Line,
@@ -82,12 +128,18 @@ impl Context {
 
     /// Whether texts aren't shown.
     pub fn hides_texts(&self) -> bool {
-        self.is_invisible || self.has_no_size || self.is_in_drawing
+        self.flags.has(Flags::HIDDEN)
     }
 
     /// Whether texts are those of a row that is one line, or of a cell that has nothing to show.
     pub fn is_in_line(&self) -> bool {
         self.line != Line::Elsewhere
+    }
+
+    /// Whether texts may not be recorded as they are.
+    #[inline(always)]
+    pub fn changes_texts(&self) -> bool {
+        self.texts != Texts::Own
     }
 
     /// Returns the context in an element, before what the element itself changes.
@@ -126,6 +178,10 @@ pub(crate) struct Adaptation {
     pub stacks_cells: bool,
     /// Whether images without an `alt` are shown.
     pub shows_images: bool,
+    /// Whether lines of preformatted blocks are cut at the width.
+    pub cuts_code: bool,
+    /// Whether lines between short rows of tables are dropped after rendering.
+    pub drops_rules: bool,
 }
 
 impl Adaptation {
@@ -144,6 +200,12 @@ pub(crate) struct Adapted {
     pub drops_signs: bool,
     /// The targets of its links.
     pub targets: Vec<Rc<str>>,
+    /// Whether lines of preformatted blocks are between marks.
+    pub has_long_lines: bool,
+    /// Whether a table is drawn.
+    pub has_tables: bool,
+    /// Whether a row of one has a mark.
+    pub has_row_marks: bool,
 }
 
 /// What is recorded of a link's target.
@@ -231,18 +293,60 @@ pub(crate) struct Adapter<'a> {
     nesting: Nesting,
     row: Row,
     rules: PrivateRules,
+    code: Code,
+    has_tables: bool,
+    has_row_marks: bool,
+    /// Whether no row follows the start of the last table that is drawn.
+    is_first_row: bool,
+    /// Number of steps where the last citation ends.
+    end_of_citation: usize,
+    /// Whether the last row that lines part from its neighbours has no mark yet.
+    is_mark_missing: bool,
 }
 
 impl<'a> Adapter<'a> {
     pub fn new(tree: &'a Tree, mut adaptation: Adaptation) -> Adapter<'a> {
         let inline = Inline::new(Links::new(adaptation.links, adaptation.base.take()), adaptation.has_signs);
-        let (filled, styles, nesting, row, rules) = Default::default();
-        Adapter { tree, adaptation, filled, styles, inline, nesting, row, rules }
+        let (filled, styles, nesting, row, rules, code) = Default::default();
+        Adapter { tree, adaptation, filled, styles, inline, nesting, row, rules, code, has_tables: false, has_row_marks: false, is_first_row: false, end_of_citation: 0, is_mark_missing: false }
     }
 
     /// Returns what the recorded document needs beside its steps.
     pub fn finish(self) -> Adapted {
-        Adapted { rules: self.rules, drops_signs: self.inline.drops_signs(), targets: self.inline.links.into_targets() }
+        Adapted {
+            rules: self.rules,
+            drops_signs: self.inline.drops_signs(),
+            targets: self.inline.links.into_targets(),
+            has_long_lines: self.code.has_long_lines,
+            has_tables: self.has_tables,
+            has_row_marks: self.has_row_marks,
+        }
+    }
+
+    /// Returns what is recorded of a text, where that isn't the text itself.
+    #[inline(never)]
+    pub fn changed_text(&mut self, recorder: &mut Recorder, context: &Context, piece: Piece) -> Piece {
+        match context.texts {
+            Texts::Code => self.code.indented(recorder, piece),
+            Texts::Citation => {
+                let raised: String = contents::text_of(&recorder.text, piece).chars().filter_map(raised).collect();
+                recorder.keep(&raised)
+            }
+            Texts::Marked if self.is_mark_missing => self.marked(recorder, piece),
+            Texts::Own | Texts::Marked => piece,
+        }
+    }
+
+    /// Returns a text with the mark of its row before the first visible character, if it has one.
+    fn marked(&mut self, recorder: &mut Recorder, piece: Piece) -> Piece {
+        let text = contents::text_of(&recorder.text, piece);
+        let (blank, rest) = text.split_at(flow::blank_start(text.as_bytes()));
+        if rest.is_empty() {
+            return piece;
+        }
+        let marked = [blank, mark::APART, rest].concat();
+        (self.is_mark_missing, self.has_row_marks) = (false, true);
+        recorder.keep(&marked)
     }
 
     /// Notes a text of the tree before it is recorded. Returns what of it is recorded.
@@ -279,6 +383,22 @@ impl<'a> Adapter<'a> {
             End::Label { .. } => {
                 let space = recorder.keep(" ");
                 self.inline.record_text(recorder, handle, space);
+            }
+            End::BlockInCode(run) => {
+                self.inline.end(handle, run);
+                self.code.begin_line();
+            }
+            End::Code => {
+                self.code.end_line(recorder, handle);
+                self.inline.end(handle, Run::Parted);
+            }
+            End::Citation => {
+                self.inline.end(handle, Run::Apart);
+                self.end_of_citation = recorder.steps.len();
+            }
+            End::List { parent } => {
+                self.inline.end(handle, Run::List);
+                self.inline.gaps.part(recorder, parent);
             }
             End::Table { parent, is_drawn } => {
                 self.inline.end(handle, Run::Block);
@@ -321,7 +441,7 @@ impl<'a> Adapter<'a> {
         };
         let mut context = around.context.inside();
         self.hide_texts(&mut context, &opened.said, change);
-        if self.is_hidden(element, attributes, &opened.said) || context.is_invisible && is_picture(element) {
+        if self.is_hidden(element, attributes, &opened.said) || context.flags.has(Flags::INVISIBLE) && is_picture(element) {
             return None;
         }
         if is_html && around.context.holds == Holds::Descriptions && element.name == local_name!("div") {
@@ -335,9 +455,13 @@ impl<'a> Adapter<'a> {
         let is_piece_of_line = around.context.line == Line::Row && change == Change::Table(Part::Cell);
         let run = if is_piece_of_line { Run::Apart } else { change.run() };
         self.inline.begin(recorder, run);
+        let is_in_code = context.texts == Texts::Code;
+        if is_in_code {
+            self.begin_in_code(recorder, &opened, change, run);
+        }
         let mut entered = self.open_changed(recorder, &mut opened, change, around, context);
         if let (Some(Entered { end: end @ End::Inline, .. }), true) = (&mut entered, run != Run::Inline) {
-            *end = End::Run(run);
+            *end = if is_in_code && run.is_block() { End::BlockInCode(run) } else { End::Run(run) };
         }
         entered
     }
@@ -349,8 +473,8 @@ impl<'a> Adapter<'a> {
         match change {
             Change::Kept | Change::Block | Change::Division | Change::Item | Change::Paragraph => Some(Entered::new(self.record(recorder, opened), context)),
             Change::Preformatted => {
-                context.is_in_pre = true;
-                Some(Entered::new(self.record(recorder, opened), context))
+                let handle = self.record(recorder, opened);
+                Some(self.enter_pre(recorder, opened, handle, context))
             }
             Change::Break => {
                 self.inline.add_break(recorder.steps.len());
@@ -379,18 +503,20 @@ impl<'a> Adapter<'a> {
                 None
             }
             Change::List(List::Unordered) => {
+                let end = self.part_list(recorder, opened.parent, &mut context);
                 context.holds = Holds::Items;
                 context.margins.add_items(BULLET);
-                Some(Entered::new(self.record(recorder, opened), context))
+                Some(Entered { end, ..Entered::new(self.record(recorder, opened), context) })
             }
             Change::List(List::Ordered) => {
+                let end = self.part_list(recorder, opened.parent, &mut context);
                 let plan = Plan::of(self.tree, &recorder.text, node, |item| !self.is_hidden_item(item));
                 context.holds = Holds::Items;
                 context.margins.add_items(plan.columns);
                 opened.start = Some(plan.first).filter(|&first| first != 1);
                 let handle = self.record(recorder, opened);
                 let numbers = Box::new(plan.numbers(around.handle));
-                Some(Entered { numbers: Some(numbers), ..Entered::new(handle, context) })
+                Some(Entered { numbers: Some(numbers), end, ..Entered::new(handle, context) })
             }
             Change::Descriptions => {
                 context.holds = Holds::Descriptions;
@@ -399,6 +525,7 @@ impl<'a> Adapter<'a> {
             }
             Change::Heading(columns) => {
                 context.margins.add(columns);
+                context.flags.set(Flags::UNSIGNED, true);
                 Some(self.open_heading(recorder, opened, context))
             }
             Change::Term => {
@@ -495,7 +622,7 @@ impl<'a> Adapter<'a> {
     /// Whether a block shows nothing but no-break spaces and white space.
     #[inline]
     fn is_spacer(&self, recorder: &Recorder, block: Id, context: Context) -> bool {
-        !context.is_in_pre && !context.is_in_line() && self.adaptation.contents(self.tree, &recorder.text).is_spacer(block)
+        !context.flags.has(Flags::PRE) && !context.is_in_line() && self.adaptation.contents(self.tree, &recorder.text).is_spacer(block)
     }
 
     /// Records a block that shows nothing: it ends a line, and parts what is around it.
@@ -510,18 +637,62 @@ impl<'a> Adapter<'a> {
 
     /// Records an element and another in it, for its contents.
     fn open_within(&mut self, recorder: &mut Recorder, opened: &Opened<'_>, inner: Inner, mut context: Context) -> Entered {
+        let end = if inner == Inner::List { self.part_list(recorder, opened.parent, &mut context) } else { End::Inline };
         let handle = self.record(recorder, opened);
-        context.is_in_pre |= inner == Inner::Preformatted;
-        if inner == Inner::List {
-            context.holds = Holds::Items;
-            context.margins.add_items(BULLET);
+        let handle = recorder.element(handle, record::HTML, &inner.name());
+        match inner {
+            Inner::Preformatted => return self.enter_pre(recorder, opened, handle, context),
+            Inner::List => {
+                context.holds = Holds::Items;
+                context.margins.add_items(BULLET);
+            }
+            Inner::Division => {}
         }
-        Entered::new(recorder.element(handle, record::HTML, &inner.name()), context)
+        Entered { end, ..Entered::new(handle, context) }
+    }
+
+    /// Has a blank line part a list from what is before it, unless another list or the cell of a table is around. Returns what is done
+    /// where it ends.
+    fn part_list(&mut self, recorder: &mut Recorder, parent: Handle, context: &mut Context) -> End {
+        if context.flags.set(Flags::LIST, true) || context.margins.is_in_cell() {
+            return End::Inline;
+        }
+        self.inline.gaps.part_list(recorder, parent);
+        End::List { parent }
+    }
+
+    /// Enters a recorded `pre`. Its lines are indented, unless it is in a cell of a table or in a row that is a line.
+    fn enter_pre(&mut self, recorder: &mut Recorder, opened: &Opened<'_>, handle: Handle, mut context: Context) -> Entered {
+        let is_outer = !context.flags.set(Flags::PRE, true);
+        let mut entered = Entered::new(handle, context);
+        if is_outer && !context.margins.is_in_cell() && !context.is_in_line() {
+            let room = context.margins.room(self.adaptation.columns);
+            let is_wrapped = opened.said.style.as_ref().map_or(false, |style| style.white_space.is_some());
+            let contents = self.adaptation.contents(self.tree, &recorder.text);
+            self.code.begin(contents, opened.node, room, self.adaptation.cuts_code || is_wrapped);
+            self.inline.begin_lines();
+            entered.context.texts = Texts::Code;
+            entered.end = End::Code;
+        }
+        entered
+    }
+
+    /// Notes that an element begins in a `pre` whose lines are indented.
+    #[inline(never)]
+    fn begin_in_code(&mut self, recorder: &mut Recorder, opened: &Opened<'_>, change: Change, run: Run) {
+        match run {
+            Run::Break => self.code.end_line(recorder, opened.parent),
+            // a terminal underlines the indentation in a link
+            Run::Inline if change == Change::Link && self.adaptation.has_colours => self.code.indent(recorder, opened.parent),
+            Run::Inline | Run::Apart => {}
+            _ => self.code.begin_line(),
+        }
     }
 
     /// Records a form's field, as a text where its contents aren't in the tree.
     fn open_field(&mut self, recorder: &mut Recorder, opened: &Opened<'_>, field: Field, context: Context) -> Option<Entered> {
         let shown = match field {
+            Field::Button if !self.adaptation.contents(self.tree, &recorder.text).has_any(opened.node) => None,
             Field::Button => Some("[ ".to_owned()),
             Field::Input => forms::input(self.tree, opened.node),
             Field::Lines => Some(String::new()),
@@ -544,21 +715,21 @@ impl<'a> Adapter<'a> {
 
     /// Records a drawing, or a part of one. Groups dissolve.
     fn open_in_drawing(&mut self, recorder: &mut Recorder, opened: &Opened<'_>, mut context: Context) -> Option<Entered> {
-        if opened.element.name == local_name!("svg") && !context.is_in_drawing {
+        if opened.element.name == local_name!("svg") && !context.flags.has(Flags::DRAWING) {
             return Some(self.open_drawing(recorder, opened, context));
         }
         match drawings::part_of(self.tree, opened.node, opened.element) {
             drawings::Part::Hidden => None,
             drawings::Part::Group => Some(Entered::new(opened.parent, context)),
             drawings::Part::Label => {
-                context.is_in_drawing = false;
+                context.flags.set(Flags::DRAWING, false);
                 Some(self.open_label(recorder, opened, context))
             }
         }
     }
 
     /// Records a drawing as an element of HTML, so that rules count for all of it, and one of SVG in it, whose title the library shows.
-    fn open_drawing(&mut self, recorder: &mut Recorder, opened: &Opened<'_>, context: Context) -> Entered {
+    fn open_drawing(&mut self, recorder: &mut Recorder, opened: &Opened<'_>, mut context: Context) -> Entered {
         let name = &opened.element.name;
         let handle = recorder.element(opened.parent, record::HTML, name);
         self.record_attributes(recorder, handle, opened, "");
@@ -571,7 +742,8 @@ impl<'a> Adapter<'a> {
                 recorder.text(title_handle, piece);
             }
         }
-        Entered::new(handle, Context { is_in_drawing: true, ..context })
+        context.flags.set(Flags::DRAWING, true);
+        Entered::new(handle, context)
     }
 
     /// Records an element between spaces, which part its texts from those around it.
@@ -608,23 +780,38 @@ impl<'a> Adapter<'a> {
         let handle = self.record(recorder, opened);
         let is_starred = opened.element.name != local_name!("code");
         let signed = Signed { handle, parent: opened.parent, step, class_step: recorder.class_step(step), is_starred, is_signed: true };
-        self.inline.open_signed(recorder, signed, !context.hides_texts() && !context.is_in_pre);
+        self.inline.open_signed(recorder, signed, !context.hides_texts() && !context.flags.has(Flags(Flags::PRE.0 | Flags::UNSIGNED.0)));
         Entered { end: End::Signed, ..Entered::new(handle, context) }
     }
 
-    /// Records a `sup`: without signs around brackets, as citations have.
-    fn open_superscript(&mut self, recorder: &mut Recorder, opened: &Opened<'_>, context: Context) -> Entered {
-        let has_brackets = self.adaptation.contents(self.tree, &recorder.text).begins_with_bracket(opened.node);
-        let handle = if has_brackets { self.record_as(recorder, opened, &local_name!("span"), "") } else { self.record(recorder, opened) };
+    /// Records a `sup`: without signs around nothing and around brackets, and a number in brackets as raised digits, as citations have.
+    fn open_superscript(&mut self, recorder: &mut Recorder, opened: &Opened<'_>, mut context: Context) -> Entered {
+        let contents = self.adaptation.contents(self.tree, &recorder.text);
+        context.flags.set(Flags::UNSIGNED, true);
+        if !context.flags.has(Flags::PRE) && contents.is_citation(opened.node) {
+            if self.end_of_citation == recorder.steps.len() {
+                let space = recorder.keep(" ");
+                self.inline.record_text(recorder, opened.parent, space);
+            }
+            let handle = self.record_as(recorder, opened, &local_name!("span"), "");
+            context.texts = Texts::Citation;
+            return Entered { end: End::Citation, ..Entered::new(handle, context) };
+        }
+        let is_bare = contents.begins_with_bracket(opened.node) || !contents.has_any(opened.node);
+        let handle = if is_bare { self.record_as(recorder, opened, &local_name!("span"), "") } else { self.record(recorder, opened) };
         Entered::new(handle, context)
     }
 
     /// Records an `a`, with its target in rich text alone.
-    fn open_link(&mut self, recorder: &mut Recorder, opened: &mut Opened<'_>, context: Context) -> Entered {
+    fn open_link(&mut self, recorder: &mut Recorder, opened: &mut Opened<'_>, mut context: Context) -> Entered {
         let href = match opened.attributes.iter().find(|attribute| attribute.name == local_name!("href")) {
             Some(href) => recorder.filtered(&href.value),
             None => return Entered::new(self.record(recorder, opened), context),
         };
+        let is_inside = href.starts_with('#') && !context.flags.has(Flags::PRE);
+        if is_inside && self.adaptation.contents(self.tree, &recorder.text).is_citation(opened.node) {
+            context.texts = Texts::Citation;
+        }
         opened.href = self.recorded_href(recorder, &href);
         let step = recorder.steps.len();
         let handle = self.record(recorder, opened);
@@ -669,18 +856,35 @@ impl<'a> Adapter<'a> {
             Part::Row => around.part == Some(Part::Section),
             Part::Cell => around.part == Some(Part::Row),
         };
-        context.is_in_table = true;
+        context.flags.set(Flags::TABLE, true);
         if !is_drawn {
             let mut entered = self.open_division(recorder, opened, part, around.line, context);
-            if part == Part::Table && !around.is_in_table {
+            if part == Part::Table && !around.flags.has(Flags::TABLE) {
                 self.inline.gaps.part(recorder, entered.handle);
                 entered.end = End::Table { parent: entered.handle, is_drawn };
             }
             return entered;
         }
         context.part = Some(part);
-        if part == Part::Cell {
-            context.margins.enter_cell();
+        match part {
+            Part::Cell => {
+                if opened.element.name == local_name!("th") {
+                    context.flags.set(Flags::UNSIGNED, true);
+                }
+                context.margins.enter_cell();
+            }
+            Part::Row => {
+                let is_apart = apart::is_apart(self.adaptation.contents(self.tree, &recorder.text), opened.node, std::mem::take(&mut self.is_first_row));
+                if is_apart {
+                    context.flags.set(Flags::UNSIGNED, true);
+                }
+                self.is_mark_missing = is_apart && self.adaptation.drops_rules;
+                if self.is_mark_missing && context.texts == Texts::Own {
+                    context.texts = Texts::Marked;
+                }
+            }
+            Part::Table => (self.has_tables, self.is_first_row) = (true, true),
+            Part::Caption | Part::Section => {}
         }
         let entered = Entered::new(self.record(recorder, opened), context);
         match part {
@@ -700,7 +904,7 @@ impl<'a> Adapter<'a> {
     fn record_rule(&mut self, recorder: &mut Recorder, opened: &Opened<'_>, context: Context) {
         let handle = self.record_as(recorder, opened, &local_name!("div"), RULE_CLASS);
         let columns = context.margins.rule(self.adaptation.columns);
-        if columns > 0 && !context.is_invisible {
+        if columns > 0 && !context.flags.has(Flags::INVISIBLE) {
             self.inline.gaps.add_contents(recorder);
             let line = recorder.rule(columns);
             recorder.text(handle, line);
@@ -744,12 +948,16 @@ impl<'a> Adapter<'a> {
     fn hide_texts(&self, context: &mut Context, said: &Said, change: Change) {
         let style = said.style.as_ref();
         if let Some(is_visible) = style.and_then(InlineStyle::is_visible) {
-            context.is_invisible = !is_visible;
+            context.flags.set(Flags::INVISIBLE, !is_visible);
         }
         let has_own_size = matches!(change, Change::Field(_)) || self.adaptation.is_quirky && change == Change::Table(Part::Table);
         match style.and_then(InlineStyle::has_size) {
-            Some(has_size) => context.has_no_size = !has_size,
-            None if has_own_size => context.has_no_size = false,
+            Some(has_size) => {
+                context.flags.set(Flags::WITHOUT_SIZE, !has_size);
+            }
+            None if has_own_size => {
+                context.flags.set(Flags::WITHOUT_SIZE, false);
+            }
             None => {}
         }
     }
@@ -839,6 +1047,12 @@ fn is_picture(element: &Element) -> bool {
 
 fn is_drawing(element: &Element) -> bool {
     element.name == local_name!("svg") && element.space == ns!(svg)
+}
+
+/// Returns the raised character of a digit; `None` for other characters.
+fn raised(c: char) -> Option<char> {
+    const RAISED: [char; 10] = ['\u{2070}', '\u{b9}', '\u{b2}', '\u{b3}', '\u{2074}', '\u{2075}', '\u{2076}', '\u{2077}', '\u{2078}', '\u{2079}'];
+    RAISED.get(c.to_digit(10)? as usize).copied()
 }
 
 /// Returns the marks around a quotation in so many others.

@@ -43,6 +43,12 @@ fn is_presentation(role: &str) -> bool {
     first.eq_ignore_ascii_case("presentation") || first.eq_ignore_ascii_case("none")
 }
 
+/// Whether a `summary` says that a table leads through pages, as DocBook's do.
+fn is_navigation(summary: &str) -> bool {
+    const WORD: &str = "navigation";
+    summary.trim_start().get(..WORD.len()).map_or(false, |first| first.eq_ignore_ascii_case(WORD))
+}
+
 /// Whether a `border` is above 0: one that doesn't begin with a number is 1.
 fn is_border(border: &str) -> bool {
     let border = border.trim_start_matches(|c: char| c.is_ascii_whitespace());
@@ -62,11 +68,13 @@ struct Seen {
     has_columns: bool,
     /// Number of rows in which several cells have something to show.
     full_rows: u32,
+    /// Whether one of the first two cells with something to show in a row has a field of a form.
+    has_field: bool,
 }
 
 impl Seen {
     fn is_data(&self) -> bool {
-        self.has_columns && (self.is_marked || self.full_rows > 1)
+        self.has_columns && (self.is_marked || self.full_rows > 1 && !self.has_field)
     }
 
     /// Looks at the cells of a row, until it is known whether the table has data.
@@ -76,6 +84,7 @@ impl Seen {
             self.is_marked |= matches!(contents.tree.element(cell), Some(Element { name: local_name!("th"), .. }));
             if filled < 2 && contents.has_any(cell) {
                 filled += 1;
+                self.has_field = self.has_field || !self.is_marked && contents.has_field(cell);
                 self.has_columns |= *self.position.get_or_insert(position) != position;
                 self.full_rows += u32::from(filled == 2);
             }
@@ -90,7 +99,7 @@ impl Seen {
 pub(super) fn is_data(contents: Contents<'_>, table: Id) -> bool {
     let tree = contents.tree;
     let says = |name: LocalName, is_said: fn(&str) -> bool| tree.attribute(table, &name).map_or(false, |value| is_said(value));
-    if says(local_name!("role"), is_presentation) {
+    if says(local_name!("role"), is_presentation) || says(local_name!("summary"), is_navigation) {
         return false;
     }
     let is_marked = says(local_name!("border"), is_border) || says(local_name!("summary"), |summary| !summary.trim().is_empty());
@@ -141,6 +150,8 @@ mod tests {
             "<table border=' 01px'><tr><td>a<td>b</table>",
             "<table summary=s><tr><td>a<td>b</table>",
             "<table border=1><tr><td>a<td><tr><td><td>b</table>",
+            "<table><tr><td>a<td><input type=hidden>b<tr><td>c<td>d</table>",
+            "<table border=1><tr><td>a<td><input></table>",
             "<table role=grid border=1><tr><td>a<td><img src=i alt=b></table>",
         ] {
             assert!(is_drawn(page), "{page}");
@@ -160,6 +171,8 @@ mod tests {
             "<table role=presentation border=1><tr><th>a<td>b<tr><td>c<td>d</table>",
             "<table role='NONE x'><tr><td>a<td>b<tr><td>c<td>d</table>",
             "<table border=1><tr><th>a<tr><td>b<td>&nbsp;</table>",
+            "<table summary='Navigation header'><tr><th colspan=2>a<tr><td>b<td>c</table>",
+            "<table><tr><td>a<td><input><tr><td>b<td><select></select></table>",
             "<table border=1><tr><th>a<td>b<tr><td>c<td><p><table><tr><td>d</table></table>",
         ] {
             assert!(!is_drawn(page), "{page}");

@@ -37,9 +37,13 @@ none, as text wrapped to a width.
       --base URL      the address of the page, against which targets are resolved
       --tables WHICH  tables that are drawn: data (default), all, none; the others
                       are shown as the blocks and lines in their cells
+      --row-rules     a line under each row of a table; without it none between
+                      short rows, but under the heads
       --raw-tables    cells of tables stand one below another
       --no-borders    tables are drawn without borders
       --fence-tables  tables stand between lines of three backquotes
+      --wrap-code     lines of preformatted text are cut at the width; without it
+                      they may pass it
       --max-width N   a paragraph's lines have at most N columns
       --pad           lines are filled with spaces; without it none end with one
       --images MODE   of images without a text: none, name (of the file), always

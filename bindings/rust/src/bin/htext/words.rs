@@ -203,11 +203,13 @@ impl Choices {
         let change = match word.option.as_str() {
             "-h" | "--help" => return Ok(Some(Task::Help)),
             "-V" | "--version" => return Ok(Some(Task::Version)),
-            "--title" | "--no-links" | "--wrap-links" | "--no-wrap-links" => {
+            "--title" | "--no-links" | "--wrap-links" | "--no-wrap-links" | "--wrap-code" | "--row-rules" => {
                 let options = mem::take(&mut self.options);
                 self.options = match word.option.as_str() {
                     "--title" => options.title(),
                     "--no-links" => options.links(LinkMode::None),
+                    "--wrap-code" => options.wrap_code(true),
+                    "--row-rules" => options.row_rules(),
                     wraps => options.wrap_links(wraps == "--wrap-links"),
                 };
                 return word.alone().map(|()| None);
