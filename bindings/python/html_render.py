@@ -78,7 +78,10 @@ class _Rule(ctypes.Structure):
 def _load():
     """Returns the library, with the types of its functions."""
     default = Path(__file__).resolve().parent.parent / "out" / "libhtml_render.so"
-    library = ctypes.CDLL(os.environ.get("HTML_RENDER_LIB", str(default)))
+    path = os.environ.get("HTML_RENDER_LIB", str(default))
+    if not os.path.exists(path):
+        raise ImportError(f"there is no library at {path}: run bindings/build first")
+    library = ctypes.CDLL(path)
     recording, number, size, text = ctypes.c_void_p, ctypes.c_uint32, ctypes.c_size_t, ctypes.c_char_p
     for name, answer, arguments in (
         ("new", recording, []),
