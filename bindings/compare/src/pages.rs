@@ -67,7 +67,7 @@ fn raised(text: &str) -> String {
     text.chars().map(|c| digit(c).unwrap_or(c)).collect()
 }
 
-/// Whether sorted letters have all of others, each as often.
+/// Reports whether sorted letters have all of others, each as often.
 fn has_all(letters: &[char], others: &[char]) -> bool {
     let mut ahead = letters.iter();
     others.iter().all(|other| ahead.any(|letter| letter == other))

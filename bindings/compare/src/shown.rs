@@ -12,12 +12,12 @@ use unicode_width::UnicodeWidthStr;
 
 const WIDTHS: [usize; 3] = [80, 40, 20];
 
-/// Whether a character can control a terminal.
+/// Reports whether a character can control a terminal.
 fn is_control(c: char) -> bool {
     c != '\n' && c.is_control() || ('\u{202a}'..='\u{202e}').contains(&c) || ('\u{2066}'..='\u{2069}').contains(&c)
 }
 
-/// Whether a page is within a width, or why it is at fault.
+/// Reports whether a page is within a width, or why it is at fault.
 fn look(page: &[u8], width: usize) -> Result<bool, String> {
     let config = || plain().as_shown(Options::new().wrap_links(true).wrap_code(true));
     let (text, is_within) = match config().string_from_read(page, width) {

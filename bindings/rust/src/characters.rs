@@ -26,12 +26,12 @@ pub(crate) mod mark {
     pub const LONG_END: &str = "\u{206c}";
 }
 
-/// Whether a character is deprecated by Unicode: an adapted document has some as marks of its own.
+/// Reports whether a character is deprecated by Unicode: an adapted document has some as marks of its own.
 fn is_mark(c: char) -> bool {
     matches!(c, '\u{206a}'..='\u{206f}')
 }
 
-/// Whether a character can control a terminal, or the direction of text beyond its own.
+/// Reports whether a character can control a terminal, or the direction of text beyond its own.
 pub(crate) fn is_control(c: char) -> bool {
     match c {
         '\t' | '\n' => false,
@@ -47,7 +47,7 @@ fn suspicion(byte: u8) -> u8 {
     (u8::from(byte < 0x20) & u8::from(byte != b'\n') & u8::from(byte != b'\t')) | u8::from(byte == 0x7f) | u8::from((byte | 0x20) == 0xe2)
 }
 
-/// Whether a text has a byte with which a dropped character can begin.
+/// Reports whether a text has a byte with which a dropped character can begin.
 fn is_suspect(text: &str) -> bool {
     const BLOCK: usize = 256;
     let found = |bytes: &[u8]| bytes.iter().fold(0, |found, &byte| found | suspicion(byte)) != 0;

@@ -179,7 +179,7 @@ impl<D: Decorator> Config<D> {
         self.with(call::ALLOW_WIDTH_OVERFLOW, 0)
     }
 
-    /// Whether links are numbered, and their targets stand behind the document.
+    /// Reports whether links are numbered, and their targets stand behind the document.
     pub fn link_footnotes(self, include_footnotes: bool) -> Config<D> {
         self.with(call::LINK_FOOTNOTES, include_footnotes.into())
     }
@@ -189,7 +189,7 @@ impl<D: Decorator> Config<D> {
         self.with(call::NO_LINK_WRAPPING, 0)
     }
 
-    /// Whether text that is struck out has U+0336 behind its characters.
+    /// Reports whether text that is struck out has U+0336 behind its characters.
     pub fn unicode_strikeout(self, use_unicode: bool) -> Config<D> {
         self.with(call::UNICODE_STRIKEOUT, use_unicode.into())
     }
@@ -366,12 +366,12 @@ impl<D: Decorator> Config<D> {
         self.settings.iter().rev().find(|setting| setting.kind == kind).map_or(0, |setting| setting.number)
     }
 
-    /// Whether spaces at the ends of lines are kept.
+    /// Reports whether spaces at the ends of lines are kept.
     fn is_padded(&self) -> bool {
         self.options.as_ref().map_or(true, |options| options.is_padded) || self.settings.iter().any(|setting| setting.kind == call::PAD_BLOCK_WIDTH)
     }
 
-    /// Whether lines between rows of tables are dropped: if tables have any.
+    /// Reports whether lines between rows of tables are dropped: if tables have any.
     fn drops_rules(&self) -> bool {
         let has_borders = |setting: &Setting| !matches!(setting.kind, call::NO_TABLE_BORDERS | call::RAW_MODE);
         self.options.as_ref().map_or(false, |options| !options.has_row_rules) && self.settings.iter().all(has_borders)
@@ -477,7 +477,7 @@ fn push_rules_without_signs(has_class: bool, settings: &mut Vec<Setting>, mut ke
     }
 }
 
-/// Whether spaces under an annotation can be seen.
+/// Reports whether spaces under an annotation can be seen.
 fn shows_spaces(annotation: &RichAnnotation) -> bool {
     matches!(annotation, RichAnnotation::BgColour(_) | RichAnnotation::Link(_) | RichAnnotation::Strikeout)
 }

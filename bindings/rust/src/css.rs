@@ -268,12 +268,12 @@ pub(crate) fn setting_of(rule: RuleOf) -> Setting {
     }
 }
 
-/// Whether a record is a rule by which elements aren't displayed.
+/// Reports whether a record is a rule by which elements aren't displayed.
 pub(crate) fn hides(setting: &Setting) -> bool {
     setting.kind == ADD_STYLE_RULE && setting.number == DISPLAY_NONE && setting.flags & (Place::Before as u32 | Place::After as u32) == 0
 }
 
-/// Whether a record is a rule for white space.
+/// Reports whether a record is a rule for white space.
 pub(crate) fn sets_white_space(setting: &Setting) -> bool {
     setting.kind == ADD_STYLE_RULE && setting.number == WHITE_SPACE
 }
@@ -327,7 +327,7 @@ fn setting(origin: Origin, selector: &Selector, declaration: &Declaration, filte
     Setting { flags, text, text_length, element, element_length, ..rule }
 }
 
-/// Whether an element of this name is a part of a table, which is recorded under another name where the table isn't drawn.
+/// Reports whether an element of this name is a part of a table, which is recorded under another name where the table isn't drawn.
 fn is_part(name: &str) -> bool {
     matches!(name, "caption" | "table" | "tbody" | "td" | "tfoot" | "th" | "thead" | "tr")
 }

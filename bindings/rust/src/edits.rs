@@ -11,7 +11,7 @@ use memchr::{memchr, memmem, memrchr};
 use std::borrow::Cow;
 use std::ops::Range;
 
-/// What is changed.
+/// Changes of the rendered lines.
 #[derive(Clone, Copy, Debug)]
 pub(crate) struct Edits {
     /// Whether spaces at the ends of lines are kept.
@@ -29,7 +29,7 @@ const CROSS: &str = "\u{253c}";
 
 type Line = TaggedLine<Vec<RichAnnotation>>;
 
-/// Whether a text has a character that parts columns in a table's border.
+/// Reports whether a text has a character that parts columns in a table's border.
 pub(crate) fn has_crossings(text: &[u8]) -> bool {
     memmem::find_iter(text, b"\xe2\x94").any(|at| matches!(text.get(at + 2), Some(0xac | 0xb4 | 0xbc)))
 }
@@ -40,12 +40,12 @@ const MAX_ROW: u32 = 3;
 /// The character between two columns in a row.
 const BAR: &[u8] = "\u{2502}".as_bytes();
 
-/// Whether a text begins with a character of borders.
+/// Reports whether a text begins with a character of borders.
 fn begins_as_border(text: &[u8]) -> bool {
     matches!(text, [0xe2, 0x94, 0x80 | 0xac | 0xb4 | 0xbc, ..])
 }
 
-/// Whether the rest of a line from a byte on is a border: it begins and ends as one, and has no bar.
+/// Reports whether the rest of a line from a byte on is a border: it begins and ends as one, and has no bar.
 fn is_border(line: &str, start: usize) -> bool {
     let rest = line.as_bytes().get(start..).unwrap_or_default();
     if !begins_as_border(rest) {
@@ -60,13 +60,13 @@ fn border_start(line: &str) -> Option<usize> {
     memchr(BAR[0], line.as_bytes()).filter(|&start| is_border(line, start))
 }
 
-/// Whether the first cell in a line of a row, which begins after so many bytes, has a text.
+/// Reports whether the first cell in a line of a row, which begins after so many bytes, has a text.
 fn has_first_cell(line: &str, start: usize) -> bool {
     let cells = line.as_bytes().get(start..).unwrap_or_default();
     cells.iter().position(|&byte| byte != b' ').map_or(false, |first| !cells[first..].starts_with(BAR))
 }
 
-/// What is seen of the lines of a row.
+/// Summary of the lines of a row.
 #[derive(Clone, Copy, Default)]
 struct Row {
     count: u32,
@@ -104,7 +104,7 @@ impl Row {
         Row { first_cells: self.first_cells.reverse_bits() >> (u32::BITS - self.count), ..self }
     }
 
-    /// Whether a border between it and the row below isn't needed: both are one line, or begin with a cell that has a text in their first
+    /// Reports whether a border between it and the row below isn't needed: both are one line, or begin with a cell that has a text in their first
     /// line alone.
     fn needs_no_border_before(self, below: Row) -> bool {
         let are_short = self.count == 1 && below.count == 1;

@@ -56,13 +56,13 @@ impl Hiding {
         selectors.push(selector);
     }
 
-    /// Whether there are any.
+    /// Reports whether there are any.
     #[inline]
     pub fn has_rules(&self) -> bool {
         self.has_rules
     }
 
-    /// Whether a rule hides an element; an important one, if the element's own style displays it.
+    /// Reports whether a rule hides an element; an important one, if the element's own style displays it.
     pub fn hides(&self, name: &str, attributes: &[Attr], is_displayed: bool) -> bool {
         let value = |name| attributes.iter().find(|attribute| attribute.name == name).map(|attribute| &*attribute.value);
         let (id, class) = (value(local_name!("id")), value(local_name!("class")).unwrap_or(""));

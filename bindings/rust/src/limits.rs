@@ -41,7 +41,7 @@ pub(crate) struct Room {
 }
 
 impl Room {
-    /// Whether a tree has room for what another token makes.
+    /// Reports whether a tree has room for what another token makes.
     #[inline]
     pub fn is_enough(&self, tree: &Tree) -> bool {
         tree.node_count() < self.nodes && tree.attribute_count() < self.attributes && !tree.is_out_of_memory
@@ -74,7 +74,7 @@ impl Tracer for Held {
     }
 }
 
-/// Whether an HTML element of this name can't have others in it: it has no contents, or raw text.
+/// Reports whether an HTML element of this name can't have others in it: it has no contents, or raw text.
 fn is_never_deep(name: &LocalName) -> bool {
     matches!(
         *name,
@@ -116,7 +116,7 @@ pub(crate) struct OpenElements {
 }
 
 impl OpenElements {
-    /// Whether there is room for the element of a tag.
+    /// Reports whether there is room for the element of a tag.
     #[inline]
     pub fn takes(&mut self, tag: &Tag, builder: &TreeBuilder<Id, Sink>) -> bool {
         if tag.kind == TagKind::EndTag {

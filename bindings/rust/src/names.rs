@@ -29,12 +29,12 @@ const MAX_LENGTH: usize = 8;
 /// Bit of the keys of longer names, which others may have too. No byte of a name has its highest bit.
 const IS_LONGER: u64 = 1 << 63;
 
-/// Whether html5ever's tree builder asks for attributes of a name.
+/// Reports whether html5ever's tree builder asks for attributes of a name.
 pub(crate) fn is_asked_by_builder(name: &LocalName) -> bool {
     matches!(*name, local_name!("color") | local_name!("encoding") | local_name!("face") | local_name!("form") | local_name!("size") | local_name!("type"))
 }
 
-/// Whether html5ever's tree builder keeps an element of this name in its list of formatting elements.
+/// Reports whether html5ever's tree builder keeps an element of this name in its list of formatting elements.
 fn is_formatting(name: &LocalName) -> bool {
     matches!(
         *name,
@@ -55,7 +55,7 @@ fn is_formatting(name: &LocalName) -> bool {
     )
 }
 
-/// Whether raw text follows the start tag of an element of this name.
+/// Reports whether raw text follows the start tag of an element of this name.
 fn is_raw(name: &LocalName) -> bool {
     matches!(
         *name,

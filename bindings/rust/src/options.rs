@@ -98,7 +98,7 @@ impl Options {
         Options { links: Some(mode), ..self }
     }
 
-    /// Whether the targets at the end are cut at the width. Without the call they may pass it.
+    /// Reports whether the targets at the end are cut at the width. Without the call they may pass it.
     pub fn wrap_links(self, wraps: bool) -> Options {
         Options { wraps_links: wraps, ..self }
     }
@@ -108,7 +108,7 @@ impl Options {
         Options { tables, ..self }
     }
 
-    /// Whether lines of preformatted text are cut at the width. Without the call they may pass it.
+    /// Reports whether lines of preformatted text are cut at the width. Without the call they may pass it.
     pub fn wrap_code(self, wraps: bool) -> Options {
         Options { wraps_code: wraps, ..self }
     }

@@ -188,7 +188,7 @@ pub(crate) struct Reader<'a> {
     is_in_data: bool,
 }
 
-/// Whether the tokenizer changes a byte of a text or value: it begins a character reference, or is a carriage return or zero.
+/// Reports whether the tokenizer changes a byte of a text or value: it begins a character reference, or is a carriage return or zero.
 fn is_special(byte: u8) -> bool {
     matches!(byte, b'&' | b'\r' | 0)
 }

@@ -33,7 +33,7 @@ pub(crate) fn space(namespace: &Namespace) -> u32 {
     }
 }
 
-/// Whether rendering asks for attributes of a name. Others aren't recorded.
+/// Reports whether rendering asks for attributes of a name. Others aren't recorded.
 pub(crate) fn is_asked(name: &LocalName) -> bool {
     matches!(
         *name,

@@ -7,7 +7,7 @@ use html5ever::{local_name, namespace_url, ns, LocalName};
 /// Minimum number of bold cells in a row that heads others without saying so.
 const BOLD_CELLS: usize = 2;
 
-/// Whether a line parts a row of a table from the rows beside it: it is in a `thead` or a `tfoot`, all its cells are `th`, or it is the
+/// Reports whether a line parts a row of a table from the rows beside it: it is in a `thead` or a `tfoot`, all its cells are `th`, or it is the
 /// first one, as `is_first` says, and all in it is bold.
 pub(super) fn is_apart(contents: Contents<'_>, row: Id, is_first: bool) -> bool {
     let tree = contents.tree;
@@ -24,7 +24,7 @@ fn is_one_of(tree: &Tree, node: Id, names: &[LocalName]) -> bool {
     matches!(tree.element(node), Some(Element { name, space: ns!(html), .. }) if names.contains(name))
 }
 
-/// Whether all that is shown in a row is bold, in several cells.
+/// Reports whether all that is shown in a row is bold, in several cells.
 fn is_bold(contents: Contents<'_>, row: Id) -> bool {
     let mut count = 0;
     for cell in contents.cells_of(row) {
@@ -38,7 +38,7 @@ fn is_bold(contents: Contents<'_>, row: Id) -> bool {
 }
 
 impl Contents<'_> {
-    /// Whether all that a cell shows is bold; `None` if it shows nothing.
+    /// Reports whether all that a cell shows is bold; `None` if it shows nothing.
     fn has_bold_alone(self, cell: Id) -> Option<bool> {
         let mut has_any = None;
         let mut node = self.tree.first_child(cell);

@@ -27,7 +27,7 @@ fn after(column: u32, c: char) -> u32 {
     }
 }
 
-/// Whether each byte of a text takes a column.
+/// Reports whether each byte of a text takes a column.
 fn is_plain(text: &str) -> bool {
     text.bytes().all(|byte| matches!(byte, b' '..=b'~'))
 }

@@ -73,7 +73,7 @@ pub(super) struct Contents<'a> {
     pub adaptation: &'a Adaptation,
 }
 
-/// Whether a text has a character that isn't white space and takes a column.
+/// Reports whether a text has a character that isn't white space and takes a column.
 fn is_visible(text: &str) -> bool {
     text.bytes().any(|byte| byte.is_ascii_graphic()) || text.chars().any(|c| !c.is_whitespace() && c.width().map_or(false, |columns| columns > 0))
 }
@@ -83,7 +83,7 @@ pub(super) fn text_of(text: &[u8], (start, length): Piece) -> &str {
     std::str::from_utf8(&text[start as usize..][..length as usize]).unwrap_or_default()
 }
 
-/// Whether a piece of a text can't be seen.
+/// Reports whether a piece of a text can't be seen.
 pub(super) fn is_unseen(text: &[u8], piece: Piece) -> bool {
     !is_visible(text_of(text, piece))
 }
@@ -193,7 +193,7 @@ impl<'a> Contents<'a> {
         NONE
     }
 
-    /// Whether nothing is shown of an element. Its style is read only where it can say so.
+    /// Reports whether nothing is shown of an element. Its style is read only where it can say so.
     pub fn is_hidden(self, element: &Element) -> bool {
         let attributes = self.tree.attributes(element);
         let is_html = element.space == ns!(html);
@@ -216,7 +216,7 @@ impl<'a> Contents<'a> {
         self.tree.children(row).filter(move |&cell| self.tree.element(cell).map_or(false, is_shown))
     }
 
-    /// Whether a cell has something to show: a visible text, an image with one or in a link, a field, or a table.
+    /// Reports whether a cell has something to show: a visible text, an image with one or in a link, a field, or a table.
     pub fn has_any(self, cell: Id) -> bool {
         let (mut has_drawing, mut end_of_link) = (false, None);
         let mut node = self.tree.first_child(cell);
@@ -247,7 +247,7 @@ impl<'a> Contents<'a> {
         false
     }
 
-    /// Whether a cell begins with a field of a form, or with few nodes before one.
+    /// Reports whether a cell begins with a field of a form, or with few nodes before one.
     pub fn has_field(self, cell: Id) -> bool {
         let mut node = self.tree.first_child(cell);
         for _ in 0..NODES_BEFORE_TEXT {
@@ -265,7 +265,7 @@ impl<'a> Contents<'a> {
         false
     }
 
-    /// Whether all in a block are no-break spaces and white space.
+    /// Reports whether all in a block are no-break spaces and white space.
     pub fn is_spacer(self, block: Id) -> bool {
         let mut has_spaces = false;
         let mut node = self.tree.first_child(block);
@@ -290,7 +290,7 @@ impl<'a> Contents<'a> {
         has_spaces
     }
 
-    /// Whether the text that an element shows begins with a bracket.
+    /// Reports whether the text that an element shows begins with a bracket.
     pub fn begins_with_bracket(self, top: Id) -> bool {
         let mut node = self.tree.first_child(top);
         for _ in 0..NODES_BEFORE_TEXT {
@@ -314,7 +314,7 @@ impl<'a> Contents<'a> {
         false
     }
 
-    /// Whether an element shows a number in brackets alone, as that of a citation.
+    /// Reports whether an element shows a number in brackets alone, as that of a citation.
     pub fn is_citation(self, top: Id) -> bool {
         let mut found = String::new();
         let mut node = self.tree.first_child(top);
@@ -473,7 +473,7 @@ impl<'a> Contents<'a> {
         }
     }
 
-    /// Whether a node is in a drawing, and not in a label of one.
+    /// Reports whether a node is in a drawing, and not in a label of one.
     fn is_in_drawing(self, node: Id) -> bool {
         self.tree.element(self.tree.parent(node)).map_or(false, |around| around.space == ns!(svg) && !drawings::is_label(around))
     }

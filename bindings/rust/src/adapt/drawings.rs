@@ -18,12 +18,12 @@ fn is_named(tree: &Tree, node: Id, name: &LocalName) -> bool {
     matches!(tree.element(node), Some(element) if element.space == ns!(svg) && element.name == *name)
 }
 
-/// Whether an element in a `switch` follows another, which is shown in its place.
+/// Reports whether an element in a `switch` follows another, which is shown in its place.
 fn is_alternative(tree: &Tree, node: Id) -> bool {
     is_named(tree, tree.parent(node), &local_name!("switch")) && tree.siblings_before(node).any(|sibling| tree.element(sibling).is_some())
 }
 
-/// Whether an element of SVG shows texts in a place of their own.
+/// Reports whether an element of SVG shows texts in a place of their own.
 pub(super) fn is_label(element: &Element) -> bool {
     matches!(element.name, local_name!("foreignObject") | local_name!("text") | local_name!("tspan"))
 }

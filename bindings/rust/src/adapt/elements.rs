@@ -124,7 +124,7 @@ pub(crate) enum Run {
 }
 
 impl Run {
-    /// Whether an element is on lines of its own.
+    /// Reports whether an element is on lines of its own.
     #[inline]
     pub fn is_block(self) -> bool {
         matches!(self, Run::Block | Run::Parted | Run::List | Run::Item)

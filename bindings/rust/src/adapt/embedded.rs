@@ -43,7 +43,7 @@ pub(crate) fn scheme(address: &str) -> Option<&str> {
     is_scheme.then(|| scheme)
 }
 
-/// Whether an address leads out of the page.
+/// Reports whether an address leads out of the page.
 fn can_be_followed(address: &str) -> bool {
     const WITHIN: [&str; 5] = ["about", "blob", "data", "javascript", "vbscript"];
     let scheme = scheme(address);

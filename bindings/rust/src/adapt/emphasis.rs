@@ -53,7 +53,7 @@ pub(crate) struct Emphasis {
 }
 
 impl Emphasis {
-    /// Whether the next text can change what is known of an element.
+    /// Reports whether the next text can change what is known of an element.
     #[inline]
     pub fn is_watching(&self) -> bool {
         !self.open.is_empty() || !self.ended.is_empty()
@@ -98,12 +98,12 @@ impl Emphasis {
         self.inserted.take()
     }
 
-    /// Whether an open element has signs so far.
+    /// Reports whether an open element has signs so far.
     pub fn is_in_signs(&self) -> bool {
         self.signed > 0
     }
 
-    /// Whether an element has no signs.
+    /// Reports whether an element has no signs.
     pub fn drops_signs(&self) -> bool {
         self.class.is_some()
     }

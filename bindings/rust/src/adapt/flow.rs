@@ -33,13 +33,13 @@ enum Part {
 /// Maximum number of steps after the last visible character that are known.
 const MAX_TRAILING: usize = 16;
 
-/// Whether a character shows nothing: white space, or without width.
+/// Reports whether a character shows nothing: white space, or without width.
 #[inline]
 pub(crate) fn is_blank_char(c: char) -> bool {
     c.is_whitespace() || matches!(c, '\u{34f}' | '\u{200b}'..='\u{200d}' | '\u{2060}' | '\u{206a}'..='\u{206f}' | '\u{feff}')
 }
 
-/// Whether a character is part of a word. Those of scripts that are written without spaces aren't, since any two of them would be.
+/// Reports whether a character is part of a word. Those of scripts that are written without spaces aren't, since any two of them would be.
 pub(crate) fn is_word_char(c: char) -> bool {
     if c.is_ascii() {
         return c.is_ascii_alphanumeric();
@@ -79,7 +79,7 @@ fn last_of(text: &[u8]) -> Option<char> {
     std::str::from_utf8(&text[start..]).ok()?.chars().next()
 }
 
-/// Whether a text begins with a character of a word.
+/// Reports whether a text begins with a character of a word.
 pub(crate) fn begins_in_word(text: &[u8]) -> bool {
     first_char(text).map_or(false, is_word_char)
 }
@@ -161,7 +161,7 @@ impl Flow {
         self.last = (0, 0);
     }
 
-    /// Whether the last character is part of a word.
+    /// Reports whether the last character is part of a word.
     pub fn ends_in_word(&self, text: &[u8]) -> bool {
         last_char(bytes(text, self.last)).map_or(false, is_word_char)
     }

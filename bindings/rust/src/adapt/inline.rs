@@ -29,12 +29,12 @@ impl Inline {
         self.has_signs
     }
 
-    /// Whether an element has no signs.
+    /// Reports whether an element has no signs.
     pub fn drops_signs(&self) -> bool {
         self.emphasis.drops_signs()
     }
 
-    /// Whether what comes can change what is known of a link or an element with signs.
+    /// Reports whether what comes can change what is known of a link or an element with signs.
     #[inline]
     fn is_watching(&self) -> bool {
         self.links.is_open() || self.emphasis.is_watching()

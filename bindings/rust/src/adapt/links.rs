@@ -68,12 +68,12 @@ impl Links {
         Links { mode, page, base: None, open: Vec::new(), text: Vec::new(), numbers: HashMap::new(), targets: Vec::new() }
     }
 
-    /// Whether links keep their targets.
+    /// Reports whether links keep their targets.
     pub fn keeps_targets(&self) -> bool {
         self.mode.is_none()
     }
 
-    /// Whether a link is being recorded.
+    /// Reports whether a link is being recorded.
     #[inline]
     pub fn is_open(&self) -> bool {
         !self.open.is_empty()

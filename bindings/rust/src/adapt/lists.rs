@@ -16,7 +16,7 @@ pub(crate) enum Holds {
 }
 
 impl Holds {
-    /// Whether an element is recorded directly in such an element; a `div` in a `dl` dissolves there.
+    /// Reports whether an element is recorded directly in such an element; a `div` in a `dl` dissolves there.
     pub fn takes(self, element: &Element) -> bool {
         let is_html = element.space == ns!(html);
         match self {
@@ -32,7 +32,7 @@ impl Holds {
 pub(crate) struct Filled(Vec<bool>);
 
 impl Filled {
-    /// Whether a node is or has a text that isn't blank, or an element that is shown without a text. The texts of the tree are ranges
+    /// Reports whether a node is or has a text that isn't blank, or an element that is shown without a text. The texts of the tree are ranges
     /// of `text`.
     pub fn has(&mut self, tree: &Tree, text: &[u8], node: Id) -> bool {
         if self.0.is_empty() {
@@ -54,7 +54,7 @@ impl Filled {
     }
 }
 
-/// Whether a piece of a text is white space alone.
+/// Reports whether a piece of a text is white space alone.
 pub(crate) fn is_blank(text: &[u8], (start, length): Piece) -> bool {
     text[start as usize..][..length as usize].iter().all(u8::is_ascii_whitespace)
 }

@@ -36,7 +36,7 @@ impl Margins {
         self.is_in_cell = true;
     }
 
-    /// Whether the cell of a table is around.
+    /// Reports whether the cell of a table is around.
     pub fn is_in_cell(self) -> bool {
         self.is_in_cell
     }

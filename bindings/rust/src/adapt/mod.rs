@@ -51,10 +51,10 @@ use tables::Nesting;
 use tendril::StrTendril;
 use url::Url;
 
-/// What is recorded of texts.
+/// Form in which texts are recorded.
 #[derive(Clone, Copy, Debug, Default, PartialEq, Eq)]
 enum Texts {
-    /// What they are.
+    /// As they are.
     #[default]
     Own,
     /// Lines of a `pre`, which are indented.
@@ -65,7 +65,7 @@ enum Texts {
     Marked,
 }
 
-/// What is so of a place, or of the texts there, by the elements around it: bits of a number.
+/// Properties of a place, or of the texts there, by the elements around it: bits of a number.
 #[derive(Clone, Copy, Debug, Default, PartialEq, Eq)]
 struct Flags(u8);
 
@@ -87,7 +87,7 @@ impl Flags {
     /// Emphasis has no signs: in a heading, a `th`, a row that is set apart, or a `sup`.
     const UNSIGNED: Flags = Flags(64);
 
-    /// Whether one of some flags is set.
+    /// Reports whether one of some flags is set.
     #[inline(always)]
     fn has(self, flags: Flags) -> bool {
         self.0 & flags.0 != 0
@@ -126,17 +126,17 @@ impl Context {
         Context { holds: Holds::Anything, ..context }
     }
 
-    /// Whether texts aren't shown.
+    /// Reports whether texts aren't shown.
     pub fn hides_texts(&self) -> bool {
         self.flags.has(Flags::HIDDEN)
     }
 
-    /// Whether texts are those of a row that is one line, or of a cell that has nothing to show.
+    /// Reports whether texts are those of a row that is one line, or of a cell that has nothing to show.
     pub fn is_in_line(&self) -> bool {
         self.line != Line::Elsewhere
     }
 
-    /// Whether texts may not be recorded as they are.
+    /// Reports whether texts may not be recorded as they are.
     #[inline(always)]
     pub fn changes_texts(&self) -> bool {
         self.texts != Texts::Own
@@ -185,7 +185,7 @@ pub(crate) struct Adaptation {
 }
 
 impl Adaptation {
-    /// Whether a rule hides an element of these attributes, which say something of it.
+    /// Reports whether a rule hides an element of these attributes, which say something of it.
     fn is_hidden_by_rule(&self, element: &Element, attributes: &[Attr], said: &Said) -> bool {
         let is_displayed = said.style.as_ref().map_or(false, InlineStyle::is_displayed);
         self.hiding.hides(&element.name, attributes, is_displayed)
@@ -216,7 +216,7 @@ enum Href {
     Resolved(Piece),
 }
 
-/// Whether an adaptation asks for attributes of a name.
+/// Reports whether an adaptation asks for attributes of a name.
 pub(crate) fn is_asked(name: &LocalName) -> bool {
     record::is_asked(name)
         || matches!(
@@ -246,7 +246,7 @@ struct Said {
 }
 
 impl Said {
-    /// Whether nothing is shown of the element, nor of what is in it.
+    /// Reports whether nothing is shown of the element, nor of what is in it.
     fn drops(&self) -> bool {
         match &self.style {
             Some(style) => style.drops(self.is_hidden),
@@ -545,7 +545,7 @@ impl<'a> Adapter<'a> {
         }
     }
 
-    /// Whether an element that isn't an item of the list around it has something to show.
+    /// Reports whether an element that isn't an item of the list around it has something to show.
     pub fn is_loose(&mut self, text: &[u8], node: Id, element: &Element) -> bool {
         let is_html = element.space == ns!(html);
         let attributes = self.tree.attributes(element);
@@ -562,7 +562,7 @@ impl<'a> Adapter<'a> {
         !self.is_hidden(element, attributes, &said)
     }
 
-    /// Whether nothing of an element is shown, by its attributes or by a rule.
+    /// Reports whether nothing of an element is shown, by its attributes or by a rule.
     #[inline(always)]
     fn is_hidden(&self, element: &Element, attributes: &[Attr], said: &Said) -> bool {
         said.drops() || self.adaptation.hiding.has_rules() && self.adaptation.is_hidden_by_rule(element, attributes, said)
@@ -619,7 +619,7 @@ impl<'a> Adapter<'a> {
         handle
     }
 
-    /// Whether a block shows nothing but no-break spaces and white space.
+    /// Reports whether a block shows nothing but no-break spaces and white space.
     #[inline]
     fn is_spacer(&self, recorder: &Recorder, block: Id, context: Context) -> bool {
         !context.flags.has(Flags::PRE) && !context.is_in_line() && self.adaptation.contents(self.tree, &recorder.text).is_spacer(block)
@@ -1016,7 +1016,7 @@ impl<'a> Adapter<'a> {
     }
 }
 
-/// Whether an `object` names contents to show in the place of its children.
+/// Reports whether an `object` names contents to show in the place of its children.
 fn names_contents(attributes: &[Attr]) -> bool {
     attributes.iter().any(|attribute| attribute.name == local_name!("data") && !attribute.value.trim().is_empty())
 }
@@ -1035,12 +1035,12 @@ fn said_by(attributes: &[Attr], is_html: bool, mut read: impl FnMut(&StrTendril)
     said
 }
 
-/// Whether nothing is shown of an element of these attributes, nor of what is in it.
+/// Reports whether nothing is shown of an element of these attributes, nor of what is in it.
 fn is_dropped(attributes: &[Attr], is_html: bool) -> bool {
     said_by(attributes, is_html, |text| InlineStyle::of(text)).drops()
 }
 
-/// Whether an element is an image or a drawing, which has a text of its own.
+/// Reports whether an element is an image or a drawing, which has a text of its own.
 fn is_picture(element: &Element) -> bool {
     element.name == local_name!("img") || is_drawing(element)
 }

@@ -38,7 +38,7 @@ fn number_of(tree: &Tree, node: Id, name: &LocalName) -> Option<i64> {
     tree.attribute(node, name).and_then(|value| integer(value))
 }
 
-/// Whether a node is white space or a comment.
+/// Reports whether a node is white space or a comment.
 fn is_nothing(tree: &Tree, text: &[u8], node: Id) -> bool {
     match *tree.data(node) {
         Data::Text { start, length, .. } => is_blank(text, (start, length)),

@@ -103,12 +103,12 @@ impl Row {
         (self.first, self.last, self.at) = (None, None, At::End);
     }
 
-    /// Whether nothing of a cell that is shown is recorded.
+    /// Reports whether nothing of a cell that is shown is recorded.
     pub fn is_at_start(&self) -> bool {
         self.at == At::Start
     }
 
-    /// Whether all of a cell that is shown is recorded.
+    /// Reports whether all of a cell that is shown is recorded.
     pub fn is_at_end(&self) -> bool {
         self.at == At::End
     }
@@ -160,7 +160,7 @@ impl Adaptation {
 }
 
 impl<'a> Adapter<'a> {
-    /// Whether a table is drawn as one. The texts of the tree are ranges of `text`.
+    /// Reports whether a table is drawn as one. The texts of the tree are ranges of `text`.
     #[inline(never)]
     pub(super) fn is_drawn(&mut self, text: &[u8], table: Id) -> bool {
         match self.adaptation.tables {

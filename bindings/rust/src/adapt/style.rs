@@ -75,7 +75,7 @@ impl InlineStyle {
         style
     }
 
-    /// Whether the value of an attribute `style` has a word that is in every declaration which drops an element, or may be one that is
+    /// Reports whether the value of an attribute `style` has a word that is in every declaration which drops an element, or may be one that is
     /// written with escapes.
     pub fn can_drop(text: &str) -> bool {
         let text = text.as_bytes();
@@ -99,29 +99,29 @@ impl InlineStyle {
         }
     }
 
-    /// Whether nothing of the element is shown, nor of what is in it. `is_hidden` says whether that is so without the style.
+    /// Reports whether nothing of the element is shown, nor of what is in it. `is_hidden` says whether that is so without the style.
     pub fn drops(&self, is_hidden: bool) -> bool {
         let is = |declared: Option<Declared<bool>>| declared.map_or(false, |declared| declared.value);
         let is_displayed = self.is_displayed.map_or(!is_hidden, |declared| declared.value);
         !is_displayed || is(self.is_hidden_in_word) || is(self.has_no_height) && is(self.is_clipped)
     }
 
-    /// Whether the element is displayed, whatever rules say that aren't important.
+    /// Reports whether the element is displayed, whatever rules say that aren't important.
     pub fn is_displayed(&self) -> bool {
         self.is_displayed.map_or(false, |declared| declared.value)
     }
 
-    /// Whether something is declared that rules of a sheet can declare too, of colours only if they are annotated.
+    /// Reports whether something is declared that rules of a sheet can declare too, of colours only if they are annotated.
     pub fn has_rules(&self, has_colours: bool) -> bool {
         self.white_space.is_some() || has_colours && (self.colour.is_some() || self.background.is_some())
     }
 
-    /// Whether the texts in the element are visible; `None` where nothing is declared.
+    /// Reports whether the texts in the element are visible; `None` where nothing is declared.
     pub fn is_visible(&self) -> Option<bool> {
         self.is_visible.map(|declared| declared.value)
     }
 
-    /// Whether the texts in the element have a size above 0; `None` where nothing is declared.
+    /// Reports whether the texts in the element have a size above 0; `None` where nothing is declared.
     pub fn has_size(&self) -> Option<bool> {
         self.has_size.map(|declared| declared.value)
     }
@@ -191,7 +191,7 @@ fn is_zero_length<'i>(input: &mut Parser<'i, '_>) -> Read<'i, bool> {
     }
 }
 
-/// Whether a length of this unit is a part of the size around it, which may be 0.
+/// Reports whether a length of this unit is a part of the size around it, which may be 0.
 fn is_relative(unit: &str) -> bool {
     ["em", "ex", "ch", "cap", "ic", "lh"].iter().any(|known| unit.eq_ignore_ascii_case(known))
 }

@@ -9,7 +9,7 @@ use html5ever::{local_name, namespace_url, ns, LocalName};
 pub(super) struct Nesting(Vec<bool>);
 
 impl Nesting {
-    /// Whether a table has another one in it.
+    /// Reports whether a table has another one in it.
     pub fn has_inner(&mut self, tree: &Tree, table: Id) -> bool {
         if self.0.is_empty() {
             self.0 = vec![false; tree.node_count()];
@@ -37,19 +37,19 @@ fn is_table(tree: &Tree, node: Id) -> bool {
     matches!(tree.element(node), Some(Element { name: local_name!("table"), space: ns!(html), .. }))
 }
 
-/// Whether a `role` says that a table lays out a page.
+/// Reports whether a `role` says that a table lays out a page.
 fn is_presentation(role: &str) -> bool {
     let first = role.split_ascii_whitespace().next().unwrap_or_default();
     first.eq_ignore_ascii_case("presentation") || first.eq_ignore_ascii_case("none")
 }
 
-/// Whether a `summary` says that a table leads through pages, as DocBook's do.
+/// Reports whether a `summary` says that a table leads through pages, as DocBook's do.
 fn is_navigation(summary: &str) -> bool {
     const WORD: &str = "navigation";
     summary.trim_start().get(..WORD.len()).map_or(false, |first| first.eq_ignore_ascii_case(WORD))
 }
 
-/// Whether a `border` is above 0: one that doesn't begin with a number is 1.
+/// Reports whether a `border` is above 0: one that doesn't begin with a number is 1.
 fn is_border(border: &str) -> bool {
     let border = border.trim_start_matches(|c: char| c.is_ascii_whitespace());
     let digits = border.strip_prefix('+').unwrap_or(border).bytes().take_while(u8::is_ascii_digit);
@@ -95,7 +95,7 @@ impl Seen {
     }
 }
 
-/// Whether a table without others in it has data in columns.
+/// Reports whether a table without others in it has data in columns.
 pub(super) fn is_data(contents: Contents<'_>, table: Id) -> bool {
     let tree = contents.tree;
     let says = |name: LocalName, is_said: fn(&str) -> bool| tree.attribute(table, &name).map_or(false, |value| is_said(value));

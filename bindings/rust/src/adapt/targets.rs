@@ -15,7 +15,7 @@ pub(crate) fn written(href: &str) -> String {
     }
 }
 
-/// Whether a target that is written leads somewhere else: it isn't empty, a place in the page or a script.
+/// Reports whether a target that is written leads somewhere else: it isn't empty, a place in the page or a script.
 pub(crate) fn leads_out(written: &str) -> bool {
     let bare = written.trim_start_matches(|c| c <= ' ');
     let is_script = scheme(bare).map_or(false, |scheme| scheme.eq_ignore_ascii_case("javascript"));
@@ -26,7 +26,7 @@ fn without_slash(target: &str) -> &str {
     target.strip_suffix('/').unwrap_or(target)
 }
 
-/// Whether a text is a target, or one without its scheme; a slash at the end doesn't count.
+/// Reports whether a text is a target, or one without its scheme; a slash at the end doesn't count.
 pub(crate) fn is_told_by(text: &str, target: &str) -> bool {
     const SCHEMES: [&str; 3] = ["http://", "https://", "mailto:"];
     let (text, target) = (without_slash(text), without_slash(target));
@@ -47,7 +47,7 @@ pub(crate) fn base(tree: &Tree, page: Option<&Url>) -> Option<Url> {
     own.filter(|own| own.as_str().len() <= MAX_BASE).or_else(|| page.cloned())
 }
 
-/// Whether a target has a scheme, and so isn't resolved.
+/// Reports whether a target has a scheme, and so isn't resolved.
 pub(crate) fn has_scheme(target: &str) -> bool {
     scheme(target).is_some()
 }

@@ -77,7 +77,7 @@ impl Fault {
         }
     }
 
-    /// Whether it only says that who reads the output has enough of it.
+    /// Reports whether it only says that who reads the output has enough of it.
     fn is_enough(&self) -> bool {
         matches!(self, Fault::Write(None, error) if error.kind() == io::ErrorKind::BrokenPipe)
     }
@@ -125,7 +125,7 @@ fn input(file: &OsStr) -> io::Result<Box<dyn Read>> {
     }
 }
 
-/// Whether colours and links are written.
+/// Reports whether colours and links are written.
 fn is_coloured(choices: &Choices) -> bool {
     match choices.colours {
         Colours::Always => true,

@@ -2,12 +2,12 @@
 
 use html_render::RichAnnotation;
 
-/// Whether standard output is a terminal.
+/// Reports whether standard output is a terminal.
 pub fn is_output() -> bool {
     rustix::termios::isatty(std::io::stdout())
 }
 
-/// Whether `NO_COLOR` is unset or empty.
+/// Reports whether `NO_COLOR` is unset or empty.
 pub fn takes_colours() -> bool {
     std::env::var_os("NO_COLOR").map_or(true, |value| value.is_empty())
 }
@@ -20,7 +20,7 @@ pub fn columns() -> usize {
     }
 }
 
-/// Whether a target is one that a terminal may open: other schemes can start programs.
+/// Reports whether a target is one that a terminal may open: other schemes can start programs.
 fn can_be_opened(target: &str) -> bool {
     let scheme = target.split_once(':').map_or("", |(scheme, _)| scheme);
     ["http", "https", "mailto"].iter().any(|known| scheme.eq_ignore_ascii_case(known)) && !target.chars().any(char::is_control)
