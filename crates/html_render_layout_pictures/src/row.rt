@@ -306,25 +306,22 @@ impl<T: Tag> Frame<T> {
         Ok(())
     }
 
-    /// The line of this number over the blank text of a row's first cell and the others, with room for `room` bytes.
-    fn line_over_blank<M: Copy>(
+    /// Appends the row's line of this number, over the blank text of its first cell and the others.
+    fn put_line_over<M: Copy>(
         &self,
-        alloc: Global,
+        line: &mut Line<T, M>,
         text: &str,
         first: &RowCell<T, M>,
         others: &[RowCell<T, M>],
         number: usize,
-        room: usize,
-    ) -> Result<Line<T, M>, AllocError>
+    ) -> Result<(), AllocError>
         requires { chars text.now ≡ replicate first.now.width 0x20 ++ blank_cells self.now.borders others.now }
-        ensures { IfOk result (λ l. l ≡ row_line self.now number (first.now ∷ others.now)) }
+        ensures { OnOk result (line.new ≡ line.old ++ row_line self.now number (first.now ∷ others.now)) }
     {
-        let mut line = Line::with_capacity(alloc, room)?;
         let mut blank = Blank::new(text);
-        self.put_over(&mut line, &mut blank, first, number)?;
-        self.put_all_next(&mut line, &mut blank, others, number)?;
-        blank.put(&mut line, self.tag)?;
-        Ok(line)
+        self.put_over(line, &mut blank, first, number)?;
+        self.put_all_next(line, &mut blank, others, number)?;
+        blank.put(line, self.tag)
     }
 
     /// The blank text of a row's first cell and the others.
@@ -357,7 +354,9 @@ impl<T: Tag> Frame<T> {
         let text = self.blank_text(alloc, first, others)?;
         let mut lines = Vec::with_capacity(alloc, height)?;
         for number in 0..height {
-            lines.push(self.line_over_blank(alloc, text.as_str(), first, others, number, room)?)?;
+            let mut line = Line::with_capacity(alloc, room)?;
+            self.put_line_over(&mut line, text.as_str(), first, others, number)?;
+            lines.push(line)?;
         }
         Ok(lines)
     }

@@ -343,27 +343,24 @@ fn unstyled_outline(
     })
 }
 
-/// What becomes of an element whose style is computed, its children aside.
+/// Returns the style of an element of its own: what the rules state of it, and for `pre` that white space is preserved.
 #[inline(never)]
-fn computed_outline(
+fn own_style(
     alloc: Global,
     rules: &[StyleRule],
     index: &RuleIndex,
-    mapping: Mapping,
-    mark: Option<NodeText>,
     name: &QualName,
     attributes: &[Attribute],
-) -> Result<Outline, Error>
+) -> Result<ComputedStyle, Error>
     requires { Finds index.now (map rule_of rules.now) }
-    ensures ok { IfOk result (λ outline. outline ≡ styled_outline mapping mark
-        (own_style (map rule_of rules.now) (name_of name.now) (map property_of attributes.now))) }
+    ensures ok { IfOk result (λ style. style_of style ≡ own_style (map rule_of rules.now) (name_of name.now) (map property_of attributes.now)) }
     ensures err { OnlyOutOfMemory result }
 {
     let mut style = index.computed_style(alloc, rules, name.local.as_str(), attributes)?;
     if is_preformatted(name) {
         preformat(&mut style);
     }
-    styled_outline(alloc, mapping, mark, style)
+    Ok(style)
 }
 
 /// What becomes of an element that may have a mark or a style, its children aside. Its style is computed only where it counts.
@@ -383,7 +380,8 @@ fn attributed_outline(
 {
     let mark = mark_of(alloc, name, attributes)?;
     if is_preformatted(name) || index.may_select(name.local.as_str(), attributes) {
-        return computed_outline(alloc, rules, index, mapping, mark, name, attributes);
+        let style = own_style(alloc, rules, index, name, attributes)?;
+        return styled_outline(alloc, mapping, mark, style);
     }
     unstyled_outline(alloc, mapping, mark)
 }
