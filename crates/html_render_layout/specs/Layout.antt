@@ -34,6 +34,7 @@ use Rattle.html_render_layout_blocks.specs.Block.{empty_block}
 use Rattle.html_render_layout_blocks.specs.Definition as definition
 use Rattle.html_render_layout_blocks.specs.Definition.{definition as defined_parts, DefinedBlock}
 use Rattle.html_render_layout_estimates.specs.Estimates.{prefix_columns, number_columns, measured}
+use Rattle.html_render_layout_estimates.specs.Words.{with_words}
 use Rattle.html_render_layout.specs.declared.nesting.OwnBlock.{OwnBlock}
 use Rattle.html_render_layout.specs.declared.nesting.OwnBlock.TheVariants.{Shared, Prefixed, Indented}
 use Rattle.html_render_layout.specs.declared.state.LayoutState.{LayoutState}
@@ -304,7 +305,7 @@ module _ {S A K T B : Type 0} (m : Algebra S A K T B) where
 abbrev pub Defined : Type 0 → Type 0 → Type 0
 Defined S A = LayoutState S (Unit {0}) (List A) (DefinedBlock (List A) ℕ)
 
--- means of the definition's layout: an annotation is added on top of the stack that is the tag
+-- algebra of the definition's layout: a tag is a stack of annotations, and an annotation is added on top of it
 abbrev pub by_stacks : {S A : Type 0} → Decoration S A → Algebra S A (Unit {0}) (List A) (DefinedBlock (List A) ℕ)
 by_stacks d = record { decoration = d; push = λ k stack a. (k, stack ++ a ∷ []); operations = definition.operations }
 
@@ -335,9 +336,10 @@ module _ {S A : Type 0} (d : Decoration S A) (settings : LayoutSettings) where
       begin_with settings (d.subblock decorator) tt [] (empty_block defined_parts block padding)
 
   -- trees with the estimate of each node; prefixes are those of a sub-block of the document's block, and the minimum width
-  -- of a text is `min_wrap_width`, or its own columns if these are fewer
+  -- of a text is `min_wrap_width`, or its own columns if these are fewer. Under `whole_words` the columns of tables have their
+  -- longest words
   abbrev pub estimated : S → Forest RenderNode → Forest RenderNode
-  estimated decorator t = measured d (d.subblock (d.subblock decorator)) settings t
+  estimated decorator t = with_words settings (measured d (d.subblock (d.subblock decorator)) settings t)
 
   -- THE LAYOUT of a render tree in a block: a view of the state after it; none where it is too narrow, as at width 0
   abbrev pub layout : {L : Type 0} → (Defined S A → L) → Forest RenderNode → S → BlockSetting → Option L

@@ -24,7 +24,7 @@ tabled stacks tag a = (stacks ++ (stack_at stacks tag ++ a ∷ []) ∷ [], lengt
 abbrev pub untagged : {K A : Type 0} → K → Unit {0} → A → K × Unit {0}
 untagged k tag a = (k, tag)
 
--- means of the code's layout, by the decorators and by how an annotation is added to a tag
+-- algebra of the code's layout: push adds an annotation to a tag
 abbrev pub by_tags : {S A K T : Type 0} → Decoration S A → (K → T → A → K × T) → Algebra S A K T (MachineBlock T ℕ)
 by_tags d push = record { decoration = d; push = push; operations = machine.operations }
 

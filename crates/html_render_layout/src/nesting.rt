@@ -1,4 +1,5 @@
 //! Sub-blocks: beginning one, and appending its lines to the outer block.
+#![tactic(auto, using(html_render_dom_values::specs::laws::Outcome::refusals))]
 
 ghost use Rattle.std.specs.Prelude.{◌≡◌, Some, OnOk, IfOk, IfErr};
 ghost use Rattle.std.specs.Str.{chars};
@@ -51,7 +52,6 @@ pub enum OwnBlock {
 /// # Errors
 ///
 /// `TooNarrow` if overflow is off and the prefix leaves fewer than `min_width` columns. `OutOfMemory`.
-#[tactic(auto, using(html_render_dom_values::specs::laws::Outcome::refusals))]
 fn nest<D: TextDecorator, G: Tagging<D::Annotation>>(
     alloc: Global,
     prefix: Text,
@@ -77,7 +77,6 @@ fn nest<D: TextDecorator, G: Tagging<D::Annotation>>(
 
 /// Begins the sub-block of a node, if it has one, and returns the block that this suspends.
 #[inline(never)]
-#[tactic(auto, using(html_render_dom_values::specs::laws::Outcome::refusals))]
 fn begin_own<D: TextDecorator, G: Tagging<D::Annotation>>(
     alloc: Global,
     block: OwnBlock,
@@ -152,7 +151,6 @@ fn append_behind<T: Tag>(
 ///
 /// `TooNarrow` if overflow is off and a character of either block's open paragraph is wider than a line, or a line with its
 /// prefix is wider than the outer block. `OutOfMemory`.
-#[tactic(auto, using(html_render_dom_values::specs::laws::Outcome::refusals))]
 pub fn close_indent<D: TextDecorator, G: Tagging<D::Annotation>>(
     alloc: Global,
     outer: SuspendedBlock<D, G::Tag, BoxedBlock<G::Tag, usize>>,
@@ -181,7 +179,6 @@ pub fn close_indent<D: TextDecorator, G: Tagging<D::Annotation>>(
 ///
 /// `TooNarrow` if overflow is off and a character of either block's open paragraph is wider than a line, or a line with its
 /// prefix is wider than the outer block. `OutOfMemory`.
-#[tactic(auto, using(html_render_dom_values::specs::laws::Outcome::refusals))]
 pub fn close_quote<D: TextDecorator, G: Tagging<D::Annotation>>(
     outer: SuspendedBlock<D, G::Tag, BoxedBlock<G::Tag, usize>>,
     state: &mut State<D, G>,
@@ -192,11 +189,11 @@ pub fn close_quote<D: TextDecorator, G: Tagging<D::Annotation>>(
     let outer = outer.into_outer();
     let prefix = outer.prefix;
     let sub = state.block.replace(outer.block);
-    state.block.held.start_block()?;
+    state.block.as_mut().start_block()?;
     state
         .block
         .append(sub, outer.tag, prefix.as_str(), prefix.as_str())?;
-    state.block.held.end_block();
+    state.block.as_mut().end_block();
     state.decorator = outer.decorator;
     Ok(())
 }

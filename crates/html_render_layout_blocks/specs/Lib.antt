@@ -9,6 +9,8 @@ pub mod Block
 -- The definition on whole lists, and the machine that is fed character by character.
 pub mod Definition
 pub mod Machine
+-- What a current block ends as, once a reference to its block does.
+pub mod Lending
 -- Sequences of operations on a block.
 pub mod Edits
 -- Visible characters.

@@ -1,9 +1,11 @@
 //! Boxed blocks, so that moving one is cheap, and the current block with a pool of finished ones.
 
 ghost use Rattle.std.specs.Prelude.{◌≡◌, Some, OnOk, IfOk, IfErr, map, string_bytes};
+ghost use Rattle.std.specs.Borrow.{sem};
 ghost use Rattle.std.specs.Str.{chars};
 ghost use Rattle.html_render_dom_values.specs.Outcome.{OnlyOutOfMemory, Refuses};
 ghost use Rattle.html_render_layout_blocks.specs.Block as block;
+ghost use Rattle.html_render_layout_blocks.specs.Lending.{lends_block};
 ghost use Rattle.html_render_layout_blocks.specs.Machine as machine;
 ghost use Rattle.html_render_layout_blocks.specs.Machine.{machine};
 
@@ -47,7 +49,7 @@ const POOL_MAX: usize = 16;
 #[derive(Drop)]
 pub struct CurrentBlock<T, M> {
     /// Current block.
-    pub held: Box<Block<T, M>>,
+    held: Box<Block<T, M>>,
     /// Finished blocks, pooled for reuse.
     spare: Vec<Box<Block<T, M>>>,
 }
@@ -75,6 +77,15 @@ impl<T: Tag, M: Copy> CurrentBlock<T, M> {
             held,
             spare: Vec::new(alloc),
         })
+    }
+
+    /// Returns the current block, to be changed.
+    #[inline]
+    pub fn as_mut(&mut self) -> &mut Block<T, M>
+        ensures* writes_back { sem 𝓛 (lends_block T.row M.row self.entry result) }
+        ensures value { result.now ≡ self.old }
+    {
+        self.held.as_mut()
     }
 
     /// Makes `block` the current one. Returns the previous one.

@@ -54,7 +54,7 @@ with_other s v =
       names = s.names;
     }
 
--- m and n are the means of the two sides, with one decoration. Tags relates tags and Blocks relates blocks, with the stacks
+-- m and n are the algebras of the two sides, with one decoration. Tags relates tags and Blocks relates blocks, with the stacks
 -- of both sides; each block has an index in I. Later relates stacks to later ones, with which tags and blocks stay related.
 -- N holds if both sides refuse, M if only the first does.
 module _ {S A K T B L U C I : Type 0} (m : Algebra S A K T B) (pull : L → U → A → L × U) (p : Operations C U ℕ) (N M : Type 0) (weak : M → N)
@@ -67,7 +67,7 @@ module _ {S A K T B L U C I : Type 0} (m : Algebra S A K T B) (pull : L → U �
     (tag_pushed : (k : K) (l : L) (t : T) (u : U) (a : A) → Tags (k, l) t u →
     Tags ((m.push k t a).0, (pull l u a).0) (m.push k t a).1 (pull l u a).1)
     (h : Relates m.operations p N M Later Tags Blocks) where
-  -- means of the other side
+  -- algebra of the other side
   abbrev n : Algebra S A L U C
   n = record { decoration = m.decoration; push = pull; operations = p }
 

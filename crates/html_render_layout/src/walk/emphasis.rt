@@ -1,4 +1,5 @@
 //! Decorated parts of a text: emphasis, struck-out parts and superscripts; and [`begin`], which links and images use too.
+#![tactic(auto, using(html_render_dom_values::specs::laws::Outcome::refusals))]
 
 ghost use Rattle.std.specs.Prelude.{◌≡◌, Some, OnOk, IfOk, IfErr, string_bytes};
 ghost use Rattle.std.specs.Str.{chars};
@@ -56,7 +57,6 @@ pub fn end_of<D: TextDecorator>(
 /// # Errors
 ///
 /// `TooNarrow` and `OutOfMemory`, as for [`add_text`].
-#[tactic(auto, using(html_render_dom_values::specs::laws::Outcome::refusals))]
 pub fn begin<D: TextDecorator, G: Tagging<D::Annotation>>(
     alloc: Global,
     start: (String, D::Annotation),
@@ -77,7 +77,6 @@ pub fn begin<D: TextDecorator, G: Tagging<D::Annotation>>(
 /// # Errors
 ///
 /// `TooNarrow` and `OutOfMemory`, as for [`add_text`].
-#[tactic(auto, using(html_render_dom_values::specs::laws::Outcome::refusals))]
 pub fn begin_emphasis<D: TextDecorator, G: Tagging<D::Annotation>>(
     alloc: Global,
     emphasis: Emphasis,
@@ -95,7 +94,6 @@ pub fn begin_emphasis<D: TextDecorator, G: Tagging<D::Annotation>>(
 /// # Errors
 ///
 /// `TooNarrow` and `OutOfMemory`, as for [`add_text`].
-#[tactic(auto, using(html_render_dom_values::specs::laws::Outcome::refusals))]
 pub fn begin_strikeout<D: TextDecorator, G: Tagging<D::Annotation>>(
     alloc: Global,
     state: &mut State<D, G>,
@@ -112,7 +110,6 @@ pub fn begin_strikeout<D: TextDecorator, G: Tagging<D::Annotation>>(
 /// # Errors
 ///
 /// `TooNarrow` and `OutOfMemory`, as for [`add_text`].
-#[tactic(auto, using(html_render_dom_values::specs::laws::Outcome::refusals))]
 pub fn begin_superscript<D: TextDecorator, G: Tagging<D::Annotation>>(
     alloc: Global,
     state: &mut State<D, G>,

@@ -1,4 +1,5 @@
 //! Links with their numbers, and fragment marks.
+#![tactic(auto, using(html_render_dom_values::specs::laws::Outcome::refusals))]
 
 ghost use Rattle.std.specs.Prelude.{◌≡◌, ◌∷◌, Some, OnOk, IfErr};
 ghost use Rattle.html_render_dom_values.specs.Outcome.{OnlyOutOfMemory, Refuses};
@@ -28,7 +29,7 @@ pub fn add_mark<D: TextDecorator, G: Tagging<D::Annotation>>(
     ensures ok { OnOk result (perform (by_tags D.decoration G.annotated) state.old (AddMark name.now) state.old ≡ Some state.new) }
     ensures err { OnlyOutOfMemory result }
 {
-    state.block.held.add_mark(state.names.len())?;
+    state.block.as_mut().add_mark(state.names.len())?;
     state.names.push(name)
 }
 
@@ -37,7 +38,6 @@ pub fn add_mark<D: TextDecorator, G: Tagging<D::Annotation>>(
 /// # Errors
 ///
 /// `TooNarrow` and `OutOfMemory`, as for [`add_text`].
-#[tactic(auto, using(html_render_dom_values::specs::laws::Outcome::refusals))]
 pub fn begin_link<D: TextDecorator, G: Tagging<D::Annotation>>(
     alloc: Global,
     target: &str,
@@ -54,7 +54,6 @@ pub fn begin_link<D: TextDecorator, G: Tagging<D::Annotation>>(
 }
 
 /// Adds the number of a link in brackets, if links have footnotes.
-#[tactic(auto, using(html_render_dom_values::specs::laws::Outcome::refusals))]
 fn add_number<D: TextDecorator, G: Tagging<D::Annotation>>(
     alloc: Global,
     number: usize,
@@ -76,7 +75,6 @@ fn add_number<D: TextDecorator, G: Tagging<D::Annotation>>(
 /// # Errors
 ///
 /// `TooNarrow` and `OutOfMemory`, as for [`add_text`].
-#[tactic(auto, using(html_render_dom_values::specs::laws::Outcome::refusals))]
 pub fn close_link<D: TextDecorator, G: Tagging<D::Annotation>>(
     alloc: Global,
     text: TextContext<G::Tag>,

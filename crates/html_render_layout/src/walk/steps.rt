@@ -1,4 +1,5 @@
 //! Opening and closing of nodes, kind by kind.
+#![tactic(auto, using(html_render_dom_values::specs::laws::Outcome::refusals))]
 
 ghost use Rattle.std.specs.Prelude.{◌≡◌, ◌+◌, ◌-◌, ◌++◌, ◌∷◌, [], length, Some, OnOk, IfOk, IfErr, option_copied};
 ghost use Rattle.html_render_dom_values.specs.Outcome.{OnlyOutOfMemory, Refuses};
@@ -82,7 +83,6 @@ fn open_numbers<D: TextDecorator, G: Tagging<D::Annotation>>(
 }
 
 /// Begins a term of a list of descriptions: a new line, and then emphasis.
-#[tactic(auto, using(html_render_dom_values::specs::laws::Outcome::refusals))]
 fn begin_term<D: TextDecorator, G: Tagging<D::Annotation>>(
     alloc: Global,
     state: &mut State<D, G>,
@@ -90,12 +90,11 @@ fn begin_term<D: TextDecorator, G: Tagging<D::Annotation>>(
     ensures ok { OnOk result (perform_all (by_tags D.decoration G.annotated) state.old (NewLine ∷ start D.decoration D.decoration.em) state.old ≡ Some state.new) }
     ensures err { IfErr result (λ e. Refuses e (perform_all (by_tags D.decoration G.annotated) state.old (NewLine ∷ start D.decoration D.decoration.em) state.old)) }
 {
-    state.block.held.new_line()?;
+    state.block.as_mut().new_line()?;
     begin_emphasis(alloc, Emphasis::Em, state)
 }
 
 /// Begins a struck-out part. If `unicode_strikeout` is on, U+0336 then follows the characters of texts.
-#[tactic(auto, using(html_render_dom_values::specs::laws::Outcome::refusals))]
 fn strike<D: TextDecorator, G: Tagging<D::Annotation>>(
     alloc: Global,
     state: &mut State<D, G>,
@@ -111,7 +110,6 @@ fn strike<D: TextDecorator, G: Tagging<D::Annotation>>(
 }
 
 /// Opens a superscript: adds one of digits whole and returns `None`, and begins any other one.
-#[tactic(auto, using(html_render_dom_values::specs::laws::Outcome::refusals))]
 fn open_superscript<D: TextDecorator, G: Tagging<D::Annotation>>(
     alloc: Global,
     own: Suspended<D, G::Tag, BoxedBlock<G::Tag, usize>>,
@@ -137,7 +135,6 @@ fn open_superscript<D: TextDecorator, G: Tagging<D::Annotation>>(
 }
 
 /// Opens a link. Returns its closing action.
-#[tactic(auto, using(html_render_dom_values::specs::laws::Outcome::refusals))]
 fn open_link<D: TextDecorator, G: Tagging<D::Annotation>>(
     alloc: Global,
     target: &str,
@@ -156,7 +153,6 @@ fn open_link<D: TextDecorator, G: Tagging<D::Annotation>>(
 
 /// Opens a table, where `own` is the block that it suspends. Returns its closing action.
 #[inline(never)]
-#[tactic(auto, using(html_render_dom_values::specs::laws::Outcome::refusals))]
 fn open_table<D: TextDecorator, G: Tagging<D::Annotation>>(
     own: Suspended<D, G::Tag, BoxedBlock<G::Tag, usize>>,
     grid: &Grid,
@@ -181,7 +177,7 @@ fn open_row<D: TextDecorator, G: Tagging<D::Annotation>>(
     ensures kept { IfOk result (λ c. c ≡ Some CloseAction.EndRow) }
     ensures err { OnlyOutOfMemory result }
 {
-    state.block.held.begin_row()?;
+    state.block.as_mut().begin_row()?;
     Ok(Some(CloseAction::EndRow))
 }
 
@@ -217,7 +213,6 @@ fn block_of<D: TextDecorator, G: Tagging<D::Annotation>>(
 
 /// Opens a node of a kind in its block, where `own` is the block that this suspends. Returns its closing action. Returns
 /// `None` if the node is finished: the state is then the one after it, and its children are skipped.
-#[tactic(auto, using(html_render_dom_values::specs::laws::Outcome::refusals))]
 fn open_kind<D: TextDecorator, G: Tagging<D::Annotation>>(
     alloc: Global,
     own: Suspended<D, G::Tag, BoxedBlock<G::Tag, usize>>,
@@ -245,15 +240,15 @@ fn open_kind<D: TextDecorator, G: Tagging<D::Annotation>>(
         NodeKind::Table(grid) => open_table(own, grid, state),
         NodeKind::TableRow => open_row(state),
         NodeKind::Break => {
-            state.block.held.new_line_hard()?;
+            state.block.as_mut().new_line_hard()?;
             Ok(None)
         }
         NodeKind::Block | NodeKind::ListItem => {
-            state.block.held.start_block()?;
+            state.block.as_mut().start_block()?;
             Ok(Some(CloseAction::EndBlock))
         }
         NodeKind::Div => {
-            state.block.held.new_line()?;
+            state.block.as_mut().new_line()?;
             Ok(Some(CloseAction::NewLine))
         }
         NodeKind::Emphasis(emphasis) => {
@@ -263,7 +258,7 @@ fn open_kind<D: TextDecorator, G: Tagging<D::Annotation>>(
         NodeKind::Ul => open_bullets::<D, G>(alloc, &state.decorator, estimate),
         NodeKind::Ol(first) => open_numbers::<D, G>(alloc, &state.decorator, *first, estimate),
         NodeKind::Dl => {
-            state.block.held.start_block()?;
+            state.block.as_mut().start_block()?;
             Ok(Some(CloseAction::Nothing(own)))
         }
         NodeKind::Dt => {
@@ -299,7 +294,6 @@ fn open_kind<D: TextDecorator, G: Tagging<D::Annotation>>(
 
 /// Resumes a suspended block, if there is one.
 #[inline(never)]
-#[tactic(auto, using(html_render_dom_values::specs::laws::Outcome::refusals))]
 fn resume_block<D: TextDecorator, G: Tagging<D::Annotation>>(
     alloc: Global,
     interrupted: Suspended<D, G::Tag, BoxedBlock<G::Tag, usize>>,
@@ -333,7 +327,6 @@ fn resume_outer<D: TextDecorator, G: Tagging<D::Annotation>>(
 }
 
 /// Does the closing action of a kind of node.
-#[tactic(auto, using(html_render_dom_values::specs::laws::Outcome::refusals))]
 fn close_kind<D: TextDecorator, G: Tagging<D::Annotation>>(
     alloc: Global,
     closing: KindKept<D, G>,
@@ -346,11 +339,11 @@ fn close_kind<D: TextDecorator, G: Tagging<D::Annotation>>(
         CloseAction::Nothing(own) => resume_outer(alloc, own, state),
         CloseAction::Bullets { .. } | CloseAction::Numbers { .. } => Ok(()),
         CloseAction::EndBlock => {
-            state.block.held.end_block();
+            state.block.as_mut().end_block();
             Ok(())
         }
         CloseAction::NewLine => {
-            state.block.held.new_line()?;
+            state.block.as_mut().new_line()?;
             Ok(())
         }
         CloseAction::EndEmphasis(emphasis) => {
@@ -372,7 +365,7 @@ fn close_kind<D: TextDecorator, G: Tagging<D::Annotation>>(
             resume_outer(alloc, own, state)
         }
         CloseAction::EndRow => {
-            state.block.held.end_row()?;
+            state.block.as_mut().end_row()?;
             Ok(())
         }
     }
@@ -381,7 +374,6 @@ fn close_kind<D: TextDecorator, G: Tagging<D::Annotation>>(
 /// Opens a node in its style and its block, where `item` is the block that it suspends as an item or as a cell. Returns its
 /// pending work. Returns `None` if the node is finished: the state is then the one after it, and its children are skipped.
 #[inline]
-#[tactic(auto, using(html_render_dom_values::specs::laws::Outcome::refusals))]
 fn open_in<D: TextDecorator, G: Tagging<D::Annotation>>(
     alloc: Global,
     item: Suspended<D, G::Tag, BoxedBlock<G::Tag, usize>>,
@@ -411,7 +403,6 @@ fn open_in<D: TextDecorator, G: Tagging<D::Annotation>>(
 /// Opens a text in its style, in the block of its siblings. Returns `None`: a text has no pending work, and the state is the
 /// one after it.
 #[inline(always)]
-#[tactic(auto, using(html_render_dom_values::specs::laws::Outcome::refusals))]
 fn open_text<D: TextDecorator, G: Tagging<D::Annotation>>(
     alloc: Global,
     text: &str,
@@ -429,7 +420,6 @@ fn open_text<D: TextDecorator, G: Tagging<D::Annotation>>(
 
 /// Opens a node in the block of its siblings. Most nodes are texts, which take a shorter path.
 #[inline(always)]
-#[tactic(auto, using(html_render_dom_values::specs::laws::Outcome::refusals))]
 fn open_shared<D: TextDecorator, G: Tagging<D::Annotation>>(
     alloc: Global,
     node: &RenderNode,
@@ -462,7 +452,6 @@ fn next_cell<D: TextDecorator, G: Tagging<D::Annotation>>(
 
 /// Opens a node as the next cell of a row. If the cell is skipped, so are all nodes in it.
 #[inline(never)]
-#[tactic(auto, using(html_render_dom_values::specs::laws::Outcome::refusals))]
 fn open_cell<D: TextDecorator, G: Tagging<D::Annotation>>(
     alloc: Global,
     node: &RenderNode,
@@ -477,7 +466,7 @@ fn open_cell<D: TextDecorator, G: Tagging<D::Annotation>>(
 {
     let next = next_cell(state)?;
     let Some(cell) = next else {
-        state.block.held.skip_cell()?;
+        state.block.as_mut().skip_cell()?;
         return Ok(None);
     };
     let outer = begin_cell(alloc, cell, state)?;
@@ -488,7 +477,6 @@ fn open_cell<D: TextDecorator, G: Tagging<D::Annotation>>(
 ///
 /// Few nodes are children of lists, so this is a function of its own.
 #[inline(never)]
-#[tactic(auto, using(html_render_dom_values::specs::laws::Outcome::refusals))]
 fn open_listed<D: TextDecorator, G: Tagging<D::Annotation>>(
     alloc: Global,
     node: &RenderNode,
@@ -517,7 +505,6 @@ fn open_listed<D: TextDecorator, G: Tagging<D::Annotation>>(
 ///
 /// `TooNarrow` if overflow is off and a character of a paragraph that is flushed is wider than a line, a prefix leaves too
 /// few columns, or a line with its prefix is wider than its block. `OutOfMemory`.
-#[tactic(auto, using(html_render_dom_values::specs::laws::Outcome::refusals))]
 pub fn open<D: TextDecorator, G: Tagging<D::Annotation>>(
     alloc: Global,
     node: &RenderNode,
@@ -549,7 +536,6 @@ pub fn open<D: TextDecorator, G: Tagging<D::Annotation>>(
 ///
 /// `TooNarrow` if overflow is off and a character of a paragraph that is flushed is wider than a line, or a line with its
 /// prefix is wider than its block. `OutOfMemory`.
-#[tactic(auto, using(html_render_dom_values::specs::laws::Outcome::refusals))]
 pub fn close<D: TextDecorator, G: Tagging<D::Annotation>>(
     alloc: Global,
     closing: Kept<D, G>,

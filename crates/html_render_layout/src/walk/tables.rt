@@ -1,4 +1,5 @@
 //! Tables: beginning and ending one, with its fences, and the blocks of its cells.
+#![tactic(auto, using(html_render_dom_values::specs::laws::Outcome::refusals))]
 
 ghost use Rattle.std.specs.Prelude.{◌≡◌, [], ◌∷◌, Some, OnOk, IfOk, IfErr, codes};
 ghost use Rattle.std.specs.Str.{chars};
@@ -39,7 +40,6 @@ fn fence_style<T: Copy>(tag: T) -> TextStyle<T>
 }
 
 /// Adds a fence, and begins a new line.
-#[tactic(auto, using(html_render_dom_values::specs::laws::Outcome::refusals))]
 fn write_fence<D: TextDecorator, G: Tagging<D::Annotation>>(
     state: &mut State<D, G>,
 ) -> Result<(), Error>
@@ -47,13 +47,12 @@ fn write_fence<D: TextDecorator, G: Tagging<D::Annotation>>(
     ensures err { IfErr result (λ e. Refuses e (fence (by_tags D.decoration G.annotated) state.old)) }
 {
     let style = fence_style(state.blank);
-    state.block.held.add_inline_text(fence_text(), style)?;
-    state.block.held.new_line()?;
+    state.block.as_mut().add_inline_text(fence_text(), style)?;
+    state.block.as_mut().new_line()?;
     Ok(())
 }
 
 /// Adds a fence, if tables are fenced and no table is open.
-#[tactic(auto, using(html_render_dom_values::specs::laws::Outcome::refusals))]
 fn add_fence<D: TextDecorator, G: Tagging<D::Annotation>>(
     state: &mut State<D, G>,
 ) -> Result<(), Error>
@@ -74,7 +73,6 @@ fn add_fence<D: TextDecorator, G: Tagging<D::Annotation>>(
 /// # Errors
 ///
 /// `TooNarrow` if overflow is off and a character of a paragraph that is flushed is wider than a line. `OutOfMemory`.
-#[tactic(auto, using(html_render_dom_values::specs::laws::Outcome::refusals))]
 pub fn begin_table<D: TextDecorator, G: Tagging<D::Annotation>>(
     grid: &Grid,
     state: &mut State<D, G>,
@@ -84,14 +82,14 @@ pub fn begin_table<D: TextDecorator, G: Tagging<D::Annotation>>(
     ensures err { IfErr result (λ e. Refuses e (perform_all (by_tags D.decoration G.annotated) state.old
         (StartBlock ∷ (Fence ∷ (BeginTable grid.now.cells grid.now.needs ∷ []))) state.old)) }
 {
-    state.block.held.start_block()?;
+    state.block.as_mut().start_block()?;
     add_fence(state)?;
     let blank = state.blank;
     let borders = state.settings.table_borders;
     let stacked = state.settings.raw_mode;
     state
         .block
-        .held
+        .as_mut()
         .begin_table(blank, borders, stacked, grid.cells(), grid.needs())?;
     state.in_table = true;
     Ok(())
@@ -102,7 +100,6 @@ pub fn begin_table<D: TextDecorator, G: Tagging<D::Annotation>>(
 /// # Errors
 ///
 /// `TooNarrow` if overflow is off and a character of a paragraph that is flushed is wider than a line. `OutOfMemory`.
-#[tactic(auto, using(html_render_dom_values::specs::laws::Outcome::refusals))]
 pub fn end_table<D: TextDecorator, G: Tagging<D::Annotation>>(
     in_table: bool,
     state: &mut State<D, G>,
@@ -110,7 +107,7 @@ pub fn end_table<D: TextDecorator, G: Tagging<D::Annotation>>(
     ensures ok { OnOk result (table_closed (by_tags D.decoration G.annotated) in_table state.old ≡ Some state.new) }
     ensures err { IfErr result (λ e. Refuses e (table_closed (by_tags D.decoration G.annotated) in_table state.old)) }
 {
-    state.block.held.end_table()?;
+    state.block.as_mut().end_table()?;
     state.in_table = in_table;
     add_fence(state)
 }
@@ -143,7 +140,6 @@ pub fn begin_cell<D: TextDecorator, G: Tagging<D::Annotation>>(
 ///
 /// `TooNarrow` if overflow is off and a character of a paragraph that is flushed is wider than a line. `OutOfMemory`.
 #[inline(always)]
-#[tactic(auto, using(html_render_dom_values::specs::laws::Outcome::refusals))]
 pub fn end_cell<D: TextDecorator, G: Tagging<D::Annotation>>(
     outer: OuterTable<D, BoxedBlock<G::Tag, usize>>,
     state: &mut State<D, G>,

@@ -1,4 +1,5 @@
 //! Texts: preformatted and struck-out ones, and all others.
+#![tactic(auto, using(html_render_dom_values::specs::laws::Outcome::refusals))]
 
 ghost use Rattle.std.specs.Prelude.{◌≡◌, [], ◌∷◌, ◌++◌, true, Some, OnOk, IfOk, IfErr, string_bytes, if◌then◌else◌};
 ghost use Rattle.std.specs.Str.{chars, encode_utf8_all};
@@ -43,7 +44,6 @@ fn struck(alloc: Global, text: &str) -> Result<String, AllocError>
 ///
 /// Few texts are struck out, so this is a function of its own.
 #[inline(never)]
-#[tactic(auto, using(html_render_dom_values::specs::laws::Outcome::refusals))]
 fn add_struck<D: TextDecorator, G: Tagging<D::Annotation>>(
     alloc: Global,
     text: &str,
@@ -54,7 +54,7 @@ fn add_struck<D: TextDecorator, G: Tagging<D::Annotation>>(
     ensures err { IfErr result (λ e. Refuses e (on_block (λ b. machine.operations.add_inline_text b style (struck (chars text.now))) state.old)) }
 {
     let struck = struck(alloc, text)?;
-    state.block.held.add_inline_text(struck.as_str(), style)
+    state.block.as_mut().add_inline_text(struck.as_str(), style)
 }
 
 /// Adds a text in a style to the block, with strokes if texts are struck out.
@@ -73,7 +73,7 @@ fn add_styled<D: TextDecorator, G: Tagging<D::Annotation>>(
     if state.text.struck_out {
         add_struck(alloc, text, style, state)
     } else {
-        state.block.held.add_inline_text(text, style)
+        state.block.as_mut().add_inline_text(text, style)
     }
 }
 
@@ -104,7 +104,6 @@ fn preformatted_style<D: TextDecorator, G: Tagging<D::Annotation>>(
 ///
 /// Few texts are preformatted, so this is a function of its own.
 #[inline(never)]
-#[tactic(auto, using(html_render_dom_values::specs::laws::Outcome::refusals))]
 fn add_preformatted<D: TextDecorator, G: Tagging<D::Annotation>>(
     alloc: Global,
     text: &str,
@@ -128,7 +127,6 @@ fn add_preformatted<D: TextDecorator, G: Tagging<D::Annotation>>(
 /// `TooNarrow` if overflow is off, the text starts a block, and a character of the paragraph before it is wider than a line.
 /// `OutOfMemory`.
 #[inline]
-#[tactic(auto, using(html_render_dom_values::specs::laws::Outcome::refusals))]
 pub fn add_text<D: TextDecorator, G: Tagging<D::Annotation>>(
     alloc: Global,
     text: &str,
