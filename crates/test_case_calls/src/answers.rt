@@ -40,6 +40,9 @@ pub fn answer(
             printed(alloc, name_in(page, found))
         }
         _ => {
+            if !is_about_node(asked) {
+                return Err(Fault::Malformed("no call, setting or question has this name"));
+            }
             let (name, more) = split_word(given);
             let Some(node) = page.find(name) else {
                 return Err(UNKNOWN);
@@ -47,6 +50,26 @@ pub fn answer(
             node_answer(alloc, page, asked, node, more, watch)
         }
     }
+}
+
+/// Reports whether a question about a node has this name.
+fn is_about_node(asked: &str) -> bool {
+    matches!(
+        asked,
+        "node_as_dom_string"
+            | "children"
+            | "data"
+            | "element_name"
+            | "get_parent"
+            | "nth_child"
+            | "is_node"
+            | "has_parent"
+            | "is_element"
+            | "is_template"
+            | "is_inclusive_ancestor"
+            | "same_node"
+            | "is_mathml_annotation_xml_integration_point"
+    )
 }
 
 /// Returns the lines of the result of a question about a node.

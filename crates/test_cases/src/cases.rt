@@ -368,6 +368,11 @@ impl Played {
         }
     }
 
+    /// Reports whether the calls of the cases are watched.
+    pub fn is_watched(&self) -> bool {
+        self.watch.is_told()
+    }
+
     /// Records a difference: the question, its expected output, its result and the title of the case.
     fn differ(
         &mut self,
@@ -377,18 +382,18 @@ impl Played {
         title: &str,
     ) -> Result<(), AllocError> {
         let text = &mut self.differences;
-        write!(text, "{question}\nwanted:\n")?;
+        write!(text, "{title}\n{question}\nwanted:\n")?;
         push_front(text, wanted)?;
         text.push_str("came:\n")?;
         push_front(text, came)?;
-        write!(text, "{title}\n\n")
+        text.push('\n')
     }
 
     /// Records that a line can't be played.
     fn fail(&mut self, line: &str, fault: &Fault, title: &str) -> Result<(), AllocError> {
         write!(
             self.differences,
-            "{line}\ncan't be played: {fault}\n{title}\n\n"
+            "{title}\n{line}\ncan't be played: {fault}\n\n"
         )
     }
 

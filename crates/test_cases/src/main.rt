@@ -130,8 +130,8 @@ fn asked(rt: &HostRuntime, words: &[String]) -> io::Result<Played> {
     }
 }
 
-/// Plays cases, and writes the differences to standard error. The status is 0 if there are cases and no differences, and
-/// otherwise 1.
+/// Plays cases, and writes the differences to standard error, or else the number of cases, unless calls are watched. The
+/// status is 0 if there are cases and no differences, and otherwise 1.
 fn main(rt: HostRuntime) -> io::Result<ExitCode> {
     let played = asked(&rt, &words(&rt)?)?;
     if played.count == 0 {
@@ -139,6 +139,9 @@ fn main(rt: HostRuntime) -> io::Result<ExitCode> {
         return Ok(ExitCode::FAILURE);
     }
     if played.differences.is_empty() {
+        if !played.is_watched() {
+            eprintln!(rt; "cases played: {}", played.count)?;
+        }
         return Ok(ExitCode::SUCCESS);
     }
     eprint!(rt; "{}", played.differences)?;
