@@ -205,7 +205,7 @@ static void faults_in_order(void) {
     g.steps[0].name = 2;
     expect_both(&g, HTML_RENDER_BAD_STEP, 0, "a name that ends in a character is taken");
     g.settings[0].kind = HTML_RENDER_PAD_BLOCK_WIDTH;
-    g.settings[1].kind = HTML_RENDER_ADD_STYLE_RULE + 1;
+    g.settings[1].kind = HTML_RENDER_WHOLE_WORDS + 1;
     g.setting_count = 2;
     expect_both(&g, HTML_RENDER_BAD_SETTING, 1, "a setting of no kind is taken");
     g.decorator = HTML_RENDER_RICH + 1;

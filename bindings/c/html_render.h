@@ -98,7 +98,9 @@ enum html_render_call {
     /* Puts each table that isn't nested between lines of three backquotes. No number. */
     HTML_RENDER_FENCE_TABLES = 12,
     /* Adds a style rule. It takes more than a number: use html_render_add_rule. */
-    HTML_RENDER_ADD_STYLE_RULE = 13
+    HTML_RENDER_ADD_STYLE_RULE = 13,
+    /* Gives columns side by side the width of their longest words, as far as the width allows. No number. */
+    HTML_RENDER_WHOLE_WORDS = 14
 };
 
 /* Treatment of images and drawings with an empty title. */

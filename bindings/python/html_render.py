@@ -414,6 +414,7 @@ def render(
     raw_tables=False,
     borders=True,
     wrap_code=False,
+    whole_words=True,
     pad=False,
     keep_controls=False,
 ):
@@ -426,7 +427,8 @@ def render(
     `overflow` lets what is wider than a line stay so rather than raise TooNarrow. `tables` says which tables are drawn: those with
     `data`, `all` or `none`; the others are shown as the blocks and lines in their cells. `row_rules` draws a line under each row of a table,
     also between rows of one line. `raw_tables` stacks the cells of tables, and without `borders` tables are drawn without lines.
-    `wrap_code` cuts lines of preformatted text at the width. `pad` fills lines with spaces; without it none are at their ends.
+    `wrap_code` cuts lines of preformatted text at the width. `whole_words` gives columns the width of their longest words, as far as the
+    width allows. `pad` fills lines with spaces; without it none are at their ends.
     `keep_controls` keeps control characters of the page, which can control a terminal.
 
     >>> print(render("<a href=a>b</a>", base="https://c.example/"), end="")
@@ -454,7 +456,8 @@ def render(
         drops_rules = borders and not (row_rules or raw_tables)
         shown_tables = Tables(tree, width, Signs(decorate, mode), tables, raw_tables, drops_rules)
         notes = recording.add_children(0, tree, shown_tables, lambda steps: Inline(steps, decorate, mode, address), keep_controls, wrap_code or pad)
-        for call, wanted, number in ((2, decorate, 0), (1, overflow, 0), (10, raw_tables, 1), (11, not borders, 0), (7, pad, 0)):
+        calls = ((2, decorate, 0), (1, overflow, 0), (10, raw_tables, 1), (11, not borders, 0), (14, whole_words, 0), (7, pad, 0))
+        for call, wanted, number in calls:
             if wanted:
                 recording.set(call, number)
         recording.add_rules(decorate)

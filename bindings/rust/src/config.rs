@@ -97,6 +97,7 @@ mod call {
     pub const RAW_MODE: u32 = 10;
     pub const NO_TABLE_BORDERS: u32 = 11;
     pub const FENCE_TABLES: u32 = 12;
+    pub const WHOLE_WORDS: u32 = 14;
 }
 
 /// How documents are rendered.
@@ -236,6 +237,11 @@ impl<D: Decorator> Config<D> {
     /// Tables stand between lines of three backquotes.
     pub fn fence_tables(self) -> Config<D> {
         self.with(call::FENCE_TABLES, 0)
+    }
+
+    /// Columns side by side get the width of their longest words, as far as the width allows.
+    pub fn whole_words(self) -> Config<D> {
+        self.with(call::WHOLE_WORDS, 0)
     }
 
     fn with_css(mut self, css: &str, origin: Origin) -> Result<Config<D>, Error> {

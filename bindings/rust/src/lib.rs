@@ -51,7 +51,7 @@ use std::io::Read;
 /// `TooNarrow` where a character is wider than a line, or a prefix leaves too few columns.
 pub fn render(html: &str, width: usize) -> Result<String, Error> {
     let options = Options::new().charset("utf-8")?;
-    config::plain().as_shown(options).string_from_read(html.as_bytes(), width)
+    config::plain().as_shown(options).whole_words().string_from_read(html.as_bytes(), width)
 }
 
 /// The plain text of HTML in UTF-8 that is read, as html2text renders it.

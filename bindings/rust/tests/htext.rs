@@ -90,6 +90,9 @@ fn tables() {
     assert_eq!(text(&["--no-borders", "--fence-tables"], table), "```\na b\n```\n");
     assert_eq!(text(&["--tables=none"], table), "a  b\n");
     assert_eq!(text(&["--tables", "none", "--raw-tables"], table), "a\nb\n");
+    let words = "<table border=1><tr><td>Price<td>of the best quality</table>";
+    assert_eq!(text(&["-w14", "--no-borders"], words), "Price of the\n      best\n      quality\n");
+    assert_eq!(text(&["-w14", "--no-borders", "--cut-words"], words), "Pri of the\nce  best\n    quality\n");
     let layout = "<table><tr><td>a<td>b</table>";
     assert_eq!(text(&[], layout), "a  b\n");
     assert_eq!(text(&["--tables=data"], layout), "a  b\n");

@@ -17,7 +17,9 @@ use Rattle.html_render_layout_nodes.specs.laws.Preorder.{forest_of-flatten, IsPr
 use Rattle.html_render_layout_estimates.specs.declared.settings.LayoutSettings.{LayoutSettings}
 use Rattle.html_render_layout_estimates.specs.Estimates.{trees, greatest_least, measured_kind, estimate_of, measured}
 use Rattle.html_render_layout_estimates.specs.Passes.{is_table, has_table, with_needs, sized_if, without_sizes, with_needed_sizes}
+use Rattle.html_render_layout_estimates.specs.Words.{with_words}
 use Rattle.html_render_layout_estimates.specs.laws.Least.{tables-measured}
+use Rattle.html_render_layout_estimates.specs.laws.Words.{words-needed}
 use Rattle.html_render_layout_estimates.proofs.Measuring.{after, Found}
 
 -- ---- tables among nodes
@@ -116,3 +118,10 @@ module _ {D A : Type 0} (decoration : Decoration D A) (decorator : D) (settings 
       IsPreorderOf es (all_measured t)
   done t old es same is =
       IsPreorderOf-flatten es (all_measured t) (is ∙ ap (λ u. flatten (all_measured u)) (ap forest_of same ∙ forest_of-flatten t))
+
+  -- with words, too
+  pub done_words : (t : Forest RenderNode) (old es fs : List (Entry RenderNode)) → old ≡ flatten t → es ≡ flatten (all_measured (forest_of old)) →
+      fs ≡ flatten (with_words settings (forest_of es)) → IsPreorderOf fs (with_needed_sizes (with_words settings (all_sized t)))
+  done_words t old es fs same is words =
+      IsPreorderOf-flatten fs (with_needed_sizes (with_words settings (all_sized t)))
+      (words ∙ ap (λ u. flatten (with_words settings u)) (done t old es same is).is ∙ ap flatten (words-needed settings (all_sized t)))

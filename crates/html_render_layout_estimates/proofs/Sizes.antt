@@ -64,7 +64,7 @@ pub record Sized (bs : List ℕ) (at k : ℕ) (spaced : Bool) : Type 0 where
   pub few : k + cond spaced 1 0 ≤ at
   pub size : size_on k spaced (chars (drop at bs)) ≡ size_of (chars bs)
 
-next-chars : (bs : List ℕ) (at : ℕ) → at < length bs → get_or bs at 0 < 128 → chars (drop at bs) ≡ get_or bs at 0 ∷ chars (drop (at + 1) bs)
+pub next-chars : (bs : List ℕ) (at : ℕ) → at < length bs → get_or bs at 0 < 128 → chars (drop at bs) ≡ get_or bs at 0 ∷ chars (drop (at + 1) bs)
 next-chars bs at within small = ap chars (drop_more bs at 0 within) ∙ chars-ascii (get_or bs at 0) (drop (at + 1) bs) small
 
 pub Sized-start : (bs : List ℕ) → Sized bs 0 0 false

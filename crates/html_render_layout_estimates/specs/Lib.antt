@@ -10,5 +10,7 @@ pub mod Columns
 pub mod Estimates
 -- the result of the code's pass
 pub mod Passes
+-- the words of nodes, and the longest ones of a table's columns
+pub mod Words
 -- laws of these definitions
 pub mod laws

@@ -1,3 +1,4 @@
 pub mod Tables
+pub mod Words
 pub mod Columns
 pub mod Least

@@ -12,11 +12,13 @@ ghost use Rattle.html_render_layout_estimates.specs.Estimates.{trees, greatest_l
 ghost use Rattle.html_render_layout_estimates.specs.TextSize.{saturated};
 ghost use Rattle.html_render_layout_estimates.specs.Estimates.{measured_kind, estimate_of, measured};
 ghost use Rattle.html_render_layout_estimates.specs.Passes.{is_table, has_table, with_needs, without_size, sized_if, with_needed_sizes};
+ghost use Rattle.html_render_layout_estimates.specs.Words.{with_words};
 
 use crate::settings::LayoutSettings;
 use crate::sized::{Measure, measure_table, total_size};
 use crate::text::{columns, size_within};
 use crate::trees::first_tree;
+use crate::whole_words::add_words;
 use html_render_dom_values::Error;
 use html_render_layout_nodes::tree::{Entry, Estimate, NodeKind, PreorderForest, RenderNode};
 use html_render_parts::decorate::TextDecorator;
@@ -319,9 +321,26 @@ fn measure_nodes<D: TextDecorator>(
     Ok(())
 }
 
+/// Sets the longest words of the columns of each table of measured nodes, under `whole_words`.
+fn add_needed_words(
+    alloc: Global,
+    settings: &LayoutSettings,
+    entries: &mut Vec<Entry<RenderNode>>,
+) -> Result<(), Error>
+    requires { flatten (forest_of entries.old.items) ≡ entries.old.items }
+    ensures ok { OnOk result (entries.new.items ≡ flatten (with_words settings.now (forest_of entries.old.items))) }
+    ensures err { OnlyOutOfMemory result }
+{
+    if settings.whole_words && any_table(entries) {
+        add_words(alloc, settings, entries)?;
+    }
+    Ok(())
+}
+
 /// Measures a render tree. Returns it with an estimate in each node, and in each table the widths that its columns need.
 ///
-/// Preferred widths are computed only if the tree has a table. Otherwise they are 0.
+/// Preferred widths are computed only if the tree has a table. Otherwise they are 0. Under `whole_words` each table's columns
+/// also have their longest words.
 ///
 /// # Errors
 ///
@@ -332,10 +351,11 @@ pub fn measure<D: TextDecorator>(
     settings: &LayoutSettings,
     tree: PreorderForest<RenderNode>,
 ) -> Result<PreorderForest<RenderNode>, Error>
-    ensures ok { IfOk result (λ t. t ≡ with_needed_sizes (measured D.decoration decorator.now settings.now tree)) }
+    ensures ok { IfOk result (λ t. t ≡ with_needed_sizes (with_words settings.now (measured D.decoration decorator.now settings.now tree))) }
     ensures err { OnlyOutOfMemory result }
 {
     let mut entries = tree.into_entries();
     measure_nodes(alloc, decorator, settings, &mut entries)?;
+    add_needed_words(alloc, settings, &mut entries)?;
     Ok(PreorderForest::from_entries(entries))
 }

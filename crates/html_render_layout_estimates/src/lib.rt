@@ -8,3 +8,5 @@ pub mod settings;
 mod sized;
 pub mod text;
 mod trees;
+mod whole_words;
+pub mod words;

@@ -63,6 +63,8 @@ pub struct LayoutSettings {
     pub table_borders: bool,
     /// Whether a table that isn't in another table is put between lines of three backquotes.
     pub fence_tables: bool,
+    /// Whether columns side by side get the width of their longest words as far as the width allows.
+    pub whole_words: bool,
 }
 
 impl Default for LayoutSettings {
@@ -80,6 +82,7 @@ impl Default for LayoutSettings {
     /// - Lines aren't padded.
     /// - A text needs 3 columns.
     /// - Tables have borders and no fences. Their cells are side by side if they fit.
+    /// - Columns don't count words.
     fn default() -> LayoutSettings {
         LayoutSettings {
             link_footnotes: false,
@@ -91,6 +94,7 @@ impl Default for LayoutSettings {
             raw_mode: false,
             table_borders: true,
             fence_tables: false,
+            whole_words: false,
         }
     }
 }
@@ -115,6 +119,7 @@ impl LayoutSettings {
             raw_mode: self.raw_mode,
             table_borders: self.table_borders,
             fence_tables: self.fence_tables,
+            whole_words: self.whole_words,
         })
     }
 }

@@ -9,6 +9,9 @@ ghost use Rattle.std.specs.Str.{chars, IsUtf8};
 ghost use Rattle.html_render_layout_lines.specs.Character.{is_collapsible, width_of};
 ghost use Rattle.html_render_layout_lines.specs.TaggedText.{text_columns};
 ghost use Rattle.html_render_layout_estimates.specs.TextSize.{size_of, inner_columns, collapsed_columns, saturated};
+ghost use Rattle.html_render_layout_estimates.specs.Words.{word_break, joined_shapes, shape_after};
+ghost use Rattle.html_render_layout_estimates.specs.declared.words.WordShape.{WordShape};
+ghost use Rattle.html_render_layout_estimates.specs.declared.words.WordShape.TheVariants.{Part};
 
 use html_render_layout_lines::character::{is_collapsible, width_of};
 
@@ -198,9 +201,11 @@ fn columns_within(text: &str, before: usize, space_before: bool, limit: usize) -
 
 /// Splits the letters off the start of a text. Returns their number and the rest; `None` if it doesn't start with a letter.
 #[inline]
-fn split_letters(text: &str) -> Option<(usize, &str)>
+pub(crate) fn split_letters(text: &str) -> Option<(usize, &str)>
     ensures columns { IfSome result (λ r. (spaced : Bool) →
         collapsed_columns spaced (chars text.now) ≡ (if spaced then 1 else 0) + r.0 + collapsed_columns false (chars r.1.now)) }
+    ensures shape { IfSome result (λ r. (s : WordShape) →
+        shape_after s (chars text.now) ≡ shape_after (joined_shapes s (Part r.0)) (chars r.1.now)) }
     ensures shorter { IfSome result (λ r. length r.1.now < length text.now) }
     ensures text { IfSome result (λ r. IsUtf8 r.1.now) }
 {
@@ -214,8 +219,10 @@ fn split_letters(text: &str) -> Option<(usize, &str)>
 
 /// Splits a space or newline off the start of a text. Returns the rest; `None` if it doesn't start with one.
 #[inline]
-fn split_space(text: &str) -> Option<&str>
+pub(crate) fn split_space(text: &str) -> Option<&str>
     ensures columns { IfSome result (λ rest. (spaced : Bool) → collapsed_columns spaced (chars text.now) ≡ collapsed_columns true (chars rest.now)) }
+    ensures shape { IfSome result (λ rest. (s : WordShape) →
+        shape_after s (chars text.now) ≡ shape_after (joined_shapes s word_break) (chars rest.now)) }
     ensures shorter { IfSome result (λ rest. length rest.now < length text.now) }
     ensures text { IfSome result (λ rest. IsUtf8 rest.now) }
 {
@@ -252,7 +259,7 @@ fn spaced_width(spaced: bool, width: usize) -> usize
 }
 
 /// Splits a text into its first character and the rest; `None` if it is empty.
-fn first_character(text: &str) -> Option<(char, &str)>
+pub(crate) fn first_character(text: &str) -> Option<(char, &str)>
     ensures characters { MatchOption result (chars text.now ≡ []) (λ first. chars text.now ≡ first.0 ∷ chars first.1.now) }
     ensures shorter { IfSome result (λ first. length first.1.now < length text.now) }
     ensures text { IfSome result (λ first. IsUtf8 first.1.now) }

@@ -4,22 +4,22 @@ ghost use Rattle.std.specs.Prelude.{◌≡◌, ◌<◌, length, IfSome, MatchOpt
 ghost use Rattle.html_render_dom_values.specs.Forest.{none, node};
 ghost use Rattle.html_render_layout_nodes.specs.Preorder.{flatten, forest_of};
 
-use html_render_layout_nodes::tree::{Entry, RenderNode};
+use html_render_layout_nodes::tree::Entry;
 
 /// First of the trees in a slice, split into its parts.
 #[derive(Clone, Copy)]
-pub struct FirstTree<'a> {
+pub struct FirstTree<'a, N> {
     /// Root of the tree.
-    pub node: &'a RenderNode,
+    pub node: &'a N,
     /// Nodes below the root, in pre-order.
-    pub below: &'a [Entry<RenderNode>],
+    pub below: &'a [Entry<N>],
     /// Trees that follow this one.
-    pub beside: &'a [Entry<RenderNode>],
+    pub beside: &'a [Entry<N>],
 }
 
 /// Splits the first tree off a slice; `None` if the slice is empty.
 #[inline]
-pub fn first_tree(trees: &[Entry<RenderNode>]) -> Option<FirstTree<'_>>
+pub fn first_tree<N>(trees: &[Entry<N>]) -> Option<FirstTree<'_, N>>
     requires { flatten (forest_of trees.now) ≡ trees.now }
     ensures cases { MatchOption result (forest_of trees.now ≡ none)
         (λ t. forest_of trees.now ≡ node t.node.now (forest_of t.below.now) (forest_of t.beside.now)) }

@@ -27,7 +27,7 @@ least_over columns cells h =
 pub needed : (columns : ℕ) (cells : List CellNeed) (sizes least : List ℕ) (needs : List ColumnNeed) →
     AreGreatest columns (map (λ c. part c c.preferred_width) cells) sizes → AreGreatest columns (map (λ c. part c c.min_width) cells) least →
     length needs ≡ length sizes →
-    ((k : ℕ) → k < length sizes → slice_index_or needs k no_need ≡ record { preferred_width = slice_index sizes k; min_width = slice_index least k }) →
+    ((k : ℕ) → k < length sizes → slice_index_or needs k no_need ≡ record { preferred_width = slice_index sizes k; min_width = slice_index least k; longest_word = 0 }) →
     needs ≡ column_needs columns cells
 needed columns cells sizes least needs g l len each =
     ext_get_or no_need needs (column_needs columns cells)
@@ -36,6 +36,6 @@ needed columns cells sizes least needs g l len each =
     let in_sizes : k < length sizes = omega (arith, inside, len) in
     let in_columns : k < columns = omega (arith, inside, len, g.columns_of) in
     each k in_sizes
-    ∙ ap (λ n. record { preferred_width = n; min_width = slice_index least k }) (g.each k in_columns)
-    ∙ ap (λ n. record { preferred_width = greatest_at (map (λ c. part c c.preferred_width) cells) k; min_width = n }) (l.each k in_columns)
+    ∙ ap (λ n. record { preferred_width = n; min_width = slice_index least k; longest_word = 0 }) (g.each k in_columns)
+    ∙ ap (λ n. record { preferred_width = greatest_at (map (λ c. part c c.preferred_width) cells) k; min_width = n; longest_word = 0 }) (l.each k in_columns)
     ∙ sym (get_or-map-range_with_len (need_at cells) 0 columns k k no_need in_columns (omega arith)))

@@ -10,11 +10,13 @@ use Rattle.html_render_parts_widths.specs.Spans.{greatest_at}
 abbrev pub part : CellNeed → (value : ℕ) → Span
 part c value = record { start = c.start; count = c.count; value = value / c.count }
 
--- the need of a column: the greatest part of a preferred width, and of a minimum width, of a cell that covers it
+-- the need of a column: the greatest part of a preferred width, and of a minimum width, of a cell that covers it; its words
+-- aren't measured
 abbrev pub need_at : List CellNeed → (column : ℕ) → ColumnNeed
 need_at cells column = record {
   preferred_width = greatest_at (map (λ c. part c c.preferred_width) cells) column;
   min_width = greatest_at (map (λ c. part c c.min_width) cells) column;
+  longest_word = 0;
 }
 
 -- THE NEEDS of each column of a table
@@ -23,7 +25,7 @@ column_needs columns cells = map (need_at cells) (range_with_len 0 columns)
 
 -- the need of a column without cells
 abbrev pub no_need : ColumnNeed
-no_need = record { preferred_width = 0; min_width = 0 }
+no_need = record { preferred_width = 0; min_width = 0; longest_word = 0 }
 
 -- whether each cell has a column
 abbrev pub AreSome : List CellNeed → Type 0

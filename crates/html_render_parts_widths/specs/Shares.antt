@@ -1,6 +1,6 @@
 -- The widths of a table's columns that are side by side in a block.
-use Rattle.std.specs.Prelude.{ℕ, ◌+◌, ◌-◌, ◌*◌, ◌/◌, ◌==◌, Bool, not, ◌&&◌, nat_le}
-use Rattle.std.specs.Prelude.{List, length, map, sum, sum_by, min, max, Option, Some, None, if◌then◌else◌}
+use Rattle.std.specs.Prelude.{ℕ, ◌+◌, ◌-◌, ◌*◌, ◌/◌, ◌==◌, ◌≤◌, Bool, not, ◌&&◌, nat_le}
+use Rattle.std.specs.Prelude.{List, [], ◌∷◌, All, length, map, sum, sum_by, min, max, Option, Some, None, if◌then◌else◌}
 use Rattle.html_render_parts_widths.specs.declared.shares.ColumnNeed.{ColumnNeed}
 use Rattle.html_render_parts_widths.specs.Cuts.{cut_by_units}
 
@@ -18,6 +18,7 @@ share width total need = max need.min_width (min need.preferred_width (need.pref
 abbrev pub share_by_size : (width total : ℕ) → ColumnNeed → ℕ
 share_by_size width total need = if need.preferred_width == 0 then 0 else min need.preferred_width (max (need.preferred_width * width / total) need.min_width)
 
+-- the shares of columns in a width
 abbrev pub shares : (width : ℕ) → List ColumnNeed → List ℕ
 shares width needs = map (share width (sum_by (λ n. n.preferred_width) needs)) needs
 
@@ -25,6 +26,32 @@ shares width needs = map (share width (sum_by (λ n. n.preferred_width) needs)) 
 abbrev pub stand_side_by_side : (width : ℕ) → List ColumnNeed → Bool
 stand_side_by_side width needs = not (width == 0) && nat_le (sum (least_widths needs) + (length needs - 1)) width
 
--- THE WIDTHS of columns side by side: the fairest cut of their shares; `None` if they can't be side by side
+-- the width at which a column cuts no word: that of its longest word, at least its minimum width
+abbrev pub whole_width : ColumnNeed → ℕ
+whole_width need = max need.min_width need.longest_word
+
+abbrev pub whole_widths : List ColumnNeed → List ℕ
+whole_widths needs = map whole_width needs
+
+-- THE WORD MINIMUMS of columns: the fairest cut of the widths at which they cut no word
+abbrev pub word_minimums : (width : ℕ) → List ColumnNeed → List ℕ
+word_minimums width needs = cut_by_units (least_widths needs) (whole_widths needs) width
+
+-- the greater number at each place of two lists
+abbrev pub greater_ones : List ℕ → List ℕ → List ℕ
+greater_ones (x ∷ xs) (y ∷ ys) = max x y ∷ greater_ones xs ys
+greater_ones xs ys = []
+
+-- the shares of columns, each at least the column's word minimum
+abbrev pub word_shares : (width : ℕ) → List ColumnNeed → List ℕ
+word_shares width needs = greater_ones (word_minimums width needs) (shares width needs)
+
+-- THE WIDTHS of columns side by side: the fairest cut of these shares to the word minimums; `None` if they can't be side by
+-- side
 abbrev pub widths_across : (width : ℕ) → List ColumnNeed → Option (List ℕ)
-widths_across width needs = if stand_side_by_side width needs then Some (cut_by_units (least_widths needs) (shares width needs) width) else None
+widths_across width needs =
+    if stand_side_by_side width needs then Some (cut_by_units (word_minimums width needs) (word_shares width needs) width) else None
+
+-- whether no longest word of a column passes its minimum width, as where words aren't measured
+abbrev pub HaveShortWords : List ColumnNeed → Type 0
+HaveShortWords needs = All (λ n. n.longest_word ≤ n.min_width) needs

@@ -1,9 +1,10 @@
 //! Laws of cuts and of the meter. Each is the contract of an empty function.
 
-ghost use Rattle.std.specs.Prelude.{◌≡◌, ◌≢◌, ℕ, ◌+◌, ◌-◌, ◌<◌, ◌≤◌, ◌↔◌, ◌⊎◌, List, All, length, map, sum, sum_by, Some, None, IsTrue, IfSome};
+ghost use Rattle.std.specs.Prelude.{◌≡◌, ◌≢◌, ℕ, ◌+◌, ◌-◌, ◌<◌, ◌≤◌, ◌↔◌, ◌⊎◌, List, All, length, map, sum, sum_by, slice_index, Some, None, IsTrue, IfSome, if◌then◌else◌};
 ghost use Rattle.html_render_parts_widths.specs.Cuts.{cut_by_units, CutFits, GivesBefore, IsFairestCut, IsLevelForm};
 ghost use Rattle.html_render_parts_widths.specs.Needs.{column_needs, AreCells, AreWithinSizes, HasRoom};
 ghost use Rattle.html_render_parts_widths.specs.Shares.{least_widths, share, share_by_size, shares, stand_side_by_side, widths_across};
+ghost use Rattle.html_render_parts_widths.specs.Shares.{whole_widths, word_minimums, word_shares, HaveShortWords};
 
 use super::Meter;
 use super::needs::CellNeed;
@@ -38,15 +39,25 @@ fn level_forms_are_one()
 /// States when columns can be side by side, and that their widths are then the fairest cut of their shares.
 ///
 /// They can be side by side exactly if the width isn't 0 and their minimum widths, with a separator between neighbouring
-/// columns, are within it. Their shares can then be cut to the width. The fairest cut is unique.
+/// columns, are within it. Their word minimums are then the fairest cut of the widths at which they cut no word, and their
+/// shares can be cut to the width. The fairest cut is unique.
 fn columns_are_cut_fairly()
     ensures side_by_side { (width : ℕ) (needs : List ColumnNeed)
         → IsTrue (stand_side_by_side width needs) ↔ ((0 < width) × (sum (least_widths needs) + (length needs - 1) ≤ width)) }
     ensures fit { (width : ℕ) (needs : List ColumnNeed) → IsTrue (stand_side_by_side width needs)
-        → CutFits (least_widths needs) (shares width needs) width }
+        → CutFits (word_minimums width needs) (word_shares width needs) width }
+    ensures words { (width : ℕ) (needs : List ColumnNeed) → IsTrue (stand_side_by_side width needs)
+        → IsFairestCut (least_widths needs) (whole_widths needs) width (word_minimums width needs) }
     ensures fairest { (width : ℕ) (needs : List ColumnNeed) (widths : List ℕ) → (widths_across width needs ≡ Some widths)
-        ↔ (IsTrue (stand_side_by_side width needs) × IsFairestCut (least_widths needs) (shares width needs) width widths) }
+        ↔ (IsTrue (stand_side_by_side width needs) × IsFairestCut (word_minimums width needs) (word_shares width needs) width widths) }
     ensures none { (width : ℕ) (needs : List ColumnNeed) → (widths_across width needs ≡ None) ↔ ¬ IsTrue (stand_side_by_side width needs) }
+{}
+
+/// States the widths of columns without long words, as where words aren't measured: the fairest cut of their shares to their
+/// minimum widths.
+fn short_words_change_nothing()
+    ensures { (width : ℕ) (needs : List ColumnNeed) → HaveShortWords needs → widths_across width needs
+        ≡ (if stand_side_by_side width needs then Some (cut_by_units (least_widths needs) (shares width needs) width) else None) }
 {}
 
 /// States the share of a column whose minimum width is at most its preferred width.
@@ -61,12 +72,18 @@ fn shares_are_by_size()
 
 /// States bounds on columns that are side by side.
 ///
-/// The shares add up to at most the sum of the minimum widths plus the width. So a cut takes at most `width` units from
-/// them. Each cell has at least its minimum width, over its columns and the separators between them.
+/// The shares add up to at most the sum of the word minimums plus the width. So a cut takes at most `width` units from
+/// them. Each column has at least its minimum width, and cuts no word if there is room for the words of all columns. Each
+/// cell has at least its minimum width, over its columns and the separators between them.
 fn columns_side_by_side()
-    ensures shares { (width : ℕ) (needs : List ColumnNeed) → sum (shares width needs) ≤ sum (least_widths needs) + width }
+    ensures shares { (width : ℕ) (needs : List ColumnNeed) → IsTrue (stand_side_by_side width needs)
+        → sum (word_shares width needs) ≤ sum (word_minimums width needs) + width }
     ensures taken { (width : ℕ) (needs : List ColumnNeed)
-        → IfSome (widths_across width needs) (λ widths. sum (shares width needs) - sum widths ≤ width) }
+        → IfSome (widths_across width needs) (λ widths. sum (word_shares width needs) - sum widths ≤ width) }
+    ensures least { (width : ℕ) (needs : List ColumnNeed) → IfSome (widths_across width needs)
+        (λ widths. (k : ℕ) → k < length needs → slice_index (least_widths needs) k ≤ slice_index widths k) }
+    ensures whole { (width : ℕ) (needs : List ColumnNeed) → sum (whole_widths needs) + (length needs - 1) ≤ width
+        → IfSome (widths_across width needs) (λ widths. (k : ℕ) → k < length needs → slice_index (whole_widths needs) k ≤ slice_index widths k) }
     ensures room { (columns : ℕ) (cells : List CellNeed) (width : ℕ) → AreCells columns cells
         → IfSome (widths_across width (column_needs columns cells)) (λ widths. All (HasRoom widths) cells) }
 {}

@@ -59,13 +59,14 @@ fn together(alloc: Global, sizes: &[usize], least: &[usize]) -> Result<Vec<Colum
     requires { length least.now ≡ length sizes.now }
     ensures len { IfOk result (λ needs. length needs.items ≡ length sizes.now) }
     ensures each { IfOk result (λ needs. (k : ℕ) → k < length sizes.now → slice_index_or needs.items k no_need
-        ≡ record { preferred_width = slice_index sizes.now k; min_width = slice_index least.now k }) }
+        ≡ record { preferred_width = slice_index sizes.now k; min_width = slice_index least.now k; longest_word = 0 }) }
 {
     let mut needs = Vec::with_capacity(alloc, sizes.len())?;
     for (at, size) in sizes.iter().enumerate() {
         needs.push(ColumnNeed {
             preferred_width: *size,
             min_width: least[at],
+            longest_word: 0,
         })?;
     }
     Ok(needs)
@@ -75,8 +76,8 @@ fn together(alloc: Global, sizes: &[usize], least: &[usize]) -> Result<Vec<Colum
 ///
 /// A cell's preferred width and its minimum width are divided equally among its columns, and rounded down. A column needs
 /// the greatest part of any cell that covers it, separately for preferred and for minimum widths; 0 without such a cell.
-/// All widths are in columns of text. The caller ensures that each cell has a column and that its columns are among the
-/// `columns` of the table.
+/// Words aren't measured: each column's longest word is 0. All widths are in columns of text. The caller ensures that each
+/// cell has a column and that its columns are among the `columns` of the table.
 ///
 /// # Errors
 ///

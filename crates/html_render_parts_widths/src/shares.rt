@@ -1,11 +1,13 @@
 //! Widths of a table's columns that are side by side.
 //!
-//! `widths_across(alloc, &needs, 8)` returns 4 and 3 for two columns with a minimum width of 3 and the preferred widths 9
-//! and 3.
+//! `widths_across(alloc, &needs, 8)` returns 4 and 3 for two columns with a minimum width of 3, the preferred widths 9 and 3,
+//! and words of 3 columns.
 
-ghost use Rattle.std.specs.Prelude.{◌≡◌, ◌≤◌, option_map, sum_by, IfOk};
+ghost use Rattle.std.specs.Prelude.{◌≡◌, ◌≤◌, true, length, option_map, sum_by, IfOk};
+ghost use Rattle.std.specs.Bool.{OnFalse};
 ghost use Rattle.html_render_dom_values.specs.Outcome.{OnlyOutOfMemory};
 ghost use Rattle.html_render_parts_widths.specs.Shares.{least_widths, share, shares, stand_side_by_side, widths_across};
+ghost use Rattle.html_render_parts_widths.specs.Shares.{whole_widths, word_minimums, greater_ones, HaveShortWords};
 
 use super::cut::column_widths;
 use html_render_dom_values::Error;
@@ -18,6 +20,8 @@ pub struct ColumnNeed {
     pub preferred_width: usize,
     /// Minimum width of its content.
     pub min_width: usize,
+    /// Width of its longest word; 0 if words aren't measured.
+    pub longest_word: usize,
 }
 
 /// Returns the sum of the preferred widths.
@@ -44,14 +48,20 @@ fn share(need: ColumnNeed, width: usize, total: u128) -> usize
         .max(need.min_width as u128) as usize
 }
 
-/// Returns the share of each column in `width`.
-fn shares(alloc: Global, needs: &[ColumnNeed], width: usize) -> Result<Vec<usize>, AllocError>
-    ensures { IfOk result (λ all. all.items ≡ shares width needs.now) }
+/// Returns the share of each column in `width`, at least its minimum in `minimums`.
+fn shares_from(
+    alloc: Global,
+    needs: &[ColumnNeed],
+    minimums: &[usize],
+    width: usize,
+) -> Result<Vec<usize>, AllocError>
+    requires { length minimums.now ≡ length needs.now }
+    ensures { IfOk result (λ all. all.items ≡ greater_ones minimums.now (shares width needs.now)) }
 {
     let total = total_size(needs);
     let mut all = Vec::with_capacity(alloc, needs.len())?;
-    for need in needs {
-        all.push(share(*need, width, total))?;
+    for (at, need) in needs.iter().enumerate() {
+        all.push(share(*need, width, total).max(minimums[at]))?;
     }
     Ok(all)
 }
@@ -65,6 +75,47 @@ fn least_widths(alloc: Global, needs: &[ColumnNeed]) -> Result<Vec<usize>, Alloc
         all.push(need.min_width)?;
     }
     Ok(all)
+}
+
+/// Returns the width at which each column cuts no word: that of its longest word, at least its minimum width.
+fn whole_widths(alloc: Global, needs: &[ColumnNeed]) -> Result<Vec<usize>, AllocError>
+    ensures { IfOk result (λ all. all.items ≡ whole_widths needs.now) }
+{
+    let mut all = Vec::with_capacity(alloc, needs.len())?;
+    for need in needs {
+        all.push(need.min_width.max(need.longest_word))?;
+    }
+    Ok(all)
+}
+
+/// Reports whether the longest word of a column passes its minimum width.
+fn has_long_word(needs: &[ColumnNeed]) -> bool
+    ensures { OnFalse result (HaveShortWords needs.now) }
+{
+    for need in needs {
+        if need.longest_word > need.min_width {
+            return true;
+        }
+    }
+    false
+}
+
+/// Returns the word minimum of each column: the fairest cut of the widths at which columns cut no word.
+///
+/// Without a long word these are the minimum widths. Nothing is searched or sorted then.
+#[tactic(auto, using(crate::specs::laws::WordMinimums::whole_fit, crate::specs::laws::WordMinimums::short_minimums))]
+fn word_minimums(alloc: Global, needs: &[ColumnNeed], width: usize) -> Result<Vec<usize>, Error>
+    requires { stand_side_by_side width needs.now ≡ true }
+    ensures ok { IfOk result (λ all. all.items ≡ word_minimums width needs.now) }
+    ensures err { OnlyOutOfMemory result }
+{
+    let least = least_widths(alloc, needs)?;
+    if !has_long_word(needs) {
+        return Ok(least);
+    }
+    let whole = whole_widths(alloc, needs)?;
+    let cut = column_widths(alloc, least.as_slice(), whole.as_slice(), width)?;
+    Ok(cut.widths)
 }
 
 /// Reports whether columns can be side by side in `width`: it isn't 0, and their minimum widths and a separator of 1
@@ -85,13 +136,15 @@ pub fn stand_side_by_side(needs: &[ColumnNeed], width: usize) -> bool
 /// Returns the widths of a table's columns side by side in `width`; `None` if they can't be side by side.
 ///
 /// A column's share is to `width` as its preferred width is to the sum of all preferred widths, rounded down, but at most
-/// its preferred width and at least its minimum width. The minimum width counts if the two limits contradict. The widths
-/// are the fairest cut of the shares, that of [`column_widths`]. All widths are in columns of text.
+/// its preferred width and at least its minimum width. The minimum width counts if the two limits contradict. A share is
+/// also at least the column's word minimum: the word minimums are the fairest cut of the longest words, which are at least
+/// the minimum widths. The widths are the fairest cut of the shares to the word minimums, that of [`column_widths`]. All
+/// widths are in columns of text.
 ///
 /// # Errors
 ///
 /// `OutOfMemory` if an allocation is refused.
-#[tactic(auto, using(crate::specs::laws::SharesFit::shares_fit))]
+#[tactic(auto, using(crate::specs::laws::WordMinimums::length_minimums, crate::specs::laws::WordMinimums::word_shares_fit))]
 pub fn widths_across(
     alloc: Global,
     needs: &[ColumnNeed],
@@ -103,8 +156,8 @@ pub fn widths_across(
     if !stand_side_by_side(needs, width) {
         return Ok(None);
     }
-    let least = least_widths(alloc, needs)?;
-    let shares = shares(alloc, needs, width)?;
-    let cut = column_widths(alloc, least.as_slice(), shares.as_slice(), width)?;
+    let minimums = word_minimums(alloc, needs, width)?;
+    let shares = shares_from(alloc, needs, minimums.as_slice(), width)?;
+    let cut = column_widths(alloc, minimums.as_slice(), shares.as_slice(), width)?;
     Ok(Some(cut.widths))
 }

@@ -227,6 +227,15 @@ impl<D: TextDecorator> Config<D> {
         self
     }
 
+    /// Gives columns side by side the width of their longest words, as far as the width allows, so that words aren't cut at
+    /// the edges of columns. Whether a table's columns are side by side doesn't depend on it.
+    pub fn whole_words(mut self) -> Config<D>
+        ensures { result ≡ record self { settings = record self.settings { whole_words = true } } }
+    {
+        self.settings.whole_words = true;
+        self
+    }
+
     /// Returns the render tree of a document.
     ///
     /// # Errors

@@ -91,6 +91,7 @@ with_setting text options s =
     else if s.kind == 11 then Some (record options { settings = record options.settings { table_borders = false } })
     else if s.kind == 12 then Some (record options { settings = record options.settings { fence_tables = true } })
     else if s.kind == 13 then option_map (λ rule. record options { rules = options.rules ++ rule ∷ [] }) (rule_in text s)
+    else if s.kind == 14 then Some (record options { settings = record options.settings { whole_words = true } })
     else None
 
 -- options after records, one after another; none where one is faulty

@@ -20,7 +20,7 @@ use std::alloc::Global;
 pub struct Setting {
     /// Number of the call: 1 `allow_width_overflow`, 2 `do_decorate`, 3 `link_footnotes`, 4 `no_link_wrapping`,
     /// 5 `unicode_strikeout`, 6 `empty_img_mode`, 7 `pad_block_width`, 8 `max_wrap_width`, 9 `min_wrap_width`,
-    /// 10 `raw_mode`, 11 `no_table_borders`, 12 `fence_tables`, 13 `add_style_rule`.
+    /// 10 `raw_mode`, 11 `no_table_borders`, 12 `fence_tables`, 13 `add_style_rule`, 14 `whole_words`.
     pub kind: u32,
     /// Argument of the call:
     ///
@@ -134,6 +134,7 @@ pub fn with_setting<D: TextDecorator>(
         11 => Some(config.no_table_borders()),
         12 => Some(config.fence_tables()),
         13 => with_rule(alloc, config, text, setting)?,
+        14 => Some(config.whole_words()),
         _ => None,
     })
 }

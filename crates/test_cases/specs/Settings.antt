@@ -6,7 +6,7 @@ use Rattle.html_render_tree.specs.Rendering.{Options}
 use Rattle.test_cases.specs.declared.settings.Setting.{Setting}
 use Rattle.test_cases.specs.declared.settings.Setting.TheVariants.{AllowWidthOverflow, DoDecorate, AddStyleRule, LinkFootnotes}
 use Rattle.test_cases.specs.declared.settings.Setting.TheVariants.{NoLinkWrapping, UnicodeStrikeout, EmptyImgMode}
-use Rattle.test_cases.specs.declared.settings.Setting.TheVariants.{PadBlockWidth, MaxWrapWidth, MinWrapWidth, RawMode, NoTableBorders, FenceTables}
+use Rattle.test_cases.specs.declared.settings.Setting.TheVariants.{PadBlockWidth, MaxWrapWidth, MinWrapWidth, RawMode, NoTableBorders, FenceTables, WholeWords}
 
 -- the options after a call
 abbrev pub after_call : {S : Type 0} → Options S → Setting → Options S
@@ -23,6 +23,7 @@ after_call options (MinWrapWidth columns) = record options { settings = record o
 after_call options (RawMode raw) = record options { settings = record options.settings { raw_mode = raw; table_borders = false } }
 after_call options NoTableBorders = record options { settings = record options.settings { table_borders = false } }
 after_call options FenceTables = record options { settings = record options.settings { fence_tables = true } }
+after_call options WholeWords = record options { settings = record options.settings { whole_words = true } }
 
 -- the options after calls, in order
 abbrev pub changed_by : {S : Type 0} → Options S → List Setting → Options S

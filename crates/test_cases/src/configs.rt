@@ -37,6 +37,7 @@ pub fn is_setting(word: &str) -> bool {
         "pad_block_width"
             | "allow_width_overflow"
             | "fence_tables"
+            | "whole_words"
             | "no_table_borders"
             | "no_link_wrapping"
             | "do_decorate"
@@ -79,6 +80,7 @@ fn setting(alloc: Global, line: &str, watch: Watch) -> Result<Setting, Fault> {
         "pad_block_width" => Ok(Setting::PadBlockWidth),
         "allow_width_overflow" => Ok(Setting::AllowWidthOverflow),
         "fence_tables" => Ok(Setting::FenceTables),
+        "whole_words" => Ok(Setting::WholeWords),
         "no_table_borders" => Ok(Setting::NoTableBorders),
         "no_link_wrapping" => Ok(Setting::NoLinkWrapping),
         "do_decorate" => Ok(Setting::DoDecorate),

@@ -65,6 +65,8 @@ pub enum Setting {
     NoTableBorders,
     /// `fence_tables`.
     FenceTables,
+    /// `whole_words`.
+    WholeWords,
 }
 
 impl DecoratorName {
@@ -111,6 +113,7 @@ fn with_setting<D: TextDecorator>(
         Setting::RawMode(raw) => Ok(config.raw_mode(raw)),
         Setting::NoTableBorders => Ok(config.no_table_borders()),
         Setting::FenceTables => Ok(config.fence_tables()),
+        Setting::WholeWords => Ok(config.whole_words()),
     }
 }
 

@@ -1,10 +1,10 @@
 -- The minimum width of each column of a measured table is at most its preferred width.
-use Rattle.std.proofs.Common.{◌≡◌, ℕ, ◌+◌, ◌*◌, ◌/◌, ◌≤◌, Bool, true, false, cond, ltb, leb, ◌&&◌, List, [], ◌∷◌, ◌++◌, get_or, length, map, max, zero, suc}
-use Rattle.std.proofs.Common.{All, arith, refl}
+use Rattle.std.proofs.Common.{◌≡◌, ℕ, ◌+◌, ◌/◌, ◌≤◌, Bool, true, false, cond, ltb, leb, ◌&&◌, List, [], ◌∷◌, get_or, map, zero, suc}
+use Rattle.std.proofs.Common.{All, arith}
 use Rattle.std.specs.Prelude.{if◌then◌else◌, sum_by}
 use Rattle.std.specs.List.{range_with_len}
 use Rattle.std.proofs.Math.Nat.{div-mul-le_self, div-zero, le-div_iff_mul-le}
-use Rattle.std.proofs.lemmas.List.Elements.{All-nil, All-cons, All-append, All-map, All-weaker}
+use Rattle.std.proofs.lemmas.List.Elements.{All-nil, All-cons, All-head, All-tail, All-append, All-map, All-weaker}
 use Rattle.html_render_dom_values.specs.Forest.{Forest, none, node}
 use Rattle.html_render_parts.specs.Decoration.{Decoration}
 use Rattle.html_render_parts.specs.TableCells.{columns_of}
@@ -24,6 +24,8 @@ use Rattle.html_render_layout_estimates.specs.Cells.{cell_needs}
 use Rattle.html_render_layout_estimates.specs.Columns.{needs_of_kind}
 use Rattle.html_render_layout_estimates.specs.Estimates.{measured, measured_kind}
 use Rattle.html_render_layout_estimates.specs.Passes.{has_table, with_needed_sizes, without_sizes}
+use Rattle.html_render_layout_estimates.specs.Words.{column_words, shapes, with_longest, with_words, worded, worded_kind}
+use Rattle.html_render_layout_estimates.specs.declared.words.WordShape.{WordShape}
 use Rattle.html_render_layout_estimates.specs.laws.Least.{AllWithin, cells_within, trees_within}
 use Rattle.html_render_layout_estimates.specs.laws.Tables.{HaveOrderedWidths}
 
@@ -88,7 +90,30 @@ HasSharesBySize width e =
     let needs = needs_of_kind e.node.kind in
     shares width needs ≡ map (share_by_size width (sum_by (λ (n : ColumnNeed). n.preferred_width) needs)) needs
 
+-- columns with words are within their preferred widths
+within-longest : (needs : List ColumnNeed) (words : List ℕ) → AreWithinSizes needs → AreWithinSizes (with_longest needs words)
+within-longest (n ∷ ns) (w ∷ ws) h =
+    let P : ColumnNeed → Type 0 = λ m. m.min_width ≤ m.preferred_width in
+    All-cons P (record n { longest_word = w }) (with_longest ns ws) (All-head P n ns h) (within-longest ns ws (All-tail P n ns h))
+within-longest needs words h = h
+
+columns-worded : (kind : NodeKind) (below : Forest WordShape) → AreWithinSizes (needs_of_kind kind) → AreWithinSizes (needs_of_kind (worded_kind kind below))
+columns-worded (Table grid) below h = within-longest grid.needs (column_words grid.cells below) h
+columns-worded kind below h = h
+
 module _ {D A : Type 0} (decoration : Decoration D A) (decorator : D) (settings : LayoutSettings) where
+  all-worded : (t : Forest RenderNode) → AllColumns t → AllColumns (worded settings t)
+  all-worded none h = h
+  all-worded (node n children beside) h =
+      (columns-worded n.kind (shapes settings children) h.0, all-worded children h.1, all-worded beside h.2)
+
+  columns-with_words : (t : Forest RenderNode) → AllColumns t → AllColumns (with_words settings t)
+  columns-with_words t h = by (settings.whole_words && has_table t)
+    where
+      by : (b : Bool) → AllColumns (if b then worded settings t else t)
+      by true = all-worded t h
+      by false = h
+
   measured-columns : (t : Forest RenderNode) → AllColumns (measured decoration decorator settings t)
   measured-columns none = tt
   measured-columns (node n children beside) = (
@@ -101,15 +126,15 @@ module _ {D A : Type 0} (decoration : Decoration D A) (decorator : D) (settings 
   each_column_within t = all-columns (measured decoration decorator settings t) (measured-columns t)
 
   pub each_needed_column_within : (t : Forest RenderNode) →
-      All HasColumnsWithin (flatten (with_needed_sizes (measured decoration decorator settings t)))
+      All HasColumnsWithin (flatten (with_needed_sizes (with_words settings (measured decoration decorator settings t))))
   each_needed_column_within t =
-      all-columns (with_needed_sizes (measured decoration decorator settings t))
-      (columns-needed (measured decoration decorator settings t) (measured-columns t))
+      let words = with_words settings (measured decoration decorator settings t) in
+      all-columns (with_needed_sizes words) (columns-needed words (columns-with_words (measured decoration decorator settings t) (measured-columns t)))
 
   pub each_share_by_size : (t : Forest RenderNode) (width : ℕ) →
-      All (HasSharesBySize width) (flatten (with_needed_sizes (measured decoration decorator settings t)))
+      All (HasSharesBySize width) (flatten (with_needed_sizes (with_words settings (measured decoration decorator settings t))))
   each_share_by_size t width =
       All-weaker HasColumnsWithin (HasSharesBySize width) (λ e h. shares_are width (needs_of_kind e.node.kind) h)
-      (flatten (with_needed_sizes (measured decoration decorator settings t))) (each_needed_column_within t)
+      (flatten (with_needed_sizes (with_words settings (measured decoration decorator settings t)))) (each_needed_column_within t)
 
 pub ruleset of_columns = (each_column_within, each_needed_column_within)

@@ -18,6 +18,8 @@ use Rattle.html_render_layout_estimates.specs.declared.settings.LayoutSettings.{
 use Rattle.html_render_layout_estimates.specs.Cells.{row_needs, cell_needs}
 use Rattle.html_render_layout_estimates.specs.Estimates.{trees, greatest_least, total_size, prefix_of, measured_kind, estimate_of, measured}
 use Rattle.html_render_layout_estimates.specs.Passes.{is_table, has_table, without_sizes, with_needed_sizes}
+use Rattle.html_render_layout_estimates.specs.Words.{with_words}
+use Rattle.html_render_layout_estimates.specs.laws.Words.{words-plain}
 use Rattle.html_render_layout_estimates.specs.laws.Tables.{HaveOrderedWidths, table_within}
 
 -- whether a node's minimum width is at most its preferred width
@@ -117,7 +119,9 @@ module _ {D A : Type 0} (decoration : Decoration D A) (decorator : D) (settings 
       ∙ ap (λ b. is_table n.kind || (b || has_table (all_measured beside))) (tables-measured children)
       ∙ ap (λ b. is_table n.kind || (has_table children || b)) (tables-measured beside)
 
-  pub each_unsized : (t : Forest RenderNode) → has_table t ≡ false → All IsUnsized (flatten (with_needed_sizes (all_measured t)))
+  pub each_unsized : (t : Forest RenderNode) → has_table t ≡ false →
+      All IsUnsized (flatten (with_needed_sizes (with_words settings (all_measured t))))
   each_unsized t plain =
-      subst (λ b. All IsUnsized (flatten (if b then all_measured t else without_sizes (all_measured t))))
-      (sym (tables-measured t ∙ plain)) (all_unsized (all_measured t))
+      subst (λ u. All IsUnsized (flatten (with_needed_sizes u))) (sym (words-plain settings (all_measured t) (tables-measured t ∙ plain)))
+      (subst (λ b. All IsUnsized (flatten (if b then all_measured t else without_sizes (all_measured t))))
+      (sym (tables-measured t ∙ plain)) (all_unsized (all_measured t)))

@@ -5,9 +5,9 @@ use Rattle.std.proofs.lemmas.Bool.{cases_Bool, and_from, and_parts, leb-true, le
 use Rattle.std.proofs.lemmas.Bool.Decides.{nat_tests}
 use Rattle.html_render_parts_widths.specs.declared.shares.ColumnNeed.{ColumnNeed}
 use Rattle.html_render_parts_widths.specs.Cuts.{cut_by_units, IsFairestCut}
-use Rattle.html_render_parts_widths.specs.Shares.{least_widths, shares, stand_side_by_side, widths_across}
+use Rattle.html_render_parts_widths.specs.Shares.{least_widths, stand_side_by_side, word_minimums, word_shares, widths_across}
 use Rattle.html_render_parts_widths.specs.laws.Cuts.{fairest-only}
-use Rattle.html_render_parts_widths.specs.laws.SharesFit.{shares_fit}
+use Rattle.html_render_parts_widths.specs.laws.WordMinimums.{word_shares_fit}
 use Rattle.html_render_parts_widths.specs.laws.UnitCut.{cut_by_units-fairest}
 
 -- ---- when columns can be side by side
@@ -33,7 +33,7 @@ is_room w needs h =
 -- ---- their widths
 
 abbrev cut_across : ℕ → List ColumnNeed → List ℕ
-cut_across w needs = cut_by_units (least_widths needs) (shares w needs) w
+cut_across w needs = cut_by_units (word_minimums w needs) (word_shares w needs) w
 
 some-across : (w : ℕ) (needs : List ColumnNeed) → stand_side_by_side w needs ≡ true → widths_across w needs ≡ Some (cut_across w needs)
 some-across w needs t = rw t refl
@@ -42,24 +42,24 @@ none-across : (w : ℕ) (needs : List ColumnNeed) → stand_side_by_side w needs
 none-across w needs t = rw t refl
 
 cut-fairest : (w : ℕ) (needs : List ColumnNeed) → stand_side_by_side w needs ≡ true →
-    IsFairestCut (least_widths needs) (shares w needs) w (cut_across w needs)
-cut-fairest w needs t = cut_by_units-fairest (least_widths needs) (shares w needs) w (shares_fit w needs t)
+    IsFairestCut (word_minimums w needs) (word_shares w needs) w (cut_across w needs)
+cut-fairest w needs t = cut_by_units-fairest (word_minimums w needs) (word_shares w needs) w (word_shares_fit w needs t)
 
 pub across_is : (w : ℕ) (needs : List ColumnNeed) (ws : List ℕ) → widths_across w needs ≡ Some ws →
-    (stand_side_by_side w needs ≡ true) × IsFairestCut (least_widths needs) (shares w needs) w ws
+    (stand_side_by_side w needs ≡ true) × IsFairestCut (word_minimums w needs) (word_shares w needs) w ws
 across_is w needs ws e = elim (cases_Bool (stand_side_by_side w needs)) [
   | inl t ↦
       let f = some-across w needs t in
       let same : cut_across w needs ≡ ws = cc in
-      (t, subst (IsFairestCut (least_widths needs) (shares w needs) w) same (cut-fairest w needs t))
+      (t, subst (IsFairestCut (word_minimums w needs) (word_shares w needs) w) same (cut-fairest w needs t))
   | inr t ↦ let f = none-across w needs t in cc
 ]
 
 pub is_across : (w : ℕ) (needs : List ColumnNeed) (ws : List ℕ) → stand_side_by_side w needs ≡ true →
-    IsFairestCut (least_widths needs) (shares w needs) w ws
+    IsFairestCut (word_minimums w needs) (word_shares w needs) w ws
     → widths_across w needs ≡ Some ws
 is_across w needs ws t h =
-    some-across w needs t ∙ ap (λ xs. Some xs) (fairest-only (least_widths needs) (shares w needs) w (cut_across w needs) ws (cut-fairest w needs t) h)
+    some-across w needs t ∙ ap (λ xs. Some xs) (fairest-only (word_minimums w needs) (word_shares w needs) w (cut_across w needs) ws (cut-fairest w needs t) h)
 
 pub none_is : (w : ℕ) (needs : List ColumnNeed) → widths_across w needs ≡ None → stand_side_by_side w needs ≡ true → ⊥
 none_is w needs e t = let f = some-across w needs t in cc

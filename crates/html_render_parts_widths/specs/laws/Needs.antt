@@ -7,16 +7,17 @@ use Rattle.std.proofs.lemmas.List.Elements.{All-nil, All-cons, All-contains, All
 use Rattle.std.proofs.lemmas.List.FromFn.{length-map-range_with_len, get_or-map-range_with_len}
 use Rattle.html_render_parts_widths.specs.declared.needs.CellNeed.{CellNeed}
 use Rattle.html_render_parts_widths.specs.declared.shares.ColumnNeed.{ColumnNeed}
-use Rattle.html_render_parts_widths.specs.Shares.{least_widths, shares, widths_across}
+use Rattle.html_render_parts_widths.specs.Shares.{least_widths, word_minimums, word_shares, widths_across}
 use Rattle.html_render_parts_widths.specs.Spans.{given, greatest_at}
 use Rattle.html_render_parts_widths.specs.Needs.{no_need, part, need_at, column_needs, HasRoom, IsCell, AreCells}
 use Rattle.html_render_parts_widths.specs.laws.Cuts.{cut-within, neighbours-cut, HoldTogether}
-use Rattle.html_render_parts_widths.specs.laws.SharesFit.{of_widths}
+use Rattle.html_render_parts_widths.specs.laws.WordMinimums.{above_least, length_minimums, of_widths, word_shares_fit}
 
 -- ---- columns side by side are within the width
 
 pub across_within : (w : ℕ) (needs : List ColumnNeed) → IfSome (widths_across w needs) (λ ws. sum ws + (length ws - 1) ≤ w)
-across_within w needs = of_widths w needs (λ ws. sum ws + (length ws - 1) ≤ w) (cut-within (least_widths needs) (shares w needs) w)
+across_within w needs = of_widths w needs (λ ws. sum ws + (length ws - 1) ≤ w)
+    (λ ws stand cut. cut-within (word_minimums w needs) (word_shares w needs) w ws (word_shares_fit w needs stand) cut)
 
 -- ---- cells side by side have their minimum widths
 
@@ -66,4 +67,10 @@ pub cells_have_room : (columns : ℕ) (cells : List CellNeed) (w : ℕ) → AreC
 cells_have_room columns cells w h =
     let needs = column_needs columns cells in
     of_widths w needs (λ ws. All (HasRoom ws) cells)
-    (λ ws fits cut. has_room columns cells ws h (neighbours-cut (least_widths needs) (shares w needs) w ws cut))
+    (λ ws stand cut. has_room columns cells ws h (λ from count size some inside each.
+    let same : length (least_widths needs) ≡ length needs = length-map needs (λ (n : ColumnNeed). n.min_width) in
+    let len = length_minimums w needs stand in
+    neighbours-cut (word_minimums w needs) (word_shares w needs) w ws cut from count size some (omega (arith, inside, same, len))
+    (λ k low high.
+    let least = each k low high in
+    omega (arith, least, above_least w needs stand k (omega (arith, high, inside, same))))))

@@ -1,18 +1,16 @@
 -- The shares of columns that can be side by side can be cut to the width. They add up to at most the width plus the minimum
 -- widths.
 use Rattle.std.proofs.Common.{◌≡◌, ℕ, ◌+◌, ◌-◌, ◌*◌, ◌/◌, ◌<◌, ◌≤◌, ◌==◌, Bool, true, false, not}
-use Rattle.std.proofs.Common.{zero, suc, cond, ◌&&◌, leb, List, [], ◌∷◌, length, sum, sum_by, map, min, max, refl, ap, sym, ◌∙◌, arith, IfSome, Some, None}
+use Rattle.std.proofs.Common.{zero, suc, cond, ◌&&◌, leb, List, [], ◌∷◌, length, sum, sum_by, map, min, max, refl, ap, sym, ◌∙◌, arith}
 use Rattle.std.proofs.Math.Nat.{add-mul, div-zero, div-mul-le_self, div-le_of_le-mul, le-div_iff_mul-le}
 use Rattle.std.proofs.lemmas.Bool.{leb-true, eqb-true}
 use Rattle.std.proofs.lemmas.List.{get_or-map, length-map}
 use Rattle.std.proofs.lemmas.List.Elements.{All-head, All-tail}
 use Rattle.std.proofs.lemmas.List.Sums.{sum_by-cons}
 use Rattle.html_render_parts_widths.specs.declared.shares.ColumnNeed.{ColumnNeed}
-use Rattle.html_render_parts_widths.specs.Cuts.{cut_by_units, CutFits, IsCut}
-use Rattle.html_render_parts_widths.specs.Shares.{least_widths, share, share_by_size, shares, stand_side_by_side, widths_across}
+use Rattle.html_render_parts_widths.specs.Cuts.{CutFits}
+use Rattle.html_render_parts_widths.specs.Shares.{least_widths, share, share_by_size, shares, stand_side_by_side}
 use Rattle.html_render_parts_widths.specs.Needs.{no_need, AreWithinSizes}
-use Rattle.html_render_parts_widths.specs.laws.Cuts.{few-units}
-use Rattle.html_render_parts_widths.specs.laws.UnitCut.{cut_by_units-fairest}
 
 and_true : (a b : Bool) → (a && b) ≡ true → b ≡ true
 and_true true b e = e
@@ -35,23 +33,10 @@ shares_fit w needs stand =
       room = omega (arith, room, same);
     }
 
--- a property of all cuts of the shares is one of the widths of columns side by side
-pub of_widths : (w : ℕ) (needs : List ColumnNeed) (P : List ℕ → Type 0) →
-    ((ws : List ℕ) → CutFits (least_widths needs) (shares w needs) w → IsCut (least_widths needs) (shares w needs) w ws → P ws) →
-    IfSome (widths_across w needs) P
-of_widths w needs P f = by (stand_side_by_side w needs) refl
-  where
-    by : (b : Bool) → stand_side_by_side w needs ≡ b → IfSome (cond b (Some (cut_by_units (least_widths needs) (shares w needs) w)) None) P
-    by true e =
-        let fits = shares_fit w needs e in
-        f (cut_by_units (least_widths needs) (shares w needs) w) fits
-        (cut_by_units-fairest (least_widths needs) (shares w needs) w fits).is_cut
-    by false e = tt
-
 -- ---- the sum of the shares
 
 -- the sum of two quotients, each rounded down, is at most the rounded-down quotient of the sum
-div-both : (a b t : ℕ) → a / t + b / t ≤ (a + b) / t
+pub div-both : (a b t : ℕ) → a / t + b / t ≤ (a + b) / t
 div-both a b zero = omega (arith, div-zero a, div-zero b)
 div-both a b (suc t) =
     (le-div_iff_mul-le {k = suc t} {x = a / suc t + b / suc t} {y = a + b} (omega arith)).1
@@ -79,11 +64,6 @@ shares_keep w needs =
     let total = sum_by (λ (m : ColumnNeed). m.preferred_width) needs in
     let whole : total * w / total ≤ w = div-le_of_le-mul total {m = total * w} {n = w} (omega arith) in
     omega (arith, most, whole)
-
--- a cut of the shares takes at most `w` units
-pub few_units_across : (w : ℕ) (needs : List ColumnNeed) → IfSome (widths_across w needs) (λ ws. sum (shares w needs) - sum ws ≤ w)
-few_units_across w needs = of_widths w needs (λ ws. sum (shares w needs) - sum ws ≤ w)
-    (λ ws fits cut. few-units (least_widths needs) (shares w needs) w ws fits cut (shares_keep w needs))
 
 -- if a column's minimum width is at most its preferred width, its share is `share_by_size`
 pub share_is : (w t : ℕ) (n : ColumnNeed) → n.min_width ≤ n.preferred_width → share w t n ≡ share_by_size w t n

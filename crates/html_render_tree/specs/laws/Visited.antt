@@ -1,5 +1,5 @@
 -- All nodes of a good tree are visited, except those that a layout leaves out.
-use Rattle.std.proofs.Common.{◌≡◌, ℕ, ◌+◌, Bool, true, false, ◌||◌, ◌==◌, List, [], ◌∷◌, ◌++◌, length, Option, Some, None, option_and_then}
+use Rattle.std.proofs.Common.{◌≡◌, ℕ, ◌+◌, Bool, true, false, ◌||◌, ◌&&◌, ◌==◌, List, [], ◌∷◌, ◌++◌, length, Option, Some, None, option_and_then}
 use Rattle.std.proofs.Common.{IfSome, All, map, refl, sym, ap, ◌∙◌, subst, arith, length-append, inl, inr}
 use Rattle.std.specs.Prelude.{◌⊎◌, flat_map, sum_by, is_some, if◌then◌else◌}
 use Rattle.std.proofs.lemmas.Bool.{and_parts}
@@ -22,6 +22,9 @@ use Rattle.html_render_layout.specs.declared.nesting.OwnBlock.TheVariants.{Share
 use Rattle.html_render_layout.specs.declared.state.LayoutState.{LayoutState}
 use Rattle.html_render_layout_blocks.specs.declared.block.BlockSetting.{BlockSetting}
 use Rattle.html_render_layout_estimates.specs.Estimates.{measured_kind, measured}
+use Rattle.html_render_layout_estimates.specs.Passes.{has_table}
+use Rattle.html_render_layout_estimates.specs.Words.{shapes, with_words, worded, worded_kind}
+use Rattle.html_render_layout_estimates.specs.declared.words.WordShape.{WordShape}
 use Rattle.html_render_layout_estimates.specs.declared.settings.LayoutSettings.{LayoutSettings}
 use Rattle.html_render_parts.specs.Decoration.{Decoration}
 use Rattle.html_render_layout.specs.Layout.{Algebra, Write, Shape, Steps, Around, Items, Cells, digits_of, raised, superscript, block_of, shape_of, style_steps}
@@ -427,6 +430,49 @@ module _ {D A : Type 0} (d : Decoration D A) (x : D) (settings : LayoutSettings)
       λ i. are_good_below (λ q. measured-good q children i) (λ q. measured-good q beside i)
       (around-measured p n.kind (measured d x settings children) i)
 
+module _ (settings : LayoutSettings) where
+  worded_count : (t : Forest RenderNode) → count (worded settings t) ≡ count t
+  worded_count none = refl
+  worded_count (node n children beside) = omega (arith, worded_count children, worded_count beside)
+
+  worded_depth : (t : Forest RenderNode) → depth (worded settings t) ≡ depth t
+  worded_depth none = refl
+  worded_depth (node n children beside) = omega (arith, worded_depth children, worded_depth beside)
+
+  around-worded : (p : TreePlace) (kind : NodeKind) (below : Forest WordShape) → places_around p (worded_kind kind below) ≡ places_around p kind
+  around-worded Anywhere (Table grid) below = refl
+  around-worded (InTable (c ∷ cs)) (Table grid) below = refl
+  around-worded (InRow (c ∷ cs)) (Table grid) below = refl
+  around-worded p (Table grid) below = refl
+  around-worded p kind below = refl
+
+  worded-good : (p : TreePlace) (t : Forest RenderNode) → are_good p (worded settings t) ≡ are_good p t
+  worded-good p none = refl
+  worded-good p (node n children beside) =
+      λ i. are_good_below (λ q. worded-good q children i) (λ q. worded-good q beside i)
+      (around-worded p n.kind (shapes settings children) i)
+
+  pub words_count : (t : Forest RenderNode) → count (with_words settings t) ≡ count t
+  words_count t = by (settings.whole_words && has_table t)
+    where
+      by : (b : Bool) → count (if b then worded settings t else t) ≡ count t
+      by true = worded_count t
+      by false = refl
+
+  pub words_depth : (t : Forest RenderNode) → depth (with_words settings t) ≡ depth t
+  words_depth t = by (settings.whole_words && has_table t)
+    where
+      by : (b : Bool) → depth (if b then worded settings t else t) ≡ depth t
+      by true = worded_depth t
+      by false = refl
+
+  words-good : (p : TreePlace) (t : Forest RenderNode) → are_good p (with_words settings t) ≡ are_good p t
+  words-good p t = by (settings.whole_words && has_table t)
+    where
+      by : (b : Bool) → are_good p (if b then worded settings t else t) ≡ are_good p t
+      by true = worded-good p t
+      by false = refl
+
 -- WHERE A GOOD TREE has lines, all of its nodes are visited, except those that are left out
 pub lines_visit_all : {S A : Type 0} (d : Decoration S A) (settings : LayoutSettings) (t : Forest RenderNode) (decorator : S) (block : BlockSetting) →
     are_good Anywhere t ≡ true →
@@ -437,5 +483,7 @@ lines_visit_all {S} {A} d settings t decorator block h =
     let start = empty_state d settings decorator block in
     if_cases (λ x. IfSome x (λ lines. VisitsAllBut (defined d) trees start)) (block.width == 0) _ _ (λ _. tt) (λ _.
     bind_some (λ r. VisitsAllBut (defined d) trees start) (λ lines. VisitsAllBut (defined d) trees start) _ (run (defined d) trees start)
-    (visits-all (by_stacks d) trees start (measured-good d (d.subblock (d.subblock decorator)) settings Anywhere t ∙ h))
+    (visits-all (by_stacks d) trees start
+    (words-good settings Anywhere (measured d (d.subblock (d.subblock decorator)) settings t)
+    ∙ measured-good d (d.subblock (d.subblock decorator)) settings Anywhere t ∙ h))
     (λ r k. always (VisitsAllBut (defined d) trees start) _ k))

@@ -4,6 +4,7 @@ ghost use Rattle.std.specs.Prelude.{◌≡◌, true, IfSome};
 ghost use Rattle.html_render_dom_values.specs.Forest.{Forest, count, depth};
 ghost use Rattle.html_render_layout_blocks.specs.declared.block.BlockSetting.{BlockSetting};
 ghost use Rattle.html_render_layout_estimates.specs.Estimates.{measured};
+ghost use Rattle.html_render_layout_estimates.specs.Words.{with_words};
 ghost use Rattle.html_render_layout.specs.Layout.{defined, empty_state, estimated, layout_lines};
 ghost use Rattle.html_render_tree.specs.GoodTrees.{Anywhere, are_good};
 ghost use Rattle.html_render_tree.specs.Visited.{VisitsAllBut};
@@ -22,11 +23,11 @@ fn layouts_visit_all_nodes<D: TextDecorator>()
         (empty_state D.decoration settings decorator block)) }
 {}
 
-/// A measured tree has the number of nodes and the depth of the tree.
-#[tactic(auto, using(crate::specs::laws::Visited::measured_count, crate::specs::laws::Visited::measured_depth))]
+/// A measured tree, with words or without them, has the number of nodes and the depth of the tree.
+#[tactic(auto, using(crate::specs::laws::Visited::measured_count, crate::specs::laws::Visited::measured_depth, crate::specs::laws::Visited::words_count, crate::specs::laws::Visited::words_depth))]
 fn measuring_keeps_count_and_depth<D: TextDecorator>()
     ensures count { (decorator : D) (settings : LayoutSettings) (trees : Forest RenderNode) →
-        count (measured D.decoration decorator settings trees) ≡ count trees }
+        count (with_words settings (measured D.decoration decorator settings trees)) ≡ count trees }
     ensures depth { (decorator : D) (settings : LayoutSettings) (trees : Forest RenderNode) →
-        depth (measured D.decoration decorator settings trees) ≡ depth trees }
+        depth (with_words settings (measured D.decoration decorator settings trees)) ≡ depth trees }
 {}

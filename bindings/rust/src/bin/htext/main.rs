@@ -40,6 +40,7 @@ none, as text wrapped to a width.
       --row-rules     a line under each row of a table; without it none between
                       short rows, but under the heads
       --raw-tables    cells of tables stand one below another
+      --cut-words     columns don't get the width of their longest words
       --no-borders    tables are drawn without borders
       --fence-tables  tables stand between lines of three backquotes
       --wrap-code     lines of preformatted text are cut at the width; without it
@@ -113,6 +114,9 @@ fn changed<D: Decorator>(config: Config<D>, choices: &Choices) -> Result<Config<
             Change::Images(Images::Name) => config.empty_img_mode(ImageRenderMode::Filename),
             Change::Images(Images::Always) => config.empty_img_mode(ImageRenderMode::ShowAlways),
         };
+    }
+    if !choices.cuts_words {
+        config = config.whole_words();
     }
     Ok(if choices.is_narrow { config } else { config.allow_width_overflow() })
 }

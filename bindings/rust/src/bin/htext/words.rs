@@ -52,6 +52,8 @@ pub struct Choices {
     pub changes: Vec<Change>,
     pub css: String,
     pub is_narrow: bool,
+    /// Whether columns may be narrower than their words where there is room.
+    pub cuts_words: bool,
     pub options: Options,
     pub output: Option<OsString>,
     /// The files to print; `-` is standard input.
@@ -125,6 +127,7 @@ pub fn read(mut words: impl Iterator<Item = OsString>) -> Result<Task, Usage> {
         changes: Vec::new(),
         css: String::new(),
         is_narrow: false,
+        cuts_words: false,
         options: Options::new(),
         output: None,
         files: Vec::new(),
@@ -216,6 +219,10 @@ impl Choices {
             }
             "--narrow" => {
                 self.is_narrow = true;
+                return word.alone().map(|()| None);
+            }
+            "--cut-words" => {
+                self.cuts_words = true;
                 return word.alone().map(|()| None);
             }
             "--raw-tables" => Change::RawTables,

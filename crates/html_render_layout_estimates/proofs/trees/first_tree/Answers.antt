@@ -5,7 +5,7 @@ use Rattle.html_render_layout_estimates.proofs.Parting.{parted}
 use Rattle.html_render_layout_estimates.proofs.trees.first_tree.Goals as goal
 
 pub returns-clause-cases : goal.returns-clause-cases
-returns-clause-cases c =
+returns-clause-cases g c =
     let p = parted _ _ _ c.requires c.in_ok-entry.ensures.cases.0 in
     let below = ap forest_of c.split_at.ensures.front ∙ p.below_is.is in
     let beside = ap forest_of c.split_at.ensures.back ∙ p.beside_is.is in
@@ -13,7 +13,7 @@ returns-clause-cases c =
     ∙ ap (λ t. node c.in_ok-entry.entry.now.node p.below t) beside)
 
 pub returns-clause-below : goal.returns-clause-below
-returns-clause-below c = let p = parted _ _ _ c.requires c.in_ok-entry.ensures.cases.0 in rw c.split_at.ensures.front p.below_is.kept
+returns-clause-below g c = let p = parted _ _ _ c.requires c.in_ok-entry.ensures.cases.0 in rw c.split_at.ensures.front p.below_is.kept
 
 pub returns-clause-beside : goal.returns-clause-beside
-returns-clause-beside c = let p = parted _ _ _ c.requires c.in_ok-entry.ensures.cases.0 in rw c.split_at.ensures.back p.beside_is.kept
+returns-clause-beside g c = let p = parted _ _ _ c.requires c.in_ok-entry.ensures.cases.0 in rw c.split_at.ensures.back p.beside_is.kept
