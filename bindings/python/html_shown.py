@@ -719,7 +719,7 @@ def _changed_element(recorded, element, attributes, around, tables):
         recorded.before = "" if inside.is_invisible else _RULE * (min(width, _RULE_IN_CELL) if inside.is_in_cell else width)
         recorded.kind, recorded.has_children = "rule" if recorded.before else "", False
     elif tag == "dt":
-        recorded.kind = "term"
+        recorded.kind, recorded.around = "term", replace(inside, is_unsigned=True)
     elif tag == "q" and not inside.hides_texts:
         recorded.before, recorded.after = ("\u201c", "\u201d") if inside.quotations % 2 == 0 else ("\u2018", "\u2019")
         recorded.around = replace(inside, quotations=inside.quotations + 1)

@@ -84,7 +84,7 @@ impl Flags {
     const LIST: Flags = Flags(16);
     /// A table is around.
     const TABLE: Flags = Flags(32);
-    /// Emphasis has no signs: in a heading, a `th`, a row that is set apart, or a `sup`.
+    /// Emphasis has no signs: in a heading, a `dt`, a `th`, a row that is set apart, or a `sup`.
     const UNSIGNED: Flags = Flags(64);
 
     /// Reports whether one of some flags is set.
@@ -529,6 +529,7 @@ impl<'a> Adapter<'a> {
                 Some(self.open_heading(recorder, opened, context))
             }
             Change::Term => {
+                context.flags.set(Flags::UNSIGNED, true);
                 let handle = self.record(recorder, opened);
                 self.inline.gaps.part_term(recorder, handle);
                 Some(Entered::new(handle, context))
