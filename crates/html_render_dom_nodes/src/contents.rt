@@ -6,8 +6,8 @@ use crate::names::QualName;
 use html_render_dom_values::small_text::SmallText;
 use std::alloc::{AllocError, Global};
 
-/// Text of a text node. Up to 24 bytes are stored in the node, without an allocation.
-pub type TextContents = SmallText<24>;
+/// Text of a text node. Up to 30 bytes are stored in the node, without an allocation.
+pub type TextContents = SmallText<30>;
 
 /// The data of a node, without its children and its parent.
 #[derive(Drop)]

@@ -25,8 +25,8 @@ pub enum Namespace {
     Other(String),
 }
 
-/// A name within its namespace. Up to 16 bytes are stored without an allocation.
-pub type LocalName = SmallText<16>;
+/// A name within its namespace. Up to 30 bytes are stored without an allocation.
+pub type LocalName = SmallText<30>;
 
 /// A qualified name: a namespace and a local name.
 #[derive(Debug, Drop)]

@@ -6,6 +6,7 @@
 
 pub mod colours;
 mod errors;
+mod inline_text;
 mod laws;
 pub mod room;
 pub mod small_text;

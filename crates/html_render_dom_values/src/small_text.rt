@@ -9,10 +9,11 @@ ghost use Rattle.std.specs.Cmp.{partial_equiv_from_equiv};
 ghost use Rattle.std.specs.Cmp.Lexicographic.{nat_list_eq_equiv};
 ghost use Rattle.html_render_dom_values.specs.SmallText.{bytes_in};
 
-use arrayvec::ArrayString;
+use crate::inline_text::InlineText;
 use std::alloc::{AllocError, Global};
 use std::fmt;
 use std::marker::Model;
+use std::mem::size_of;
 
 /// Room for further bytes, in bytes, of a text that moves to an allocation because it grows.
 const MORE: usize = 32;
@@ -21,18 +22,22 @@ const MORE: usize = 32;
 #[derive(Drop)]
 enum Bytes<const SHORT: usize> {
     /// At most `SHORT` bytes, inline.
-    Short(ArrayString<SHORT>),
+    Short(InlineText<SHORT>),
     /// Bytes of any number, in an allocation.
     Long(String),
 }
 
-/// Text with room for `SHORT` bytes inline. It moves to an allocation when it needs more room, and stays there.
+/// Text with room for `SHORT` bytes inline, at most 255. It moves to an allocation when it needs more room, and stays
+/// there.
 ///
 /// In contracts, a text is its bytes.
 #[derive(Drop)]
 pub struct SmallText<const SHORT: usize> {
     bytes: Bytes<SHORT>,
 }
+
+// 30 bytes inline take no more than a `String`: with the tag of the storage, 32 bytes.
+const _: () = prove!(size_of::<SmallText<30>>() == 32);
 
 impl<const SHORT: usize> Model for SmallText<SHORT> {
     ghost Value = { List ℕ };
@@ -45,7 +50,7 @@ impl<const SHORT: usize> Clone for SmallText<SHORT> {
 
     fn clone(&self) -> Result<SmallText<SHORT>, AllocError> {
         let bytes = match &self.bytes {
-            Bytes::Short(bytes) => Bytes::Short(*bytes),
+            Bytes::Short(bytes) => Bytes::Short(bytes.copied()),
             Bytes::Long(bytes) => Bytes::Long(bytes.clone()?),
         };
         Ok(SmallText { bytes })
@@ -77,7 +82,7 @@ impl<const SHORT: usize> From<String> for SmallText<SHORT> {
 
     /// Converts a string without an allocation: up to `SHORT` bytes are copied inline, a longer string is taken as it is.
     fn from(string: String) -> SmallText<SHORT> {
-        if let Ok(short) = ArrayString::from(string.as_str()) {
+        if let Some(short) = InlineText::try_from_str(string.as_str()) {
             return SmallText {
                 bytes: Bytes::Short(short),
             };
@@ -97,7 +102,7 @@ impl<const SHORT: usize> SmallText<SHORT> {
     pub fn from_str(alloc: Global, text: &str) -> Result<SmallText<SHORT>, AllocError>
         ensures { IfOk result (λ t. t ≡ text.now) }
     {
-        if let Ok(short) = ArrayString::from(text) {
+        if let Some(short) = InlineText::try_from_str(text) {
             return Ok(SmallText {
                 bytes: Bytes::Short(short),
             });
@@ -126,7 +131,7 @@ impl<const SHORT: usize> SmallText<SHORT> {
         ensures { result ≡ [] }
     {
         SmallText {
-            bytes: Bytes::Short(ArrayString::new()),
+            bytes: Bytes::Short(InlineText::new()),
         }
     }
 
@@ -139,7 +144,7 @@ impl<const SHORT: usize> SmallText<SHORT> {
     pub fn with_capacity(alloc: Global, bytes: usize) -> Result<SmallText<SHORT>, AllocError>
         ensures { IfOk result (λ t. t ≡ []) }
     {
-        if bytes <= SHORT {
+        if bytes <= InlineText::<SHORT>::capacity() {
             return Ok(SmallText::new());
         }
         let text = String::with_capacity(alloc, bytes)?;
@@ -290,7 +295,7 @@ impl<const SHORT: usize> SmallText<SHORT> {
             Bytes::Long(text) => return text.insert_str(0, front),
             Bytes::Short(text) => {
                 if front.len() <= text.remaining_capacity() {
-                    let mut all = ArrayString::new();
+                    let mut all = InlineText::new();
                     all.push_str(front);
                     all.push_str(text.as_str());
                     *text = all;

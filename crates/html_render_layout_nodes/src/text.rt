@@ -4,5 +4,5 @@
 
 use html_render_dom_values::small_text::SmallText;
 
-/// Text of a node. Up to 24 bytes are stored in the node, without an allocation.
-pub type NodeText = SmallText<24>;
+/// Text of a node. Up to 30 bytes are stored in the node, without an allocation.
+pub type NodeText = SmallText<30>;

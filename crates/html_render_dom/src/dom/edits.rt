@@ -68,7 +68,7 @@ impl RcDom {
     /// Appends a copy of a text to the children of `parent`.
     ///
     /// As in [`append`](RcDom::append), the text is joined to the last child if that is a text node. A new text node stores
-    /// up to 24 bytes without a further allocation.
+    /// up to 30 bytes without a further allocation.
     ///
     /// # Errors
     ///

@@ -23,8 +23,8 @@ use html_render_dom_values::small_text::SmallText;
 use html_render_dom_values::white_space::WhiteSpace;
 use std::alloc::{AllocError, Global};
 
-/// Text of a content declaration. Up to 24 bytes are stored without an allocation.
-pub type ContentText = SmallText<24>;
+/// Text of a content declaration. Up to 30 bytes are stored without an allocation.
+pub type ContentText = SmallText<30>;
 
 /// The style of an element: for each property the declared value that wins, if there is one.
 ///
