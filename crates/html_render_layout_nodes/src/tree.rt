@@ -305,8 +305,6 @@ impl From<NodeKind> for RenderNode {
 pub struct RenderTree {
     /// Nodes in pre-order.
     nodes: PreorderForest<RenderNode>,
-    /// Depth of each node, in pre-order.
-    depths: Vec<usize>,
 }
 
 impl Model for RenderTree {
@@ -315,7 +313,6 @@ impl Model for RenderTree {
     ghost use Rattle.html_render_dom_values.specs.Forest.{Forest};
     ghost use Rattle.html_render_layout_nodes.specs.declared.tree.Entry.{Entry};
     ghost use Rattle.html_render_layout_nodes.specs.declared.tree.RenderNode.{RenderNode};
-    ghost use Rattle.html_render_layout_nodes.specs.Depths.{depths_of};
     ghost use Rattle.html_render_layout_nodes.specs.Preorder.{forest_of, flatten};
     ghost use Rattle.html_render_layout_nodes.specs.laws.Preorder.{forest_of-flatten};
 
@@ -324,11 +321,16 @@ impl Model for RenderTree {
     ghost coded = { code_by (List (Entry RenderNode)) (coded_list (Prim.hlevel codes)) flatten forest_of forest_of-flatten };
 
     ghost view = { λ t. t.nodes };
-
-    ghost invariant = { λ t. t.depths.items ≡ depths_of 0 t.nodes };
 }
 
 impl RenderTree {
+    /// Creates a render tree from its nodes.
+    pub fn new(nodes: PreorderForest<RenderNode>) -> RenderTree
+        ensures { result ≡ nodes }
+    {
+        RenderTree { nodes }
+    }
+
     /// Returns the nodes.
     pub fn nodes(&self) -> &PreorderForest<RenderNode>
         ensures { result.now ≡ self.now }

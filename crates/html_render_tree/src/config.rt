@@ -250,7 +250,7 @@ impl<D: TextDecorator> Config<D> {
         ensures err { IfErr result (λ e. Fails e (render_tree_of self.now.rules dom.now)) }
     {
         let nodes = convert::dom_to_render_tree(alloc, &self.rules, dom)?;
-        RenderTree::new(alloc, nodes)
+        Ok(RenderTree::new(nodes))
     }
 
     /// Like [`Config::dom_to_render_tree`], but frees the document early, for a lower peak of memory.
@@ -265,7 +265,7 @@ impl<D: TextDecorator> Config<D> {
         ensures err { IfErr result (λ e. Fails e (render_tree_of self.now.rules dom)) }
     {
         let nodes = convert::dom_into_render_tree(alloc, &self.rules, dom)?;
-        RenderTree::new(alloc, nodes)
+        Ok(RenderTree::new(nodes))
     }
 }
 

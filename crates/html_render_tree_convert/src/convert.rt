@@ -877,7 +877,7 @@ pub fn dom_to_render_tree(
     drafts_of(alloc, rules, dom)?.into_nodes(alloc)
 }
 
-/// Like [`dom_to_render_tree`], but drops the document before insertions and depths are written, for a lower peak of memory.
+/// Like [`dom_to_render_tree`], but drops the document before insertions are written, for a lower peak of memory.
 ///
 /// # Errors
 ///

@@ -62,11 +62,6 @@ impl RenderTree {
         ensures err { OnlyOutOfMemory result }
     {
         let entries = copies_of(alloc, self.nodes.entries())?;
-        let mut depths = Vec::new(alloc);
-        depths.extend_from_slice(&self.depths)?;
-        Ok(RenderTree {
-            nodes: PreorderForest::from_entries(entries),
-            depths,
-        })
+        Ok(RenderTree::new(PreorderForest::from_entries(entries)))
     }
 }

@@ -5,6 +5,7 @@ ghost use Rattle.std.specs.Fmt.{WritesOnOk};
 ghost use Rattle.html_render_layout_nodes.specs.Dump.{tree_dump, tree_line};
 
 use super::RenderTree;
+use super::depths::OpenSubtrees;
 use std::fmt;
 
 /// Writes `depth` spaces, a name and a line feed.
@@ -32,8 +33,12 @@ impl fmt::Display for RenderTree {
     ghost output = { λ tree. Some (tree_dump 0 tree) };
 
     fn fmt<W: fmt::Write>(&self, f: &mut fmt::Formatter<W>) -> fmt::Result {
-        for (at, entry) in self.nodes.entries().iter().enumerate() {
-            write_line(f, self.depths[at], entry.node.kind.name())?;
+        let entries = self.nodes.entries();
+        let mut open = OpenSubtrees::none();
+        for (place, entry) in entries.iter().enumerate() {
+            open.leave(place, &entries[..place]);
+            write_line(f, open.depth, entry.node.kind.name())?;
+            open.add(place, place, entry.subtree_len);
         }
         Ok(())
     }
