@@ -6,3 +6,4 @@ pub mod Shapes
 pub mod Measuring
 pub mod Parting
 pub mod Again
+pub mod Onward

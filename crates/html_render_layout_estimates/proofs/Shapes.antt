@@ -1,11 +1,10 @@
 -- Shapes of texts that are read word by word.
-use Rattle.std.proofs.Common.{◌≡◌, ◌∷◌, ℕ, ◌+◌, ◌==◌, ◌<◌, ◌≤◌, ◌||◌, Bool, true, false, List, length, drop, get_or, zero, suc, refl, ap, subst, ◌∙◌, arith}
+use Rattle.std.proofs.Common.{◌≡◌, ℕ, ◌+◌, ◌==◌, ◌<◌, ◌≤◌, true, false, List, length, drop, get_or, zero, suc, refl, ap, subst, ◌∙◌, arith}
 use Rattle.std.specs.List.{AllWithin}
 use Rattle.std.proofs.lemmas.Grind.{common_steps}
 use Rattle.std.specs.Str.{chars}
 use Rattle.html_render_layout_lines.specs.Character.{is_collapsible}
 use Rattle.html_render_layout_lines.specs.laws.Characters.{plain_width}
-use Rattle.html_render_layout_estimates.specs.TextSize.{saturated}
 use Rattle.html_render_layout_estimates.specs.Words.{word_break, joined_shapes, character_shape, shape_after}
 use Rattle.html_render_layout_estimates.specs.declared.words.WordShape.{WordShape}
 use Rattle.html_render_layout_estimates.specs.declared.words.WordShape.TheVariants.{Part, Broken}

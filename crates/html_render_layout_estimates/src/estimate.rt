@@ -276,7 +276,7 @@ fn note(node: &mut RenderNode, measure: Measure)
 
 /// Reports whether a node is a table.
 #[inline]
-fn is_table(kind: &NodeKind) -> bool
+pub(crate) fn is_table(kind: &NodeKind) -> bool
     ensures { result ≡ is_table kind.now }
 {
     matches!(kind, NodeKind::Table(_))

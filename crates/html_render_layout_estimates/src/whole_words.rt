@@ -9,6 +9,7 @@ ghost use Rattle.html_render_layout_nodes.specs.Preorder.{flatten, forest_of};
 ghost use Rattle.html_render_layout_estimates.specs.Words.{row_words, cell_words, column_words, with_longest, worded_kind, worded};
 ghost use Rattle.html_render_layout_estimates.specs.Words.{node_shape, worded_node};
 
+use crate::estimate::is_table;
 use crate::settings::LayoutSettings;
 use crate::trees::first_tree;
 use crate::words::{WordShape, node_shape};
@@ -172,9 +173,34 @@ fn set_shape(shapes: &mut Vec<Entry<WordShape>>, at: usize, shape: WordShape, su
     };
 }
 
-/// Sets the longest words of the columns of each table, from the last node to the first.
+/// Sets the longest words of the columns of each table in a tree, from the last node to the first.
 ///
 /// The shape of each node is kept beside the nodes, for the node around it.
+fn add_tree_words(
+    alloc: Global,
+    settings: &LayoutSettings,
+    tree: &mut [Entry<RenderNode>],
+) -> Result<(), Error>
+    requires { flatten (forest_of tree.old) ≡ tree.old }
+    ensures ok { OnOk result (tree.new ≡ flatten (worded settings.now (forest_of tree.old))) }
+    ensures err { OnlyOutOfMemory result }
+{
+    let mut at = tree.len();
+    let mut shapes = unknown_shapes(alloc, at)?;
+    while at > 0 {
+        at -= 1;
+        let subtree_len = tree[at].subtree_len;
+        let all = shapes.as_slice();
+        let below = &all[at + 1..at + subtree_len];
+        let shape = add_node_words(alloc, settings, &mut tree[at].node, below)?;
+        set_shape(&mut shapes, at, shape, subtree_len);
+    }
+    Ok(())
+}
+
+/// Sets the longest words of the columns of each table.
+///
+/// Computes shapes only inside tables: a table inside no other table gets its words together with all nodes below it.
 ///
 /// # Errors
 ///
@@ -188,17 +214,17 @@ pub fn add_words(
     ensures ok { OnOk result (entries.new.items ≡ flatten (worded settings.now (forest_of entries.old.items))) }
     ensures err { OnlyOutOfMemory result }
 {
-    let mut at = entries.len();
-    let mut shapes = unknown_shapes(alloc, at)?;
-    while at > 0 {
-        at -= 1;
-        let nodes = entries.as_slice();
+    let nodes = entries.as_mut_slice();
+    let mut at = 0;
+    while at < nodes.len() {
         let entry = &nodes[at];
-        let subtree_len = entry.subtree_len;
-        let all = shapes.as_slice();
-        let below = &all[at + 1..at + subtree_len];
-        let shape = add_node_words(alloc, settings, &mut entries[at].node, below)?;
-        set_shape(&mut shapes, at, shape, subtree_len);
+        if is_table(&entry.node.kind) {
+            let end = at + entry.subtree_len;
+            add_tree_words(alloc, settings, &mut nodes[at..end])?;
+            at = end;
+        } else {
+            at += 1;
+        }
     }
     Ok(())
 }

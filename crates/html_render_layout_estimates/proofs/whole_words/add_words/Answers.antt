@@ -1,49 +1,46 @@
-use Rattle.std.proofs.Common.{sym, arith}
-use Rattle.html_render_layout_nodes.specs.Preorder.{forest_of}
-use Rattle.html_render_layout_estimates.proofs.Wording.{Wording-start, Wording-at, Wording-done, Next-part, Next-done}
+use Rattle.std.proofs.Common.{◌+◌, ◌-◌, ◌≡◌, get_or, sym, ap, ◌∙◌, arith}
+use Rattle.std.proofs.lemmas.List.{take_at}
+use Rattle.html_render_layout_estimates.proofs.Onward.{Onward-at, Onward-past, Onward-table, Onward-done}
 use Rattle.html_render_layout_estimates.proofs.whole_words.add_words.Goals as goal
 
-pub loop-at-init : goal.loop-at-init
-loop-at-init c =
-    Wording-start c.args.settings.now (forest_of c.args.entries.now.items) c.args.entries.now.items c.in_ok-shapes.shapes.items c.len-at.result
-    (sym c.requires) c.in_ok-shapes.ensures (omega (arith, c.len-at.ensures, c.args.entries.now.ok.0))
+pub overflow_add-end : goal.overflow_add-end
+overflow_add-end c =
+    let e = get_or c.loop-at.nodes c.loop-at.at c.index-nodes-at.result in
+    let f = Onward-at _ _ _ _ e c.loop-at.invariant (omega arith) (ap (get_or c.loop-at.nodes c.loop-at.at) c.index-nodes-at.is) in
+    omega (arith, f.end, c.loop-at.auto.nodes, c.as_mut_slice-nodes.ensures.len, c.args.entries.now.ok.0)
 
-pub overflow_add-below-in-loop-at : goal.overflow_add-below-in-loop-at
-overflow_add-below-in-loop-at c =
-    let f = Wording-at _ _ _ _ _ _ _ c.loop-at.invariant c.loop-at-test.true c.as_slice-nodes.ensures.value c.index-nodes-at.is in
-    omega (arith, f.end, c.loop-at.entries.ok.0)
+pub slice_bounds-add_tree_words-end : goal.slice_bounds-add_tree_words-end
+slice_bounds-add_tree_words-end c =
+    let e = get_or c.loop-at.nodes c.loop-at.at c.index-nodes-at.result in
+    let f = Onward-at _ _ _ _ e c.loop-at.invariant (omega arith) (ap (get_or c.loop-at.nodes c.loop-at.at) c.index-nodes-at.is) in
+    f.end
 
-pub slice_bounds-below-count : goal.slice_bounds-below-count
-slice_bounds-below-count c =
-    let f = Wording-at _ _ _ _ _ _ _ c.loop-at.invariant c.loop-at-test.true c.as_slice-nodes.ensures.value c.index-nodes-at.is in
-    omega (arith, f.subtree_len)
+pub add_tree_words-requires : goal.add_tree_words-requires
+add_tree_words-requires c =
+    let e = get_or c.loop-at.nodes c.loop-at.at c.index-nodes-at.result in
+    let f = Onward-at _ _ _ _ e c.loop-at.invariant (omega arith) (ap (get_or c.loop-at.nodes c.loop-at.at) c.index-nodes-at.is) in
+    let n : c.loop-at.at + e.subtree_len - c.loop-at.at ≡ e.subtree_len = omega arith in
+    rw n f.tree.kept
 
-pub slice_bounds-below-start : goal.slice_bounds-below-start
-slice_bounds-below-start c =
-    let f = Wording-at _ _ _ _ _ _ _ c.loop-at.invariant c.loop-at-test.true c.as_slice-nodes.ensures.value c.index-nodes-at.is in
-    omega (arith, f.subtree_len)
+pub loop-at-smaller-then-is_table : goal.loop-at-smaller-then-is_table
+loop-at-smaller-then-is_table c =
+    let e = get_or c.loop-at.nodes c.loop-at.at c.index-nodes-at.result in
+    let f = Onward-at _ _ _ _ e c.loop-at.invariant (omega arith) (ap (get_or c.loop-at.nodes c.loop-at.at) c.index-nodes-at.is) in
+    omega (arith, f.subtree_len, f.end, c.loop-at.auto.nodes)
 
-pub slice_bounds-below-end : goal.slice_bounds-below-end
-slice_bounds-below-end c =
-    let f = Wording-at _ _ _ _ _ _ _ c.loop-at.invariant c.loop-at-test.true c.as_slice-nodes.ensures.value c.index-nodes-at.is in
-    omega (arith, f.end_known, c.as_slice-all.ensures.len, c.loop-at.shapes.ok.0)
-
-pub add_node_words-requires : goal.add_node_words-requires
-add_node_words-requires c =
-    let f = Wording-at _ _ _ _ _ _ _ c.loop-at.invariant c.loop-at-test.true c.as_slice-nodes.ensures.value c.index-nodes-at.is in
-    (Next-part _ _ _ _ _ _ _ _ f c.as_slice-all.ensures.value (omega arith)).kept
-
-pub set_shape-requires : goal.set_shape-requires
-set_shape-requires c =
-    let f = Wording-at _ _ _ _ _ _ _ c.loop-at.invariant c.loop-at-test.true c.as_slice-nodes.ensures.value c.index-nodes-at.is in
-    omega (arith, f.end_known, f.subtree_len)
+pub loop-at-preserved-then-is_table : goal.loop-at-preserved-then-is_table
+loop-at-preserved-then-is_table c =
+    let e = get_or c.loop-at.nodes c.loop-at.at c.index-nodes-at.result in
+    let f = Onward-at _ _ _ _ e c.loop-at.invariant (omega arith) (ap (get_or c.loop-at.nodes c.loop-at.at) c.index-nodes-at.is) in
+    Onward-table _ _ _ _ _ e _ f (omega arith) c.in_ok-add_tree_words.ensures.ok
 
 pub loop-at-preserved : goal.loop-at-preserved
 loop-at-preserved c =
-    let f = Wording-at _ _ _ _ _ _ _ c.loop-at.invariant c.loop-at-test.true c.as_slice-nodes.ensures.value c.index-nodes-at.is in
-    rw c.set_shape.ensures
-    (Next-done _ _ _ _ _ _ _ _ c.index-nodes-at.result c.index_mut.result.now _ c.in_ok-shape.shape f c.as_slice-nodes.ensures.value
-    c.as_slice-all.ensures.value (omega arith) c.index-nodes-at.is c.index_mut.ensures.value c.in_ok-shape.ensures.node c.in_ok-shape.ensures.shape)
+    let e = get_or c.loop-at.nodes c.loop-at.at c.index-nodes-at.result in
+    let f = Onward-at _ _ _ _ e c.loop-at.invariant (omega arith) (ap (get_or c.loop-at.nodes c.loop-at.at) c.index-nodes-at.is) in
+    Onward-past _ _ _ _ e f (sym c.is_table.ensures ∙ c.if-is_table.false)
 
 pub returns-clause-ok : goal.returns-clause-ok
-returns-clause-ok c = Wording-done _ _ _ _ _ c.loop-at.invariant (omega arith)
+returns-clause-ok c =
+    take_at c.loop-at.nodes _ _ (omega (arith, c.loop-at.auto.nodes, c.as_mut_slice-nodes.ensures.len, c.args.entries.now.ok.0))
+    ∙ Onward-done _ _ _ _ c.loop-at.invariant (omega arith)
