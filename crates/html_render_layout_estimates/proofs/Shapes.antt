@@ -1,10 +1,12 @@
 -- Shapes of texts that are read word by word.
-use Rattle.std.proofs.Common.{◌≡◌, ℕ, ◌+◌, ◌==◌, ◌<◌, ◌≤◌, true, false, List, length, drop, get_or, zero, suc, refl, ap, subst, ◌∙◌, arith}
+use Rattle.std.proofs.Common.{◌≡◌, ℕ, ◌+◌, ◌-◌, ◌^◌, max, ◌==◌, ◌<◌, ◌≤◌, true, false, List, length, drop, get_or, zero, suc}
+use Rattle.std.proofs.Common.{refl, ap, subst, ◌∙◌, arith}
 use Rattle.std.specs.List.{AllWithin}
 use Rattle.std.proofs.lemmas.Grind.{common_steps}
 use Rattle.std.specs.Str.{chars}
 use Rattle.html_render_layout_lines.specs.Character.{is_collapsible}
 use Rattle.html_render_layout_lines.specs.laws.Characters.{plain_width}
+use Rattle.html_render_layout_estimates.specs.TextSize.{saturated}
 use Rattle.html_render_layout_estimates.specs.Words.{word_break, joined_shapes, character_shape, shape_after}
 use Rattle.html_render_layout_estimates.specs.declared.words.WordShape.{WordShape}
 use Rattle.html_render_layout_estimates.specs.declared.words.WordShape.TheVariants.{Part, Broken}
@@ -58,3 +60,67 @@ pub space-shape : (bs : List ℕ) (s : WordShape) → 0 < length bs → is_colla
 space-shape bs s within space small =
     ap (λ cs. shape_after s cs) (next-chars bs 0 within small)
     ∙ ap (λ t. shape_after (joined_shapes s t) (chars (drop 1 bs))) (space-break (get_or bs 0 0) space)
+
+-- ---- words after the first space of a text
+
+closed : (s : WordShape) (n : ℕ) → joined_shapes (joined_shapes s (Part n)) word_break ≡ joined_shapes s (Broken n 0 0)
+closed (Part columns) n = ap (λ m. Broken m 0 0) (omega arith)
+closed (Broken first longest last) n = ap (λ m. Broken first m 0) (omega arith)
+
+closed-on : (s : WordShape) (f l n : ℕ) → n ≤ 2 ^ 64 - 1 → joined_shapes (joined_shapes s (Broken f l n)) word_break ≡ joined_shapes s (Broken f (max l n) 0)
+closed-on (Part columns) f l n small = ap (λ m. Broken (saturated (columns + f)) m 0) (omega (arith, small))
+closed-on (Broken first longest last) f l n small = ap (λ m. Broken first m 0) (omega (arith, small))
+
+longer : (s : WordShape) (f l n : ℕ) → n + 1 ≤ 2 ^ 64 - 1 → joined_shapes (joined_shapes s (Broken f l n)) (Part 1) ≡ joined_shapes s (Broken f l (n + 1))
+longer (Part columns) f l n small = ap (λ m. Broken (saturated (columns + f)) l m) (omega (arith, small))
+longer (Broken first longest last) f l n small = ap (λ m. Broken first (max longest (max l (saturated (last + f)))) m) (omega (arith, small))
+
+space-on : (bs : List ℕ) (s : WordShape) (at : ℕ) → at < length bs → is_collapsible (get_or bs at 0) ≡ true → get_or bs at 0 < 128 →
+    shape_after s (chars (drop at bs)) ≡ shape_after (joined_shapes s word_break) (chars (drop (at + 1) bs))
+space-on bs s at within space small =
+    ap (λ cs. shape_after s cs) (next-chars bs at within small)
+    ∙ ap (λ t. shape_after (joined_shapes s t) (chars (drop (at + 1) bs))) (space-break (get_or bs at 0) space)
+
+-- whether the first `at` bytes have the shape `Broken first longest last`
+pub record Words (bs : List ℕ) (first longest last at : ℕ) : Type 0 where
+  pub some : 1 ≤ at
+  pub within : at ≤ length bs
+  pub few : last ≤ at
+  pub joined : (s : WordShape) → shape_after s (chars bs) ≡ shape_after (joined_shapes s (Broken first longest last)) (chars (drop at bs))
+
+pub Words-start : (bs : List ℕ) (first : ℕ) → first < length bs → AllWithin (λ b. (33 ≤ b) × (b ≤ 126)) bs 0 first →
+    is_collapsible (get_or bs first 0) ≡ true → get_or bs first 0 < 128 → Words bs first 0 0 (first + 1)
+Words-start bs first within letters space small = record {
+  some = omega arith;
+  within = omega (arith, within);
+  few = omega arith;
+  joined = λ s. by first s within letters space small;
+}
+  where
+    by : (n : ℕ) (s : WordShape) → n < length bs → AllWithin (λ b. (33 ≤ b) × (b ≤ 126)) bs 0 n → is_collapsible (get_or bs n 0) ≡ true → get_or bs n 0 < 128 →
+        shape_after s (chars bs) ≡ shape_after (joined_shapes s (Broken n 0 0)) (chars (drop (n + 1) bs))
+    by zero s within letters space small = space-on bs s 0 within space small
+    by (suc n) s within letters space small =
+        letters-shape bs s (suc n) (omega arith) (omega (arith, within)) letters
+        ∙ space-on bs (joined_shapes s (Part (suc n))) (suc n) within space small
+        ∙ ap (λ t. shape_after t (chars (drop (suc n + 1) bs))) (closed s (suc n))
+
+pub Words-letter : (bs : List ℕ) (first longest last at : ℕ) → Words bs first longest last at → at < length bs → last + 1 ≤ 2 ^ 64 - 1 →
+    33 ≤ get_or bs at 0 → get_or bs at 0 ≤ 126 → Words bs first longest (last + 1) (at + 1)
+Words-letter bs first longest last at w within small low high = record {
+  some = omega arith;
+  within = omega (arith, within);
+  few = omega (arith, w.few);
+  joined = λ s. w.joined s ∙ one-letter bs at (joined_shapes s (Broken first longest last)) within low high
+      ∙ ap (λ t. shape_after t (chars (drop (at + 1) bs))) (longer s first longest last small);
+}
+
+pub Words-space : (bs : List ℕ) (first longest last at : ℕ) → Words bs first longest last at → at < length bs → last ≤ 2 ^ 64 - 1 →
+    is_collapsible (get_or bs at 0) ≡ true → get_or bs at 0 < 128 → Words bs first (max longest last) 0 (at + 1)
+Words-space bs first longest last at w within small space ascii = record {
+  some = omega arith;
+  within = omega (arith, within);
+  few = omega arith;
+  joined = λ s. w.joined s ∙ space-on bs (joined_shapes s (Broken first longest last)) at within space ascii
+      ∙ ap (λ t. shape_after t (chars (drop (at + 1) bs))) (closed-on s first longest last small);
+}

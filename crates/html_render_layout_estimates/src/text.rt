@@ -104,7 +104,7 @@ fn ascii_size_within(text: &[u8], limit: usize) -> Result<usize, Counted>
 
 /// Returns the index after the letters from `start` on. A letter is a printable ASCII character other than the space.
 #[inline]
-fn letters_end(text: &[u8], start: usize) -> usize
+pub(crate) fn letters_end(text: &[u8], start: usize) -> usize
     requires { start ≤ length text.now }
     ensures within { (start ≤ result) × (result ≤ length text.now) }
     ensures letters { AllWithin (λ b. (33 ≤ b) × (b ≤ 126)) text.now start result }
@@ -118,7 +118,7 @@ fn letters_end(text: &[u8], start: usize) -> usize
 
 /// Reports whether a byte is a printable ASCII character other than the space.
 #[inline]
-fn is_letter(byte: u8) -> bool
+pub(crate) fn is_letter(byte: u8) -> bool
     ensures low { OnTrue result (33 ≤ byte) }
     ensures high { OnTrue result (byte ≤ 126) }
 {
@@ -127,7 +127,7 @@ fn is_letter(byte: u8) -> bool
 
 /// Reports whether a byte is a space or a newline.
 #[inline]
-fn is_space(byte: u8) -> bool
+pub(crate) fn is_space(byte: u8) -> bool
     ensures collapsible { OnTrue result (is_collapsible byte ≡ true) }
     ensures ascii { OnTrue result (byte < 128) }
 {
@@ -201,7 +201,7 @@ fn columns_within(text: &str, before: usize, space_before: bool, limit: usize) -
 
 /// Splits the letters off the start of a text. Returns their number and the rest; `None` if it doesn't start with a letter.
 #[inline]
-pub(crate) fn split_letters(text: &str) -> Option<(usize, &str)>
+fn split_letters(text: &str) -> Option<(usize, &str)>
     ensures columns { IfSome result (λ r. (spaced : Bool) →
         collapsed_columns spaced (chars text.now) ≡ (if spaced then 1 else 0) + r.0 + collapsed_columns false (chars r.1.now)) }
     ensures shape { IfSome result (λ r. (s : WordShape) →
@@ -219,7 +219,7 @@ pub(crate) fn split_letters(text: &str) -> Option<(usize, &str)>
 
 /// Splits a space or newline off the start of a text. Returns the rest; `None` if it doesn't start with one.
 #[inline]
-pub(crate) fn split_space(text: &str) -> Option<&str>
+fn split_space(text: &str) -> Option<&str>
     ensures columns { IfSome result (λ rest. (spaced : Bool) → collapsed_columns spaced (chars text.now) ≡ collapsed_columns true (chars rest.now)) }
     ensures shape { IfSome result (λ rest. (s : WordShape) →
         shape_after s (chars text.now) ≡ shape_after (joined_shapes s word_break) (chars rest.now)) }

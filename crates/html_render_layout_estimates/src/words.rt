@@ -2,14 +2,15 @@
 //!
 //! `text_shape("Hello wide")` has 5 columns before the first break, 4 after the last, and no word between.
 
-ghost use Rattle.std.specs.Prelude.{◌≡◌, ◌<◌, [], ◌∷◌, length, IfNone, IfSome};
+ghost use Rattle.std.specs.Prelude.{◌≡◌, ◌≤◌, drop, length};
 ghost use Rattle.std.specs.Str.{chars, IsUtf8};
 ghost use Rattle.html_render_layout_nodes.specs.Preorder.{flatten, forest_of};
 ghost use Rattle.html_render_layout_estimates.specs.Words.{word_break, joined_shapes, longest_word, between, enclosed, character_shape, shape_after, text_shape};
 ghost use Rattle.html_render_layout_estimates.specs.Words.{title_shape, siblings_shape, table_word, kind_shape, node_shape};
+ghost use Rattle.html_render_layout_estimates.specs.declared.words.WordShape.{WordShape};
 
 use crate::settings::LayoutSettings;
-use crate::text::{first_character, split_letters, split_space};
+use crate::text::{first_character, is_letter, is_space, letters_end};
 use crate::trees::first_tree;
 use html_render_dom_values::white_space::WhiteSpace;
 use html_render_layout_lines::character::{is_collapsible, width_of};
@@ -144,35 +145,78 @@ fn character_shape(c: char) -> WordShape
     }
 }
 
-/// Splits the letters, a space or another character off the start of a text. Returns its shape and the rest; `None` if the
-/// text is empty.
+/// Start of a text that is read by bytes.
+#[derive(Clone, Copy)]
+struct ShapedStart {
+    /// Its shape.
+    shape: WordShape,
+    /// Number of its bytes.
+    len: usize,
+}
+
+/// Returns the shape of a text up to its first byte that isn't printable ASCII, a space or a newline.
 #[inline]
-fn split_shape(text: &str) -> Option<(WordShape, &str)>
-    ensures none { IfNone result (chars text.now ≡ []) }
-    ensures shape { IfSome result (λ r. (s : WordShape) →
-        shape_after s (chars text.now) ≡ shape_after (joined_shapes s r.0) (chars r.1.now)) }
-    ensures shorter { IfSome result (λ r. length r.1.now < length text.now) }
-    ensures text { IfSome result (λ r. IsUtf8 r.1.now) }
+fn ascii_start(text: &[u8]) -> ShapedStart
+    ensures { 1 ≤ result.len → (before : WordShape) →
+        shape_after before (chars text.now) ≡ shape_after (joined_shapes before result.shape) (chars (drop result.len text.now)) }
 {
-    if let Some((letters, rest)) = split_letters(text) {
-        return Some((WordShape::Part(letters), rest));
+    let first = letters_end(text, 0);
+    if first >= text.len() || !is_space(text[first]) {
+        return ShapedStart {
+            shape: WordShape::Part(first),
+            len: first,
+        };
     }
-    if let Some(rest) = split_space(text) {
-        return Some((WordShape::word_break(), rest));
+    let mut at = first + 1;
+    let mut longest: usize = 0;
+    let mut last = 0;
+    while at < text.len() {
+        let byte = text[at];
+        if is_letter(byte) {
+            last += 1;
+            at += 1;
+        } else if is_space(byte) {
+            longest = longest.max(last);
+            last = 0;
+            at += 1;
+        } else {
+            break;
+        }
     }
-    let (c, rest) = first_character(text)?;
-    Some((character_shape(c), rest))
+    let shape = WordShape::Broken {
+        first,
+        longest,
+        last,
+    };
+    ShapedStart { shape, len: at }
+}
+
+/// Joins the start of a text to `before`, as far as it can be read by bytes. Returns the shape and the rest.
+#[inline]
+fn split_shape(before: WordShape, text: &str) -> (WordShape, &str)
+    ensures shape { shape_after before (chars text.now) ≡ shape_after result.0 (chars result.1.now) }
+    ensures shorter { length result.1.now ≤ length text.now }
+    ensures text { IsUtf8 result.1.now }
+{
+    let start = ascii_start(text.as_bytes());
+    if start.len == 0 {
+        return (before, text);
+    }
+    match text.split_at_checked(start.len) {
+        Some((_, rest)) => (before.followed_by(start.shape), rest),
+        None => (before, text),
+    }
 }
 
 /// Returns the shape of a text.
 pub fn text_shape(text: &str) -> WordShape
     ensures { result ≡ text_shape (chars text.now) }
 {
-    let mut rest = text;
-    let mut shape = WordShape::Part(0);
-    while let Some((first, behind)) = split_shape(rest) {
-        shape = shape.followed_by(first);
-        rest = behind;
+    let (mut shape, mut rest) = split_shape(WordShape::Part(0), text);
+    while let Some((c, behind)) = first_character(rest) {
+        let (next, other) = split_shape(shape.followed_by(character_shape(c)), behind);
+        shape = next;
+        rest = other;
     }
     shape
 }

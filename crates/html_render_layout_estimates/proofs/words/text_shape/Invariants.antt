@@ -5,8 +5,8 @@ use Rattle.std.specs.Str.{chars}
 use Rattle.html_render_layout_estimates.specs.Words.{shape_after, text_shape}
 use Rattle.html_render_layout_estimates.proofs.words.text_shape.Given as goal
 
-abbrev pub invariant-loop-first : goal.invariant-loop-first
-invariant-loop-first l = shadow (Utf8 l.rest) × (shape_after l.shape (chars l.rest) ≡ text_shape (chars l.text))
+abbrev pub invariant-loop-c : goal.invariant-loop-c
+invariant-loop-c l = shadow (Utf8 l.rest) × (shape_after l.shape (chars l.rest) ≡ text_shape (chars l.text))
 
-abbrev pub decreases-loop-first : goal.decreases-loop-first
-decreases-loop-first l = length l.rest
+abbrev pub decreases-loop-c : goal.decreases-loop-c
+decreases-loop-c l = length l.rest
