@@ -6,5 +6,6 @@ pub mod Forests
 pub mod Lists
 pub mod Moves
 pub mod Outcomes
+pub mod PlainStyles
 pub mod RuleIndex
 pub mod Words

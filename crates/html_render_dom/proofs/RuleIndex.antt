@@ -18,7 +18,7 @@ use Rattle.html_render_dom.specs.declared.style.index.RuleIndex.{RuleIndex}
 use Rattle.html_render_dom_styles.specs.declared.rules.StyleRule.{StyleRule}
 use Rattle.html_render_dom.proofs.Applies.{said_to}
 use Rattle.html_render_dom.specs.ElementStyle.{Applied, applied, element_style, style_by}
-use Rattle.html_render_dom.specs.RuleIndex.{asks_attributes, Finds, HasSelected, IsFound, is_told, text_key, numbers_under, stated_text, text_stated, texts_of}
+use Rattle.html_render_dom.specs.RuleIndex.{asks_attributes, Indexes, HasSelected, IsFound, is_told, text_key, numbers_under, stated_text, text_stated, texts_of}
 use Rattle.html_render_dom_nodes.specs.Content.{Property}
 use Rattle.html_render_dom_styles.specs.Rules.{Rule, rule_of}
 use Rattle.html_render_dom.specs.Attributes.{first_value}
@@ -30,10 +30,10 @@ use Rattle.html_render_dom_styles.specs.Selectors.{has_class, is_filled, matches
 abbrev pub Keeps : RuleIndex → RuleIndex → Type 0
 Keeps old new = (number : ℕ) (stated : Option (List ℕ)) → IsFound old number stated → IsFound new number stated
 
-pub Finds-more : (old new : RuleIndex) (rules : List Rule) (rule : Rule) → Finds old rules → length new.keys.items ≡ 64 → Keeps old new →
+pub Indexes-more : (old new : RuleIndex) (rules : List Rule) (rule : Rule) → Indexes old rules → length new.keys.items ≡ 64 → Keeps old new →
     IsFound new (length rules) (stated_text rule) → new.asks_attributes ≡ (old.asks_attributes || asks_attributes rule) →
-    Finds new (rules ++ rule ∷ [])
-Finds-more old new rules rule finds long keeps found asks = (
+    Indexes new (rules ++ rule ∷ [])
+Indexes-more old new rules rule finds long keeps found asks = (
   long,
   each,
   asks ∙ ap (λ b. b || asks_attributes rule) finds.2 ∙ sym (list_any-append asks_attributes rules (rule ∷ [])
@@ -172,7 +172,7 @@ Contains-unmap f (x ∷ xs) y (suc k, lt, is) =
 -- the numbers under those texts of an element whose keys are marked, with those of rules without a text, are those of all
 -- rules that select the element
 pub finds-selected : (index : RuleIndex) (rules : List Rule) (name : List ℕ) (id classes : Option (List ℕ)) (texts : List (Bor (List ℕ)))
-    (numbers : List ℕ) → Finds index rules →
+    (numbers : List ℕ) → Indexes index rules →
     map (λ t. t.now) texts ≡ filter (is_told index.keys.items) (texts_of name id classes) →
     ((text : Bor (List ℕ)) (number : ℕ) → Contains texts text → Contains (numbers_under index text.now) number → Contains numbers number) →
     ((number : ℕ) → Contains index.general.items number → Contains numbers number) →
@@ -251,7 +251,7 @@ only x y (suc k, lt, is) = absurd (omega (arith, lt))
 -- * the key of its name isn't marked;
 -- * each rule states a text;
 -- * no rule states an id or a class, or the element has no attributes.
-pub none_selects : (index : RuleIndex) (rules : List Rule) (name : List ℕ) (properties : List Property) → Finds index rules →
+pub none_selects : (index : RuleIndex) (rules : List Rule) (name : List ℕ) (properties : List Property) → Indexes index rules →
     is_told index.keys.items name ≡ false → length index.general.items ≡ 0 → (index.asks_attributes ≡ false) ⊎ (properties ≡ []) →
     element_style rules name properties ≡ style_by []
 none_selects index rules name properties finds untold none_general plain =

@@ -1,8 +1,10 @@
 -- The index of rules by the texts that they state.
-use Rattle.std.specs.Prelude.{◌≡◌, ℕ, ◌+◌, ◌*◌, ◌%◌, ◌<◌, ◌≤◌, Bool, true, ◌||◌, is_some, List, [], ◌∷◌, ◌++◌, length, get_or, Option, Some, None, option_to_list, slice_index_or}
+use Rattle.std.specs.Prelude.{◌≡◌, ℕ, ◌+◌, ◌*◌, ◌%◌, ◌<◌, ◌≤◌, Bool, true, ◌||◌, is_some, List, [], ◌∷◌, ◌++◌, length, get_or, Option, Some, None, option_to_list, slice_index_or, string_bytes, All}
 use Rattle.std.specs.BTreeMap.{get_by_text}
 use Rattle.std.specs.List.{Contains, list_any}
 use Rattle.std.specs.Option.{option_map_or, unwrap_or}
+use Rattle.html_render_dom.specs.ElementStyle.{element_style, style_of}
+use Rattle.html_render_dom.specs.declared.style.index.PlainStyle.{PlainStyle}
 use Rattle.html_render_dom.specs.declared.style.index.RuleIndex.{RuleIndex}
 use Rattle.html_render_dom_styles.specs.Rules.{Rule}
 use Rattle.html_render_dom_styles.specs.Selectors.{is_filled, words}
@@ -43,9 +45,17 @@ abbrev pub asks_attributes : Rule → Bool
 asks_attributes rule = is_some rule.id || is_filled rule.classes
 
 -- whether an index is that of these rules: it has the number of each, and records whether any states an id or a class
-abbrev pub Finds : RuleIndex → List Rule → Type 0
-Finds index rules = (length index.keys.items ≡ 64) × ((number : ℕ) (rule : Rule) → number < length rules →
+abbrev pub Indexes : RuleIndex → List Rule → Type 0
+Indexes index rules = (length index.keys.items ≡ 64) × ((number : ℕ) (rule : Rule) → number < length rules →
     IsFound index number (stated_text (get_or rules number rule))) × (index.asks_attributes ≡ list_any asks_attributes rules)
+
+-- whether a style is that of the elements of its name that have no attributes
+abbrev pub IsPlain : List Rule → PlainStyle → Type 0
+IsPlain rules p = style_of p.style ≡ element_style rules (string_bytes p.name) []
+
+-- whether an index is that of these rules, with styles of elements without attributes
+abbrev pub Finds : RuleIndex → List Rule → Type 0
+Finds index rules = Indexes index rules × All (IsPlain rules) index.plain.items
 
 -- whether a list has the numbers of all rules from `next` on for which `selects` is true
 abbrev pub HasSelected : (selects : Rule → Bool) → List Rule → (next : ℕ) → (numbers : List ℕ) → Type 0

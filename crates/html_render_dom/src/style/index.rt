@@ -1,6 +1,6 @@
 //! An index of rules by the texts that they state. With it, only few of many rules are tested for an element.
 
-ghost use Rattle.std.specs.Prelude.{◌≡◌, ◌<◌, ◌||◌, ◌&&◌, [], ◌∷◌, ◌++◌, filter, if◌then◌else◌, IfOk, length, List, ℕ, map, OnOk, option_copied, option_map, set, string_bytes, true};
+ghost use Rattle.std.specs.Prelude.{◌≡◌, ◌<◌, ◌||◌, ◌&&◌, [], ◌∷◌, ◌++◌, All, filter, find, if◌then◌else◌, IfOk, IfSome, length, List, ℕ, map, OnOk, option_copied, option_map, set, string_bytes, true};
 ghost use Rattle.std.specs.Borrow.{Bor};
 ghost use Rattle.std.specs.List.{Contains};
 ghost use Rattle.std.specs.List.Sorted.{IsNonDecreasing};
@@ -9,7 +9,7 @@ ghost use Rattle.std.specs.Str.{bytes_eq};
 ghost use Rattle.html_render_dom_values.specs.Outcome.{OnlyOutOfMemory};
 ghost use Rattle.html_render_dom_nodes.specs.Content.{property_of};
 ghost use Rattle.html_render_dom.specs.ElementStyle.{element_style, style_by, style_of};
-ghost use Rattle.html_render_dom.specs.RuleIndex.{asks_attributes, Finds, is_told, text_key, numbers_under, stated_text, texts_of};
+ghost use Rattle.html_render_dom.specs.RuleIndex.{asks_attributes, Finds, Indexes, IsPlain, is_told, text_key, numbers_under, stated_text, texts_of};
 ghost use Rattle.html_render_dom_styles.specs.Rules.{Rule, rule_of};
 ghost use Rattle.html_render_dom_styles.specs.Selectors.{is_filled};
 
@@ -23,6 +23,9 @@ use std::collections::BTreeMap;
 
 /// Maximum number of rules that are all tested, without a lookup in the index.
 const SCANNED_RULES_MAX: usize = 16;
+
+/// Maximum number of names whose elements' style without attributes is computed once.
+const PLAIN_STYLES_MAX: usize = 16;
 
 /// Number of keys.
 const KEYS: usize = 64;
@@ -62,6 +65,22 @@ fn stated_text(rule: &StyleRule) -> Option<&String>
     }
 }
 
+/// Style of the elements of a name that have no attributes.
+#[derive(Drop)]
+struct PlainStyle {
+    /// Local name of the elements.
+    name: String,
+    /// Their style.
+    style: ComputedStyle,
+}
+
+/// Returns the style of this name, if there is one.
+fn find_plain<'a>(plain: &'a [PlainStyle], name: &str) -> Option<&'a PlainStyle>
+    ensures { option_copied result ≡ find (λ p. bytes_eq (string_bytes p.name) name.now) plain.now }
+{
+    plain.iter().find(|style| style.name.as_str() == name)
+}
+
 /// An index of a list of rules by the texts that they state, so that few of many rules are tested for an element.
 #[derive(Drop)]
 pub struct RuleIndex {
@@ -74,10 +93,12 @@ pub struct RuleIndex {
     general: Vec<usize>,
     /// Whether any rule states an id or a class.
     asks_attributes: bool,
+    /// Styles of elements without attributes, of names that rules state.
+    plain: Vec<PlainStyle>,
 }
 
 impl RuleIndex {
-    /// Creates the index of a list of rules.
+    /// Creates the index of a list of rules, and computes the styles of elements without attributes once.
     ///
     /// # Errors
     ///
@@ -86,11 +107,75 @@ impl RuleIndex {
         ensures ok { IfOk result (λ index. Finds index (map rule_of rules.now)) }
         ensures err { OnlyOutOfMemory result }
     {
+        let mut index = RuleIndex::without_styles(alloc, rules)?;
+        index.plain = index.plain_styles(alloc, rules)?;
+        Ok(index)
+    }
+
+    /// Computes the styles of elements without attributes, of the first `PLAIN_STYLES_MAX` names that rules state.
+    fn plain_styles(&self, alloc: Global, rules: &[StyleRule]) -> Result<Vec<PlainStyle>, Error>
+        requires { Indexes self.now (map rule_of rules.now) }
+        ensures ok { IfOk result (λ plain. All (IsPlain (map rule_of rules.now)) plain.items) }
+        ensures err { OnlyOutOfMemory result }
+    {
+        let mut plain = Vec::new(alloc);
+        for rule in rules {
+            self.add_plain(alloc, rules, rule, &mut plain)?;
+        }
+        Ok(plain)
+    }
+
+    /// Appends the style of elements without attributes of the name that a rule states, unless it is there or there are enough.
+    fn add_plain(
+        &self,
+        alloc: Global,
+        rules: &[StyleRule],
+        rule: &StyleRule,
+        plain: &mut Vec<PlainStyle>,
+    ) -> Result<(), Error>
+        requires { Indexes self.now (map rule_of rules.now) }
+        ensures ok { OnOk result (All (IsPlain (map rule_of rules.now)) plain.old.items → All (IsPlain (map rule_of rules.now)) plain.new.items) }
+        ensures err { OnlyOutOfMemory result }
+    {
+        let Some(name) = &rule.element else {
+            return Ok(());
+        };
+        if plain.len() >= PLAIN_STYLES_MAX {
+            return Ok(());
+        }
+        if find_plain(plain.as_slice(), name.as_str()).is_some() {
+            return Ok(());
+        }
+        let style = self.indexed_style(alloc, rules, name.as_str(), &[])?;
+        plain.push(PlainStyle {
+            name: name.clone()?,
+            style,
+        })?;
+        Ok(())
+    }
+
+    /// Returns the style of elements with this local name that have no attributes, if it was computed.
+    #[inline]
+    pub fn plain_style(&self, element: &str) -> Option<&ComputedStyle>
+        ensures { IfSome result (λ style. (rules : List Rule) → Finds self.now rules → style_of style.now ≡ element_style rules element.now []) }
+    {
+        match find_plain(self.plain.as_slice(), element) {
+            Some(plain) => Some(&plain.style),
+            None => None,
+        }
+    }
+
+    /// Creates the index of a list of rules, without the styles of elements without attributes.
+    fn without_styles(alloc: Global, rules: &[StyleRule]) -> Result<RuleIndex, Error>
+        ensures ok { IfOk result (λ index. Indexes index (map rule_of rules.now)) }
+        ensures err { OnlyOutOfMemory result }
+    {
         let mut index = RuleIndex {
             keys: vec![in alloc; false; KEYS]?,
             by_text: BTreeMap::new(alloc),
             general: Vec::new(alloc),
             asks_attributes: false,
+            plain: Vec::new(alloc),
         };
         for (number, rule) in rules.iter().enumerate() {
             index.asks_attributes = index.asks_attributes | asks_attributes(rule);
@@ -217,6 +302,21 @@ impl RuleIndex {
         attrs: &[Attribute],
     ) -> Result<ComputedStyle, Error>
         requires { Finds self.now (map rule_of rules.now) }
+        ensures ok { IfOk result (λ style. style_of style ≡ element_style (map rule_of rules.now) element.now (map property_of attrs.now)) }
+        ensures err { OnlyOutOfMemory result }
+    {
+        self.indexed_style(alloc, rules, element, attrs)
+    }
+
+    /// Returns the style that [`RuleIndex::computed_style`] does, by the index alone.
+    fn indexed_style(
+        &self,
+        alloc: Global,
+        rules: &[StyleRule],
+        element: &str,
+        attrs: &[Attribute],
+    ) -> Result<ComputedStyle, Error>
+        requires { Indexes self.now (map rule_of rules.now) }
         ensures ok { IfOk result (λ style. style_of style ≡ element_style (map rule_of rules.now) element.now (map property_of attrs.now)) }
         ensures err { OnlyOutOfMemory result }
     {

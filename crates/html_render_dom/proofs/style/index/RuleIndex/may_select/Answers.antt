@@ -84,7 +84,7 @@ returns-then-self-clause-unstyled c = by c.is_empty-then-self.result refl
     by false e = tt
     by true e = λ rules finds.
         let known = both (goal.at.returns-then-self-clause-unstyled c).Else-not-is_empty in
-        none_selects c.args.self.now rules c.args.element.now (map property_of c.args.attrs.now) finds known.0 known.1
+        none_selects c.args.self.now rules c.args.element.now (map property_of c.args.attrs.now) finds.0 known.0 known.1
         (inr (no_items c.args.attrs.now (sym c.is_empty-then-self.ensures ∙ e)))
 
 pub returns-else-self-clause-unstyled : goal.returns-else-self-clause-unstyled
@@ -92,4 +92,4 @@ returns-else-self-clause-unstyled c =
     let known = both (goal.at.returns-else-self-clause-unstyled c).Else-not-is_empty in
     subst (λ b. OnFalse b ((rules : List Rule) → Finds c.args.self.now rules →
     element_style rules c.args.element.now (map property_of c.args.attrs.now) ≡ style_by [])) (sym c.if-self.false)
-    (λ rules finds. none_selects c.args.self.now rules c.args.element.now (map property_of c.args.attrs.now) finds known.0 known.1 (inl c.if-self.false))
+    (λ rules finds. none_selects c.args.self.now rules c.args.element.now (map property_of c.args.attrs.now) finds.0 known.0 known.1 (inl c.if-self.false))

@@ -2,7 +2,7 @@ use Rattle.std.proofs.Common.{map, option_copied, sym, subst}
 use Rattle.std.specs.List.{Contains}
 use Rattle.html_render_dom_styles.specs.Rules.{rule_of}
 use Rattle.html_render_dom.proofs.RuleIndex.{finds-selected}
-use Rattle.html_render_dom.proofs.style.index.RuleIndex.computed_style.Goals as goal
+use Rattle.html_render_dom.proofs.style.index.RuleIndex.indexed_style.Goals as goal
 
 pub style_of_rules-requires-clause-all : goal.style_of_rules-requires-clause-all
 style_of_rules-requires-clause-all c =
