@@ -1,13 +1,12 @@
--- What the cells of a table span are columns and rows, at least one of each.
-use Rattle.std.proofs.Common.{◌≢◌, ℕ, ◌+◌, ◌-◌, ◌==◌, ◌≤◌, inl, inr, if◌then◌else◌, get_or, map, List, [], ◌∷◌, arith}
+-- Spans of the cells of a table are of at least one column and one row.
+use Rattle.std.proofs.Common.{◌≡◌, ◌≢◌, ℕ, ◌+◌, ◌-◌, ◌==◌, ◌≤◌, inl, inr, if◌then◌else◌, get_or, map, List, ◌++◌, sym, subst, arith}
 use Rattle.std.proofs.lemmas.Bool.{cases_Bool, eqb-false}
 use Rattle.std.proofs.lemmas.List.Elements.{All-append, All-map}
 use Rattle.std.specs.List.{All}
 use Rattle.html_render_tree_mapping.specs.declared.tables.CellSpan.{CellSpan}
 use Rattle.html_render_parts.specs.Grid.{AreValid}
 use Rattle.html_render_parts.specs.declared.table.Span.{Span}
-use Rattle.html_render_tree_mapping.specs.Tables.{width_of, greatest_width, spanned, spanned_in}
-use Rattle.html_render_tree_convert.specs.Spans.{spans_of_parts}
+use Rattle.html_render_tree_mapping.specs.Tables.{width_of, spanned, spanned_in}
 
 some_columns : (missing columns : ℕ) → 1 ≤ (if columns == 0 then missing + 1 else columns)
 some_columns missing columns =
@@ -29,8 +28,7 @@ valid_part widest rows =
     All-map IsValid (λ cells. map (spanned (widest - width_of cells)) cells) rows
     (λ k d _. valid_row (widest - width_of (get_or rows k d)) (get_or rows k d))
 
-pub parts-valid : (parts : List (List (List CellSpan))) → AreValid (spans_of_parts parts)
-parts-valid [] = λ k d h. absurd (omega (arith, h))
-parts-valid (rows ∷ parts) =
-    All-append IsValid (spanned_in (greatest_width rows) rows) (spans_of_parts parts) (valid_part (greatest_width rows) rows)
-    (parts-valid parts)
+-- the spans of more rows
+pub valid-more : (old : List (List Span)) (widest : ℕ) (rows : List (List CellSpan)) (new : List (List Span)) →
+    new ≡ old ++ spanned_in widest rows → AreValid old → AreValid new
+valid-more old widest rows new is h = subst AreValid (sym is) (All-append IsValid old (spanned_in widest rows) h (valid_part widest rows))

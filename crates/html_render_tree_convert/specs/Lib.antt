@@ -1,10 +1,23 @@
--- in which order the children of a table are converted
-pub mod ChildLists
+-- the order in which a table's children are converted
 pub mod Order
--- the nodes of a document, made in one pass
-pub mod Spans
-pub mod Elements
-pub mod Building
-pub mod Opened
--- what follows from the definitions
-pub mod laws
+-- the walk over a document's lists of children, and the nodes that it visits
+pub mod Walk
+pub mod VisitedNodes
+-- the events of a walk over a document
+pub mod Events
+-- elements that are open during the walk
+pub mod OpenElements
+-- what each event does to them
+pub mod Steps
+-- trees that are being written
+pub mod Levels
+pub mod TopStart
+-- what code keeps of an open element, and what that is seen as
+pub mod Held
+pub mod Keeping
+pub mod Seen
+-- what code does with a result, a node, an element that opens and one that closes
+pub mod Receiving
+pub mod Following
+pub mod Opening
+pub mod Closing

@@ -1,8 +1,15 @@
-//! The nodes of a document, made in one pass from the last to the first.
+//! The conversion of a document in one forward pass: the events of a walk, and what each does to the open elements.
 #![tactic(auto)]
 
+mod builder;
+mod conversion;
 pub mod convert;
-pub mod elements;
+mod cursor;
+mod due;
+mod elements;
 mod kinds;
-mod order;
-pub mod spans;
+mod laws;
+mod spans;
+
+pub use builder::TreeBuilder;
+pub use cursor::{Cursor, Pick, Position, Visit};

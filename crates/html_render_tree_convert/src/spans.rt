@@ -1,13 +1,13 @@
-//! What the cells of a table span, gathered from the last cell to the first, and the grid of a table that is whole.
+//! Spans of the cells of a table, row by row, and the grid of a table whose cells are all known.
 
 ghost use Rattle.std.specs.Prelude.{◌≡◌, ◌+◌, ◌-◌, ◌<◌, ◌^◌, ◌++◌, ◌∷◌, [], IfOk, OnOk, IfErr, Some, option_map, map};
 ghost use Rattle.html_render_dom_values.specs.Outcome.{OnlyOutOfMemory};
 ghost use Rattle.html_render_layout_nodes.specs.Tables.{unmeasured_table};
+ghost use Rattle.html_render_parts.specs.Grid.{AreValid};
 ghost use Rattle.html_render_parts.specs.Placement.{lists};
 ghost use Rattle.html_render_parts.specs.TableCells.{cell_grid_of};
 ghost use Rattle.html_render_parts.specs.Refusal.{Fails};
 ghost use Rattle.html_render_tree_mapping.specs.Tables.{width_of, greatest_width, spanned, spanned_in};
-ghost use Rattle.html_render_tree_convert.specs.Spans.{spans_of_parts};
 
 use html_render_dom_values::Error;
 use html_render_layout_nodes::tree::Grid;
@@ -17,55 +17,7 @@ use html_render_tree_mapping::tables::CellSpan;
 use std::alloc::Global;
 use std::marker::Model;
 
-/// Things that come from the last to the first.
-#[derive(Drop)]
-pub struct Gathered<T> {
-    /// The last comes first.
-    items: Vec<T>,
-}
-
-impl<T> Model for Gathered<T> {
-    ghost use Rattle.std.specs.Prelude.{List, reverse};
-
-    ghost Value = { List T };
-
-    ghost view = { λ g. reverse g.items.items };
-}
-
-impl<T: Drop> Gathered<T> {
-    /// None.
-    pub fn new(alloc: Global) -> Gathered<T>
-        ensures { result ≡ [] }
-    {
-        Gathered {
-            items: Vec::new(alloc),
-        }
-    }
-
-    /// Puts one in front of the others.
-    ///
-    /// # Errors
-    ///
-    /// `OutOfMemory`.
-    pub fn put(&mut self, item: T) -> Result<(), Error>
-        ensures ok { OnOk result (self.new ≡ item ∷ self.old) }
-        ensures err { OnlyOutOfMemory result }
-    {
-        self.items.push(item)?;
-        Ok(())
-    }
-
-    /// All of them, the first first.
-    fn into_vec(self) -> Vec<T>
-        ensures { result.items ≡ self }
-    {
-        let mut items = self.items;
-        items.reverse();
-        items
-    }
-}
-
-/// What the cells of a row ask for.
+/// Cells of a row, as its elements ask for them.
 #[derive(Drop)]
 pub struct RowCells {
     cells: Vec<CellSpan>,
@@ -80,18 +32,31 @@ impl Model for RowCells {
     ghost view = { λ r. r.cells.items };
 }
 
-impl From<Gathered<CellSpan>> for RowCells {
-    ghost from_gives = { λ g r. r ≡ g };
-
-    /// A row whose cells were gathered.
-    fn from(cells: Gathered<CellSpan>) -> RowCells {
+impl RowCells {
+    /// Creates a row without cells.
+    pub fn new(alloc: Global) -> RowCells
+        ensures { result ≡ [] }
+    {
         RowCells {
-            cells: cells.into_vec(),
+            cells: Vec::new(alloc),
         }
+    }
+
+    /// Appends a cell.
+    ///
+    /// # Errors
+    ///
+    /// `OutOfMemory` if an allocation is refused.
+    pub fn push(&mut self, cell: CellSpan) -> Result<(), Error>
+        ensures ok { OnOk result (self.new ≡ self.old ++ cell ∷ []) }
+        ensures err { OnlyOutOfMemory result }
+    {
+        self.cells.push(cell)?;
+        Ok(())
     }
 }
 
-/// What the cells of the rows of a part of a table ask for.
+/// Rows of a part of a table.
 #[derive(Drop)]
 pub struct PartRows {
     rows: Vec<RowCells>,
@@ -106,18 +71,31 @@ impl Model for PartRows {
     ghost view = { λ p. p.rows.items };
 }
 
-impl From<Gathered<RowCells>> for PartRows {
-    ghost from_gives = { λ g p. p ≡ g };
-
-    /// A part of a table whose rows were gathered.
-    fn from(rows: Gathered<RowCells>) -> PartRows {
+impl PartRows {
+    /// Creates a part without rows.
+    pub fn new(alloc: Global) -> PartRows
+        ensures { result ≡ [] }
+    {
         PartRows {
-            rows: rows.into_vec(),
+            rows: Vec::new(alloc),
         }
+    }
+
+    /// Appends a row.
+    ///
+    /// # Errors
+    ///
+    /// `OutOfMemory` if an allocation is refused.
+    pub fn push(&mut self, row: RowCells) -> Result<(), Error>
+        ensures ok { OnOk result (self.new ≡ self.old ++ row ∷ []) }
+        ensures err { OnlyOutOfMemory result }
+    {
+        self.rows.push(row)?;
+        Ok(())
     }
 }
 
-/// How many columns a row's cells ask for together, a 0 counted as 1.
+/// Returns the number of columns that a row's cells ask for together, a 0 counted as 1.
 fn width_of(cells: &[CellSpan]) -> u128
     ensures width { result ≡ width_of cells.now }
     ensures fits { result + 1 < 2 ^ 128 }
@@ -129,7 +107,7 @@ fn width_of(cells: &[CellSpan]) -> u128
     width
 }
 
-/// The greatest of the widths of rows.
+/// Returns the greatest width of rows, in columns.
 fn greatest_width(rows: &[RowCells]) -> u128
     ensures greatest { result ≡ greatest_width rows.now }
     ensures fits { result + 1 < 2 ^ 128 }
@@ -141,7 +119,7 @@ fn greatest_width(rows: &[RowCells]) -> u128
     widest
 }
 
-/// What a cell spans in a row that is narrower by `missing` columns than the widest of its part of the table.
+/// Returns the span of a cell in a row that is narrower by `missing` columns than the widest of its part of the table.
 fn spanned(missing: u128, cell: &CellSpan) -> Span
     requires { missing + 1 < 2 ^ 128 }
     ensures { result ≡ spanned missing cell.now }
@@ -157,7 +135,7 @@ fn spanned(missing: u128, cell: &CellSpan) -> Span
     }
 }
 
-/// What the cells of a row span in a part of a table whose widest row has this width.
+/// Returns the spans of the cells of a row in a part of a table whose widest row has this width.
 fn spanned_row(alloc: Global, widest: u128, cells: &[CellSpan]) -> Result<Vec<Span>, Error>
     requires { widest + 1 < 2 ^ 128 }
     ensures ok { IfOk result (λ spans. spans.items ≡ map (spanned (widest - width_of cells.now)) cells.now) }
@@ -171,41 +149,74 @@ fn spanned_row(alloc: Global, widest: u128, cells: &[CellSpan]) -> Result<Vec<Sp
     Ok(spans)
 }
 
-/// Puts the rows of a part of a table behind others.
-fn push_part(alloc: Global, part: &PartRows, rows: &mut Vec<Vec<Span>>) -> Result<(), Error>
+/// Appends the spans of the cells of a part's rows. Valid rows stay valid, also if an allocation is refused.
+///
+/// # Errors
+///
+/// `OutOfMemory` if an allocation is refused.
+fn push_rows(alloc: Global, part: &[RowCells], rows: &mut Vec<Vec<Span>>) -> Result<(), Error>
     ensures ok { OnOk result (lists rows.new.items ≡ lists rows.old.items ++ spanned_in (greatest_width part.now) part.now) }
+    ensures valid { AreValid (lists rows.old.items) → AreValid (lists rows.new.items) }
     ensures err { OnlyOutOfMemory result }
 {
-    let widest = greatest_width(part.rows.as_slice());
-    for row in &part.rows {
+    let widest = greatest_width(part);
+    for row in part {
         rows.push(spanned_row(alloc, widest, row.cells.as_slice())?)?;
     }
     Ok(())
 }
 
-/// What the cells of a table of these parts span, row by row.
-fn spans_of_parts(alloc: Global, parts: &[PartRows]) -> Result<Vec<Vec<Span>>, Error>
-    ensures ok { IfOk result (λ rows. lists rows.items ≡ spans_of_parts parts.now) }
-    ensures err { OnlyOutOfMemory result }
-{
-    let mut rows = Vec::new(alloc);
-    for part in parts {
-        push_part(alloc, part, &mut rows)?;
-    }
-    Ok(rows)
+/// Spans of the cells of a table, row by row, each of at least one column and one row.
+#[derive(Drop)]
+pub struct TableSpans {
+    rows: Vec<Vec<Span>>,
 }
 
-/// The grid of a table of these parts.
+impl Model for TableSpans {
+    ghost use Rattle.std.specs.Prelude.{List};
+    ghost use Rattle.html_render_parts.specs.declared.table.Span.{Span};
+    ghost use Rattle.html_render_parts.specs.Grid.{AreValid};
+    ghost use Rattle.html_render_parts.specs.Placement.{lists};
+
+    ghost Value = { List (List Span) };
+
+    ghost view = { λ t. lists t.rows.items };
+
+    ghost invariant = { λ t. AreValid (lists t.rows.items) };
+}
+
+impl TableSpans {
+    /// Creates the spans of no rows.
+    pub fn new(alloc: Global) -> TableSpans
+        ensures { result ≡ [] }
+    {
+        TableSpans {
+            rows: Vec::new(alloc),
+        }
+    }
+}
+
+/// Appends the spans of the cells of a part's rows.
 ///
 /// # Errors
 ///
-/// `Fail` exactly where a cell would end past `u128::MAX`, and `OutOfMemory`.
-pub fn grid_over(alloc: Global, parts: Gathered<PartRows>) -> Result<Grid, Error>
-    ensures ok { IfOk result (λ grid. option_map unmeasured_table (cell_grid_of (spans_of_parts parts)) ≡ Some grid) }
-    ensures err { IfErr result (λ e. Fails e (option_map unmeasured_table (cell_grid_of (spans_of_parts parts)))) }
+/// `OutOfMemory` if an allocation is refused.
+pub fn push_part(alloc: Global, part: &PartRows, spans: &mut TableSpans) -> Result<(), Error>
+    ensures ok { OnOk result (spans.new ≡ spans.old ++ spanned_in (greatest_width part.now) part.now) }
+    ensures err { OnlyOutOfMemory result }
 {
-    let parts = parts.into_vec();
-    let rows = spans_of_parts(alloc, parts.as_slice())?;
-    let cells = TableCells::new(alloc, rows.as_slice())?;
+    push_rows(alloc, part.rows.as_slice(), &mut spans.rows)
+}
+
+/// Creates the grid of a table whose cells have these spans, row by row.
+///
+/// # Errors
+///
+/// `Fail` exactly if a cell ends after column or row `u128::MAX`, and `OutOfMemory` if an allocation is refused.
+pub fn grid_of(alloc: Global, spans: &TableSpans) -> Result<Grid, Error>
+    ensures ok { IfOk result (λ grid. option_map unmeasured_table (cell_grid_of spans.now) ≡ Some grid) }
+    ensures err { IfErr result (λ e. Fails e (option_map unmeasured_table (cell_grid_of spans.now))) }
+{
+    let cells = TableCells::new(alloc, spans.rows.as_slice())?;
     Grid::new(alloc, cells)
 }

@@ -5,5 +5,9 @@ pub mod Tables
 pub mod Conversion
 -- THE DEFINITION of the conversion
 pub mod Results
+-- elements whose text is preformatted
+pub mod Preformatted
+-- texts that an element inserts
+pub mod ElementTexts
 -- what becomes of a node, its children aside
-pub mod Outlines
+pub mod Plans

@@ -4,4 +4,5 @@
 mod attributes;
 mod images;
 pub mod mapping;
+pub mod plans;
 pub mod tables;

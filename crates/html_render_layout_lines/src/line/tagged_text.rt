@@ -19,7 +19,7 @@ use std::alloc::{AllocError, Global};
 use std::marker::Model;
 
 /// So many bytes of a text stand in the value itself.
-pub(super) const SHORT: usize = 16;
+pub(super) const SHORT: usize = 30;
 
 /// How many bytes of a text are moved for what is put in front of it, at most.
 const MOVED: usize = 256;

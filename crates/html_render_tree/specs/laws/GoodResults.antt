@@ -16,7 +16,7 @@ use Rattle.html_render_layout_nodes.specs.Kinds.{holds_insertions}
 use Rattle.html_render_layout_nodes.specs.RenderNodes.{without_style}
 use Rattle.html_render_tree_mapping.specs.Results.{Nodes, Result, Role, Contents, Caption, Rows, Row, Cell, beside, stands_alone}
 use Rattle.html_render_tree_mapping.specs.Results.{level_in, in_first, of_role, trees_of, over, spans_of, inserted, leaf, completed}
-use Rattle.html_render_tree_convert.specs.laws.Roles.{cell_spans, in_style, is_cell, is_row, joined, row_spans}
+use Rattle.html_render_tree.specs.laws.Roles.{cell_spans, in_style, is_cell, is_row, joined, row_spans}
 use Rattle.html_render_tree_mapping.specs.Tables.{greatest_width, spanned_in}
 use Rattle.html_render_tree.specs.GoodTrees.{TreePlace, Anywhere, InTable, InRow, places_around, is_over, are_good_below, are_good}
 use Rattle.html_render_tree.specs.laws.GoodPlaces.{some_cell, cells_like, rows_like, spanned_in-alike, at-row}

@@ -34,8 +34,8 @@ use Rattle.html_render_tree_mapping.specs.Marks.{mark_of}
 use Rattle.html_render_tree_mapping.specs.Results.{Nodes, Result, Role, Contents, Caption, Rows, Row, Cell, beside, trees_of, of_role, stands_alone}
 use Rattle.html_render_tree_mapping.specs.Results.{is_caption, are_rows, row_over, rows_over, spans_of, table_over, captioned, table_of, keeps, counts}
 use Rattle.html_render_tree_mapping.specs.Results.{built, mapped, over, styled, result_of, results, render_tree_of}
-use Rattle.html_render_tree_convert.specs.laws.Roles.{as_block, cell_spans, have_rows, in_style, is_cell, is_row, joined, row_spans}
-use Rattle.html_render_tree_convert.specs.laws.Mappings.{fits_kind, stands_as_is, fits, element_fits}
+use Rattle.html_render_tree.specs.laws.Roles.{as_block, cell_spans, have_rows, in_style, is_cell, is_row, joined, row_spans}
+use Rattle.html_render_tree.specs.laws.Mappings.{fits_kind, stands_as_is, fits, element_fits}
 use Rattle.html_render_tree.specs.GoodTrees.{Anywhere, InTable, InRow, is_leaf, are_good}
 use Rattle.html_render_tree.specs.laws.GoodKinds.{is_inner, parents_inner, element_parents}
 use Rattle.html_render_tree.specs.laws.GoodPlaces.{cells_like, rows_like, own_rows-alike, rows-good-same}

@@ -1,6 +1,31 @@
-use Rattle.std.proofs.Common.{ap, Some, sym, ◌∙◌}
-use Rattle.std.proofs.lemmas.Result.{IfOk-weaker}
+use Rattle.std.proofs.Common.{ap, Some, sym, ◌∙◌, map}
+use Rattle.html_render_dom_styles.specs.Rules.{rule_of}
+use Rattle.html_render_tree_mapping.specs.Results.{render_tree_of}
+use Rattle.html_render_tree_convert.proofs.Running.{documents_convert}
+use Rattle.html_render_tree_convert.proofs.VisitRuns.{fails-handed, fails-same}
+use Rattle.html_render_tree_convert.proofs.WrittenTrees.{Written, fails-tree, written}
 use Rattle.html_render_tree_convert.proofs.convert.dom_to_render_tree.Goals as goal
+use Rattle.html_render_tree_convert.proofs.convert.dom_to_render_tree.Goals.{In_ok-entries}
+
+-- the nodes are those of the render tree of the definition
+nodes-written : (c : In_ok-entries) → Written (render_tree_of (map rule_of c.args.rules.now) c.args.dom.now) c.in_ok-entries.entries.items
+nodes-written c =
+    let rules = map rule_of c.args.rules.now in
+    let dom = c.args.dom.now in
+    written (render_tree_of rules dom) c.in_ok-entries.entries.items (sym (documents_convert rules dom) ∙ c.in_ok-entries.ensures.ok)
+
+pub from_entries-requires : goal.from_entries-requires
+from_entries-requires c = (nodes-written c).preorder
 
 pub returns-clause-ok : goal.returns-clause-ok
-returns-clause-ok c = IfOk-weaker c.into_nodes.result _ _ (λ nodes is. c.in_ok-drafts_of.ensures.ok ∙ ap Some (sym is)) c.into_nodes.ensures.ok
+returns-clause-ok c =
+    let m = (goal.at.returns-clause-ok c).In_ok-entries in
+    (nodes-written m).is ∙ ap Some (sym c.from_entries.ensures)
+
+pub returns-in_err-entries-clause-err : goal.returns-in_err-entries-clause-err
+returns-in_err-entries-clause-err c =
+    let rules = map rule_of c.args.rules.now in
+    let dom = c.args.dom.now in
+    let e = c.in_err-entries.field-0.0 in
+    fails-handed c.from_residual.result e _ c.from_residual.ensures.1
+    (fails-tree e (render_tree_of rules dom) (fails-same e _ _ (documents_convert rules dom) c.in_err-entries.ensures.err))

@@ -1,0 +1,160 @@
+-- What a visit of the walk does to the run of the events that come.
+use Rattle.std.proofs.Common.{◌≡◌, ℕ, true, false, List, [], ◌∷◌, ◌++◌, All, Option, Some, None, Result as Outcome, Ok, Err, IfErr, refl, sym, ap, subst, ◌∙◌, append-nil}
+use Rattle.std.specs.Result.{IsErrAnd}
+use Rattle.std.proofs.lemmas.List.Elements.{All-cons}
+use Rattle.html_render_dom_values.specs.Forest.{Forest, none, node}
+use Rattle.html_render_dom_values.specs.Outcome.{◌>>=◌}
+use Rattle.html_render_dom_values.specs.declared.errors.Error.{Error}
+use Rattle.html_render_dom_values.specs.declared.errors.Error.TheVariants.{TooNarrow, Fail, OutOfMemory}
+use Rattle.html_render_dom_nodes.specs.Content.{Content}
+use Rattle.html_render_dom_styles.specs.Rules.{Rule as StyleRule}
+use Rattle.html_render_dom.specs.Dom.{Dom, IsForest, IsNode, children_at, content_at, tree_of, trees_of}
+use Rattle.html_render_dom.specs.laws.Forests.{All-children}
+use Rattle.html_render_dom.specs.laws.Trees.{below-children}
+use Rattle.html_render_parts.specs.Refusal.{Fails}
+use Rattle.html_render_tree_mapping.specs.Plans.{plan_at}
+use Rattle.html_render_tree_mapping.specs.Results.{Result}
+use Rattle.html_render_tree_mapping.specs.declared.plans.Plan.{Plan}
+use Rattle.html_render_tree_mapping.specs.declared.plans.Plan.TheVariants.{Nothing, Alone, Over}
+use Rattle.html_render_tree_convert.specs.Events.{Event, element_events, events, node_events, nothing_inside}
+use Rattle.html_render_tree_convert.specs.Following.{done_at_once, followed}
+use Rattle.html_render_tree_convert.specs.OpenElements.{OpenElement, root}
+use Rattle.html_render_tree_convert.specs.Steps.{after, all_written, closed, converted, opened, run}
+use Rattle.html_render_tree_convert.specs.Walk.{coming, entered, first_pick, visits_events}
+use Rattle.html_render_tree_convert.specs.declared.cursor.Pick.TheVariants.{All as all_children}
+use Rattle.html_render_tree_convert.specs.declared.cursor.Position.{Position}
+use Rattle.html_render_tree_convert.specs.declared.cursor.Visit.TheVariants.{Node, Close}
+use Rattle.html_render_tree_convert.proofs.Coming.{all_come}
+use Rattle.html_render_tree_convert.proofs.Parting.{picked_results}
+use Rattle.html_render_tree_convert.proofs.Running.{trees-run}
+use Rattle.html_render_tree_convert.proofs.Walking.{comes-entered}
+
+-- open elements
+abbrev pub Stack : Type 0
+Stack = List OpenElement
+
+then-then : {X Y Z : Type 0} (f : X → Option Y) (g : Y → Option Z) (h : X → Option Z) → ((x : X) → h x ≡ (f x >>= g)) →
+    (o : Option X) → (o >>= h) ≡ ((o >>= f) >>= g)
+then-then f g h same None = refl
+then-then f g h same (Some x) = same x
+
+run-append : (xs ys : List Event) (cs : Stack) → run (xs ++ ys) cs ≡ (run xs cs >>= run ys)
+run-append [] ys cs = refl
+run-append (x ∷ xs) ys cs = then-then (run xs) (run ys) (run (xs ++ ys)) (run-append xs ys) (after x cs)
+
+-- where a part refuses, the whole does
+pub fails-then : {X Y : Type 0} (e : Error) (o : Option X) (f : X → Option Y) → Fails e o → Fails e (o >>= f)
+fails-then TooNarrow o f h = absurd h
+fails-then Fail o f h = ap (λ x. x >>= f) h
+fails-then OutOfMemory o f h = tt
+
+pub fails-same : {X : Type 0} (e : Error) (o wanted : Option X) → o ≡ wanted → Fails e o → Fails e wanted
+fails-same TooNarrow o wanted same h = absurd h
+fails-same Fail o wanted same h = sym same ∙ h
+fails-same OutOfMemory o wanted same h = tt
+
+-- an error that is handed on
+pub fails-handed : {X Y : Type 0} (r : Outcome X Error) (e : Error) (wanted : Option Y) → IsErrAnd r (λ f. f ≡ e) → Fails e wanted →
+    IfErr r (λ f. Fails f wanted)
+fails-handed (Ok x) e wanted is fails = tt
+fails-handed (Err f) e wanted is fails = subst (λ g. Fails g wanted) (sym is) fails
+
+module _ (rules : List StyleRule) (dom : Dom) where
+  -- run of all events of a document
+  abbrev pub whole_run : Option Stack
+  whole_run = run (events rules (tree_of dom 0) all_children) (root ∷ [])
+
+  -- run of the events that come, after open elements
+  abbrev pub rest_run : List Position → Stack → Option Stack
+  rest_run ps cs = run (visits_events rules dom (coming dom ps)) cs
+
+  module _ (forest : IsForest dom) where
+    -- a visit of a node: what is done at once, and then what comes
+    follows : (plan : Plan) (h : ℕ) (ps : List Position) (cs : Stack) →
+        run (node_events plan (λ pick. events rules (trees_of dom (children_at dom h)) pick) ++ visits_events rules dom (coming dom ps)) cs
+        ≡ (run (done_at_once plan) cs >>= rest_run (followed plan h ps))
+    follows Nothing h ps cs = refl
+    follows (Alone n) h ps cs = refl
+    follows (Over e false) h ps cs = run-append (element_events e nothing_inside) (visits_events rules dom (coming dom ps)) cs
+    follows (Over e true) h ps cs =
+        ap (λ l. run l (opened e cs)) (sym (comes-entered rules dom forest h (All-children dom forest h (children_at dom h) refl) ps e.kind))
+
+    -- the document's own node
+    pub starts : (run (done_at_once (plan_at rules dom 0)) (root ∷ []) >>= rest_run (followed (plan_at rules dom 0) 0 [])) ≡ whole_run
+    starts =
+        let Kids : Forest Content → Option Stack = λ t. run (events rules (node (content_at dom 0) t none) all_children) (root ∷ []) in
+        sym (ap Kids (below-children dom forest 0 forest.has_document) ∙ follows (plan_at rules dom 0) 0 [] (root ∷ []))
+
+    -- a node that comes
+    pub visits-node : (h : ℕ) (old ps : List Position) (cs : Stack) → coming dom old ≡ Node h ∷ coming dom ps → rest_run old cs ≡ whole_run →
+        (run (done_at_once (plan_at rules dom h)) cs >>= rest_run (followed (plan_at rules dom h) h ps)) ≡ whole_run
+    visits-node h old ps cs comes so_far =
+        sym (follows (plan_at rules dom h) h ps cs) ∙ sym (ap (λ vs. run (visits_events rules dom vs) cs) comes) ∙ so_far
+
+    -- the document's own node is done
+    pub started : (plan : Plan) (h : ℕ) (ps qs : List Position) (cs ds : Stack) → plan ≡ plan_at rules dom h → h ≡ 0 → ps ≡ [] → cs ≡ root ∷ [] →
+        qs ≡ followed plan h ps → run (done_at_once plan) cs ≡ Some ds → rest_run qs ds ≡ whole_run
+    started plan h ps qs cs ds plan_is h_is ps_is cs_is qs_is done =
+        let all : (run (done_at_once plan) cs >>= rest_run (followed plan h ps)) ≡ whole_run = rw (plan_is, h_is, ps_is, cs_is) starts in
+        ap (λ l. rest_run l ds) qs_is ∙ sym (ap (λ o. o >>= rest_run (followed plan h ps)) done) ∙ all
+
+    -- where it can't be done, the document can't be converted
+    pub start-fails : (e : Error) (plan : Plan) (h : ℕ) (cs : Stack) → plan ≡ plan_at rules dom h → h ≡ 0 → cs ≡ root ∷ [] →
+        Fails e (run (done_at_once plan) cs) → Fails e (converted rules (tree_of dom 0))
+    start-fails e plan h cs plan_is h_is cs_is fails =
+        let all : (run (done_at_once plan) cs >>= rest_run (followed plan h [])) ≡ whole_run = rw (plan_is, h_is, cs_is) starts in
+        fails-then e whole_run all_written (fails-same e _ whole_run all (fails-then e _ (rest_run (followed plan h [])) fails))
+
+    -- a node that comes is done
+    pub went_on : (plan : Plan) (h : ℕ) (old ps qs : List Position) (cs ds : Stack) → plan ≡ plan_at rules dom h →
+        coming dom old ≡ Node h ∷ coming dom ps → qs ≡ followed plan h ps → run (done_at_once plan) cs ≡ Some ds → rest_run old cs ≡ whole_run →
+        rest_run qs ds ≡ whole_run
+    went_on plan h old ps qs cs ds plan_is comes qs_is done so_far =
+        let all : (run (done_at_once plan) cs >>= rest_run (followed plan h ps)) ≡ whole_run = rw plan_is (visits-node h old ps cs comes so_far) in
+        ap (λ l. rest_run l ds) qs_is ∙ sym (ap (λ o. o >>= rest_run (followed plan h ps)) done) ∙ all
+
+    pub node-fails : (e : Error) (plan : Plan) (h : ℕ) (old ps : List Position) (cs : Stack) → plan ≡ plan_at rules dom h →
+        coming dom old ≡ Node h ∷ coming dom ps → rest_run old cs ≡ whole_run → Fails e (run (done_at_once plan) cs) →
+        Fails e (converted rules (tree_of dom 0))
+    node-fails e plan h old ps cs plan_is comes so_far fails =
+        let all : (run (done_at_once plan) cs >>= rest_run (followed plan h ps)) ≡ whole_run = rw plan_is (visits-node h old ps cs comes so_far) in
+        fails-then e whole_run all_written (fails-same e _ whole_run all (fails-then e _ (rest_run (followed plan h ps)) fails))
+
+  -- positions stay at nodes
+  pub followed-nodes : (plan : Plan) (h : ℕ) (ps : List Position) → IsNode dom h → All (λ p. IsNode dom p.element) ps →
+      All (λ p. IsNode dom p.element) (followed plan h ps)
+  followed-nodes Nothing h ps at all = all
+  followed-nodes (Alone n) h ps at all = all
+  followed-nodes (Over e false) h ps at all = all
+  followed-nodes (Over e true) h ps at all = All-cons (λ (p : Position). IsNode dom p.element) (entered h (first_pick e.kind)) ps at all
+
+  pub visits-close : (old ps : List Position) (cs : Stack) → coming dom old ≡ Close ∷ coming dom ps → rest_run old cs ≡ whole_run →
+      (closed cs >>= rest_run ps) ≡ whole_run
+  visits-close old ps cs comes so_far = sym (ap (λ vs. run (visits_events rules dom vs) cs) comes) ∙ so_far
+
+  pub close-fails : (e : Error) (old ps : List Position) (cs : Stack) → coming dom old ≡ Close ∷ coming dom ps → rest_run old cs ≡ whole_run →
+      Fails e (closed cs) → Fails e (converted rules (tree_of dom 0))
+  close-fails e old ps cs comes so_far fails =
+      fails-then e whole_run all_written
+      (fails-same e _ whole_run (visits-close old ps cs comes so_far) (fails-then e (closed cs) (rest_run ps) fails))
+
+  -- nothing comes
+  pub ended : (ps : List Position) (cs : Stack) → coming dom ps ≡ [] → rest_run ps cs ≡ whole_run → whole_run ≡ Some cs
+  ended ps cs over so_far = sym so_far ∙ ap (λ vs. run (visits_events rules dom vs) cs) over
+
+-- ---- the end
+
+-- after the events of a document one element is open
+pub one_left : (rules : List StyleRule) (t : Forest Content) (cs : Stack) → run (events rules t all_children) (root ∷ []) ≡ Some cs →
+    (p : OpenElement) × (cs ≡ p ∷ []) × (converted rules t ≡ p.written)
+one_left rules t cs is = by (picked_results rules t all_children) (sym all ∙ is)
+  where
+    all : run (events rules t all_children) (root ∷ []) ≡ (picked_results rules t all_children >>= λ rs. Some (all_come rs root ∷ []))
+    all = ap (λ l. run l (root ∷ [])) (sym (append-nil (events rules t all_children))) ∙ trees-run rules t all_children [] root []
+
+    by : (o : Option (List Result)) → (o >>= λ rs. Some (all_come rs root ∷ [])) ≡ Some cs →
+        (p : OpenElement) × (cs ≡ p ∷ []) × (converted rules t ≡ p.written)
+    by None e = absurd (cc)
+    by (Some rs) e =
+        let same : cs ≡ all_come rs root ∷ [] = cc in
+        (all_come rs root, same, ap (λ o. o >>= all_written) is ∙ ap all_written same)

@@ -1,0 +1,125 @@
+-- Elements that are open during a walk, with what is written of them.
+use Rattle.std.specs.Prelude.{ℕ, ◌+◌, Bool, false, List, [], ◌∷◌, ◌++◌, length, map, Option, Some, None, option_map}
+use Rattle.std.specs.Prelude.{option_to_list}
+use Rattle.html_render_layout_nodes.specs.RenderNodes.{unmeasured, without_style}
+use Rattle.html_render_layout_nodes.specs.declared.tree.Entry.{Entry}
+use Rattle.html_render_layout_nodes.specs.declared.tree.NodeKind.{NodeKind}
+use Rattle.html_render_layout_nodes.specs.declared.tree.NodeKind.TheVariants.{Text, Container, FragmentStart}
+use Rattle.html_render_layout_nodes.specs.declared.tree.NodeStyle.{NodeStyle}
+use Rattle.html_render_layout_nodes.specs.declared.tree.RenderNode.{RenderNode}
+use Rattle.html_render_parts.specs.declared.table.Span.{Span}
+use Rattle.html_render_tree_mapping.specs.ElementTexts.{has_any}
+use Rattle.html_render_tree_mapping.specs.declared.mapping.IfEmpty.{IfEmpty}
+use Rattle.html_render_tree_mapping.specs.declared.mapping.IfEmpty.TheVariants.{Stands}
+use Rattle.html_render_tree_mapping.specs.declared.tables.CellSpan.{CellSpan}
+use Rattle.html_render_tree_mapping.specs.declared.plans.Element.{Element}
+
+-- ---- insertions
+
+-- nodes without children that are inserted in front of an element's children and after them
+pub record Insertion : Type 0 where
+  pub front : List RenderNode
+  pub back : List RenderNode
+
+abbrev pub nothing : Insertion
+nothing = record { front = []; back = [] }
+
+-- an inner insertion within an outer one
+abbrev pub within : (outer inner : Insertion) → Insertion
+within outer inner = record { front = outer.front ++ inner.front; back = inner.back ++ outer.back }
+
+-- a text as a node of a kind, if there is one
+abbrev pub text_nodes : (kind : List ℕ → NodeKind) → Option (List ℕ) → List RenderNode
+text_nodes kind contents = option_to_list (option_map (λ c. without_style (kind c)) contents)
+
+abbrev pub inserts : Element → Bool
+inserts e = has_any e.texts
+
+-- what an element inserts: its mark and the content before its children, and the content after them
+abbrev pub insertion_of : Element → Insertion
+insertion_of e = record { front = text_nodes FragmentStart e.texts.mark ++ text_nodes Text e.texts.before; back = text_nodes Text e.texts.after }
+
+-- ---- entries
+
+abbrev pub leaves : List RenderNode → List (Entry RenderNode)
+leaves nodes = map (λ n. record { node = n; subtree_len = 1 }) nodes
+
+-- a node over the entries of its subtree
+abbrev pub over_entries : RenderNode → List (Entry RenderNode) → List (Entry RenderNode)
+over_entries n es = record { node = n; subtree_len = length es + 1 } ∷ es
+
+-- ---- open elements
+
+-- Kind of an open element:
+-- * Node: an element that becomes a node of this kind, or a container round one;
+-- * Captions: a table whose captions come;
+-- * Parts: a table whose rows come, with the spans of the cells so far;
+-- * Rows: a part of a table, true for a `tfoot`, with its rows so far;
+-- * Row: a row, with its cells so far;
+-- * Cell, Caption.
+pub data OpenKind : Type 0 where
+  Node : NodeKind → OpenKind
+  Captions : OpenKind
+  Parts : List (List Span) → OpenKind
+  Rows : (behind : Bool) → List (List CellSpan) → OpenKind
+  Row : List CellSpan → OpenKind
+  Cell : CellSpan → OpenKind
+  Caption : OpenKind
+
+-- An open element:
+-- * node: its node;
+-- * due: nodes that aren't written yet: of a table, of its rows and of a row those that are inserted into the first cell, of
+--   any other those after its children;
+-- * given: of a part of a table without rows so far the table's insertion, to be given back; of any other none;
+-- * has_results: whether a result that counts has come;
+-- * has_children: whether it has children, insertions included;
+-- * is_wrapped: whether it is in a container that closes with it;
+-- * written: entries of its children; none if a part of a table is among them that is in no table.
+pub record OpenElement : Type 0 where
+  pub kind : OpenKind
+  pub node : RenderNode
+  pub if_empty : IfEmpty
+  pub mark : Option (List ℕ)
+  pub due : Insertion
+  pub given : Option Insertion
+  pub has_results : Bool
+  pub has_children : Bool
+  pub is_wrapped : Bool
+  pub written : Option (List (Entry RenderNode))
+
+abbrev pub node_in : NodeStyle → NodeKind → RenderNode
+node_in style kind = record { kind = kind; style = style; estimate = unmeasured }
+
+-- an element that writes what it inserts in front of its children as it opens, and the rest as it closes
+abbrev pub holder : OpenKind → RenderNode → IfEmpty → (mark : Option (List ℕ)) → Insertion → (has_children : Bool) → OpenElement
+holder kind n if_empty mark insertion has_children = record {
+  kind = kind;
+  node = n;
+  if_empty = if_empty;
+  mark = mark;
+  due = record { front = []; back = insertion.back };
+  given = None;
+  has_results = false;
+  has_children = has_children;
+  is_wrapped = false;
+  written = Some (leaves insertion.front);
+}
+
+-- rows or a row: what they insert is due in their first cell
+abbrev pub carrier : OpenKind → RenderNode → Element → (due : Insertion) → (given : Option Insertion) → OpenElement
+carrier kind n e due given = record {
+  kind = kind;
+  node = n;
+  if_empty = e.if_empty;
+  mark = e.texts.mark;
+  due = due;
+  given = given;
+  has_results = false;
+  has_children = false;
+  is_wrapped = false;
+  written = Some [];
+}
+
+-- a document before its first event
+abbrev pub root : OpenElement
+root = holder (Node Container) (without_style Container) Stands None nothing false

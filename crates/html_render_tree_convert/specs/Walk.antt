@@ -1,0 +1,66 @@
+-- What comes on a walk over a document's lists of children.
+use Rattle.std.specs.Prelude.{ℕ, List, [], ◌∷◌, ◌++◌, drop, filter, flat_map, map}
+use Rattle.html_render_dom.specs.Dom.{Dom, IsNode, children_at, content_at, trees_of}
+use Rattle.html_render_dom_styles.specs.Rules.{Rule as StyleRule}
+use Rattle.html_render_tree_mapping.specs.declared.mapping.ElementKind.{ElementKind}
+use Rattle.html_render_tree_mapping.specs.declared.mapping.ElementKind.TheVariants.{Part}
+use Rattle.html_render_tree_mapping.specs.declared.tables.Part.TheVariants as part
+use Rattle.html_render_tree_convert.specs.Events.{Event, events, node_events}
+use Rattle.html_render_tree_convert.specs.Events as event
+use Rattle.html_render_tree_mapping.specs.Plans.{plan_of}
+use Rattle.html_render_tree_convert.specs.Order.{picks}
+use Rattle.html_render_tree_convert.specs.declared.cursor.Pick.{Pick}
+use Rattle.html_render_tree_convert.specs.declared.cursor.Pick.TheVariants.{All, Captions, Others, Feet}
+use Rattle.html_render_tree_convert.specs.declared.cursor.Position.{Position}
+use Rattle.html_render_tree_convert.specs.declared.cursor.Visit.{Visit}
+use Rattle.html_render_tree_convert.specs.declared.cursor.Visit.TheVariants.{Node, Parts, Close}
+
+-- children that are picked
+abbrev pub picked : Pick → Dom → List ℕ → List ℕ
+picked pick dom children = filter (λ h. picks pick (content_at dom h)) children
+
+-- children at a position that are picked and haven't come
+abbrev pub ahead : Dom → Position → List ℕ
+ahead dom p = picked p.pick dom (drop p.next (children_at dom p.element))
+
+-- position of an element that was entered just now
+abbrev pub entered : (element : ℕ) → Pick → Position
+entered h pick = record { element = h; pick = pick; next = 0 }
+
+abbrev pub nodes : List ℕ → List Visit
+nodes hs = map (λ h. Node h) hs
+
+-- visits after the children of a pick
+abbrev pub after_pick : Pick → Dom → (element : ℕ) → List Visit
+after_pick All dom h = Close ∷ []
+after_pick Captions dom h = Parts ∷ (nodes (picked Others dom (children_at dom h)) ++ (nodes (picked Feet dom (children_at dom h)) ++ Close ∷ []))
+after_pick Others dom h = nodes (picked Feet dom (children_at dom h)) ++ Close ∷ []
+after_pick Feet dom h = Close ∷ []
+
+-- WHAT COMES on a walk that has entered these elements, the innermost first, and enters no more
+abbrev pub coming : Dom → List Position → List Visit
+coming dom [] = []
+coming dom (p ∷ ps) = nodes (ahead dom p) ++ (after_pick p.pick dom p.element ++ coming dom ps)
+
+-- whether a visit is that of a node of the document, if it is that of a node
+abbrev pub IsVisited : Dom → Visit → Type 0
+IsVisited dom (Node h) = IsNode dom h
+IsVisited dom _ = Unit {0}
+
+-- ---- events of visits
+
+-- events of a visit, if the walk enters each element whose children are converted
+abbrev pub visit_events : List StyleRule → Dom → Visit → List Event
+visit_events rules dom (Node h) =
+    let t = trees_of dom (children_at dom h) in
+    node_events (plan_of rules (content_at dom h) t) (λ pick. events rules t pick)
+visit_events rules dom Parts = event.Parts ∷ []
+visit_events rules dom Close = event.Close ∷ []
+
+abbrev pub visits_events : List StyleRule → Dom → List Visit → List Event
+visits_events rules dom visits = flat_map (visit_events rules dom) visits
+
+-- children that come first in an element
+abbrev pub first_pick : ElementKind → Pick
+first_pick (Part part.Table) = Captions
+first_pick _ = All

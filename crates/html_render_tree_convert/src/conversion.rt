@@ -1,0 +1,205 @@
+//! The conversion of a document in one forward pass: what each event of a walk does to the open elements.
+
+ghost use Rattle.std.specs.Prelude.{◌≡◌, [], ◌∷◌, ◌++◌, IfErr, IfOk, OnOk, Some, false};
+ghost use Rattle.html_render_dom_values.specs.Outcome.{OnlyOutOfMemory};
+ghost use Rattle.html_render_parts.specs.Refusal.{Fails};
+ghost use Rattle.html_render_tree_convert.specs.Levels.{begun, begun_part, leaf};
+ghost use Rattle.html_render_tree_convert.specs.OpenElements.{OpenElement, root};
+ghost use Rattle.html_render_tree_convert.specs.Opening.{Becomes, GivesTo, IsOpen, MayGive};
+ghost use Rattle.html_render_tree_convert.specs.Seen.{Holds, element_seen, is_root};
+ghost use Rattle.html_render_tree_convert.specs.Steps.{closed_leaf, put, received};
+
+use crate::builder::TreeBuilder;
+use crate::due::Due;
+use crate::elements::{Open, OpenKind, Role};
+use html_render_dom_values::Error;
+use html_render_layout_nodes::tree::{Entry, RenderNode};
+use html_render_tree_mapping::mapping::IfEmpty;
+use std::alloc::Global;
+use std::marker::Model;
+
+mod closing;
+mod opening;
+
+/// Appends an open element, and opens its node.
+///
+/// # Errors
+///
+/// `OutOfMemory` if an allocation is refused.
+fn begin_in(
+    elements: &mut Vec<Open>,
+    tree: &mut TreeBuilder,
+    element: Open,
+    node: RenderNode,
+) -> Result<(), Error>
+    ensures elements { OnOk result (elements.new.items ≡ elements.old.items ++ element ∷ []) }
+    ensures tree { OnOk result (tree.new ≡ begun node tree.old) }
+    ensures err { OnlyOutOfMemory result }
+{
+    tree.begin(node)?;
+    elements.push(element)?;
+    Ok(())
+}
+
+/// Appends an open element, and opens a part without a node of its own.
+///
+/// # Errors
+///
+/// `OutOfMemory` if an allocation is refused.
+fn begin_part_in(
+    elements: &mut Vec<Open>,
+    tree: &mut TreeBuilder,
+    element: Open,
+) -> Result<(), Error>
+    ensures elements { OnOk result (elements.new.items ≡ elements.old.items ++ element ∷ []) }
+    ensures tree { OnOk result (tree.new ≡ begun_part tree.old) }
+    ensures err { OnlyOutOfMemory result }
+{
+    tree.begin_part()?;
+    elements.push(element)?;
+    Ok(())
+}
+
+/// Writes a node without children in the innermost open element.
+///
+/// # Errors
+///
+/// `OutOfMemory` if an allocation is refused.
+fn put_in(
+    alloc: Global,
+    node: RenderNode,
+    parent: &mut Open,
+    tree: &mut TreeBuilder,
+) -> Result<(), Error>
+    ensures seen { OnOk result (Becomes (received (closed_leaf node)) parent.old parent.new tree.old tree.new) }
+    ensures root { OnOk result (is_root parent.new.kind ≡ is_root parent.old.kind) }
+    ensures err { OnlyOutOfMemory result }
+{
+    if parent.receive(alloc, Role::Contents, &node.kind, false, false)? {
+        tree.put(node)?;
+        return Ok(());
+    }
+    Ok(())
+}
+
+/// A document whose nodes are being converted. Contracts see the open elements, the innermost first. After an error none is
+/// open.
+#[derive(Drop)]
+pub struct Conversion {
+    elements: Vec<Open>,
+    tree: TreeBuilder,
+}
+
+impl Model for Conversion {
+    ghost use Rattle.std.specs.Prelude.{List, reverse};
+    ghost use Rattle.html_render_tree_convert.specs.OpenElements.{OpenElement};
+    ghost use Rattle.html_render_tree_convert.specs.Opening.{IsSound};
+    ghost use Rattle.html_render_tree_convert.specs.Seen.{seen};
+
+    ghost Value = { List OpenElement };
+
+    ghost view = { λ c. seen (reverse c.elements.items) c.tree };
+
+    ghost invariant = { λ c. IsSound (reverse c.elements.items) c.tree };
+}
+
+impl Conversion {
+    /// Creates a conversion before its first event, with room for `nodes` nodes.
+    ///
+    /// # Errors
+    ///
+    /// `OutOfMemory` if an allocation is refused.
+    pub fn new(alloc: Global, nodes: usize) -> Result<Conversion, Error>
+        ensures ok { IfOk result (λ c. c ≡ root ∷ []) }
+        ensures err { OnlyOutOfMemory result }
+    {
+        let mut elements = Vec::new(alloc);
+        elements.push(Open::new(OpenKind::Root, Due::none(), IfEmpty::Stands, false))?;
+        Ok(Conversion {
+            elements,
+            tree: TreeBuilder::with_capacity(alloc, nodes)?,
+        })
+    }
+
+    /// Writes a node without children.
+    ///
+    /// # Errors
+    ///
+    /// `OutOfMemory` if an allocation is refused.
+    pub fn put(&mut self, alloc: Global, node: RenderNode) -> Result<(), Error>
+        ensures ok { OnOk result (self.new ≡ put node self.old) }
+        ensures err { OnlyOutOfMemory result }
+    {
+        let Some(parent) = self.elements.last_mut() else {
+            return Ok(());
+        };
+        if let Err(error) = put_in(alloc, node, parent, &mut self.tree) {
+            self.elements.clear();
+            return Err(error);
+        }
+        Ok(())
+    }
+
+    /// Opens an element with a node of its own.
+    ///
+    /// # Errors
+    ///
+    /// `OutOfMemory` if an allocation is refused.
+    fn begin(&mut self, element: Open, node: RenderNode) -> Result<(), Error>
+        requires root { is_root element.kind ≡ false }
+        requires holds { Holds element.kind (leaf node ∷ []) }
+        requires given { MayGive (element_seen element (leaf node ∷ [])) }
+        requires given_to { GivesTo (element_seen element (leaf node ∷ [])) self.old }
+        ensures ok { OnOk result (self.new ≡ element_seen element (leaf node ∷ []) ∷ self.old) }
+        ensures open { OnOk result (IsOpen self.old) }
+        ensures err { OnlyOutOfMemory result }
+    {
+        if self.elements.is_empty() {
+            return Err(Error::OutOfMemory);
+        }
+        if let Err(error) = begin_in(&mut self.elements, &mut self.tree, element, node) {
+            self.elements.clear();
+            return Err(error);
+        }
+        Ok(())
+    }
+
+    /// Opens an element without a node of its own.
+    ///
+    /// # Errors
+    ///
+    /// `OutOfMemory` if an allocation is refused.
+    fn begin_part(&mut self, element: Open) -> Result<(), Error>
+        requires root { is_root element.kind ≡ false }
+        requires holds { Holds element.kind [] }
+        requires given { MayGive (element_seen element []) }
+        requires given_to { GivesTo (element_seen element []) self.old }
+        ensures ok { OnOk result (self.new ≡ element_seen element [] ∷ self.old) }
+        ensures open { OnOk result (IsOpen self.old) }
+        ensures err { OnlyOutOfMemory result }
+    {
+        if self.elements.is_empty() {
+            return Err(Error::OutOfMemory);
+        }
+        if let Err(error) = begin_part_in(&mut self.elements, &mut self.tree, element) {
+            self.elements.clear();
+            return Err(error);
+        }
+        Ok(())
+    }
+
+    /// Returns the nodes that are written, in pre-order.
+    ///
+    /// # Errors
+    ///
+    /// `Fail` exactly if a part of a table is among them that is in no table.
+    pub fn into_entries(self) -> Result<Vec<Entry<RenderNode>>, Error>
+        ensures ok { (p : OpenElement) → self ≡ p ∷ [] → IfOk result (λ entries. Some entries.items ≡ p.written) }
+        ensures err { (p : OpenElement) → self ≡ p ∷ [] → IfErr result (λ e. Fails e p.written) }
+    {
+        match self.elements.first() {
+            Some(root) if !root.is_stray => Ok(self.tree.into_entries()),
+            _ => Err(Error::Fail),
+        }
+    }
+}

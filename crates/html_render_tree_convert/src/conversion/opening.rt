@@ -1,0 +1,651 @@
+//! Elements that open: their nodes, what they insert in front of their children, and what is due in them.
+
+ghost use Rattle.std.specs.Prelude.{◌≡◌, [], ◌∷◌, ◌++◌, IfOk, None, OnOk, Some, false, true};
+ghost use Rattle.html_render_dom_values.specs.Outcome.{OnlyOutOfMemory};
+ghost use Rattle.html_render_tree_convert.specs.Held.{due_of, insertion_in, nothing_held};
+ghost use Rattle.html_render_tree_convert.specs.Levels.{added, leaf};
+ghost use Rattle.html_render_tree_convert.specs.OpenElements.{Node, holder, leaves, node_in, nothing};
+ghost use Rattle.html_render_tree_convert.specs.Opening.{AllMayGive, Becomes, GivesTo, IsOpen, MayGive, in_captions, in_row, in_rows, in_table, has_result, innermost, is_captions};
+ghost use Rattle.html_render_tree_convert.specs.Opening.{cell_as_open, kind_of_caption, left_once, own_front, rows_opened, taken, with_captions, without_captions, wrote};
+ghost use Rattle.html_render_tree_convert.specs.Seen.{Holds, element_seen, is_root, kind_seen};
+ghost use Rattle.html_render_tree_convert.specs.Steps.{all_parted, caption_kind, is_row, is_rows, is_table, opened, table_in_container};
+ghost use Rattle.html_render_tree_mapping.specs.ElementTexts.{has_any, no_texts};
+
+use super::Conversion;
+use crate::builder::TreeBuilder;
+use crate::due::{Due, DueParts, InsertedNodes, front_nodes};
+use crate::elements::{Open, OpenKind};
+use crate::kinds::Keeping;
+use crate::spans::{PartRows, RowCells, TableSpans};
+use html_render_dom_values::Error;
+use html_render_layout_nodes::tree::{Estimate, NodeKind, NodeStyle, RenderNode};
+use html_render_tree_mapping::mapping::{ElementKind, IfEmpty};
+use html_render_tree_mapping::plans::{Element, ElementTexts};
+use html_render_tree_mapping::tables::{CellSpan, Part};
+use std::alloc::Global;
+
+/// Returns an unmeasured node of a style.
+fn node_in(style: NodeStyle, kind: NodeKind) -> RenderNode
+    ensures { result ≡ node_in style kind }
+{
+    RenderNode {
+        kind,
+        style,
+        estimate: Estimate::default(),
+    }
+}
+
+/// Reports whether an open element is a table whose rows come.
+fn is_table(kind: &OpenKind) -> bool
+    ensures { (own : NodeKind) → result ≡ is_table (kind_seen kind.now own) }
+{
+    matches!(kind, OpenKind::Parts(_))
+}
+
+/// Reports whether an open element is a part of a table.
+fn is_rows(kind: &OpenKind) -> bool
+    ensures { (own : NodeKind) → result ≡ is_rows (kind_seen kind.now own) }
+{
+    matches!(kind, OpenKind::Rows(..))
+}
+
+/// Reports whether an open element is a row.
+fn is_row(kind: &OpenKind) -> bool
+    ensures { (own : NodeKind) → result ≡ is_row (kind_seen kind.now own) }
+{
+    matches!(kind, OpenKind::Row(_))
+}
+
+/// Returns the kind of the node of a caption in an open element: it is a block in a table whose captions come.
+fn caption_kind(parent: &OpenKind) -> NodeKind
+    ensures { (own : NodeKind) → result ≡ caption_kind (kind_seen parent.now own) }
+{
+    match parent {
+        OpenKind::Captions => NodeKind::Block,
+        _ => NodeKind::Container,
+    }
+}
+
+/// Creates the open element of a cell, with the nodes of its own in front of its children. After them it has its own text, and
+/// these nodes from outside.
+///
+/// # Errors
+///
+/// `OutOfMemory` if an allocation is refused.
+fn cell_of(
+    alloc: Global,
+    span: CellSpan,
+    if_empty: IfEmpty,
+    texts: ElementTexts,
+    back: Vec<RenderNode>,
+) -> Result<(Open, Vec<RenderNode>), Error>
+    ensures element { IfOk result (λ r. r.0 ≡ cell_as_open span if_empty texts back.items) }
+    ensures front { IfOk result (λ r. r.1.items ≡ own_front texts) }
+    ensures err { OnlyOutOfMemory result }
+{
+    let inserts = texts.has_any();
+    let ElementTexts {
+        mark,
+        before,
+        after,
+    } = texts;
+    let front = front_nodes(alloc, &mark, before)?;
+    let due = Due::new(
+        alloc,
+        DueParts {
+            mark,
+            outer: InsertedNodes {
+                front: Vec::new(alloc),
+                back,
+            },
+            front: Vec::new(alloc),
+            after,
+        },
+    )?;
+    let cell = Open::new(OpenKind::Cell(span), due, if_empty, inserts);
+    Ok((cell, front))
+}
+
+/// Reports whether an open element is a table whose captions come.
+fn is_captions(kind: &OpenKind) -> bool
+    ensures { (own : NodeKind) → result ≡ is_captions (kind_seen kind.now own) }
+{
+    matches!(kind, OpenKind::Captions)
+}
+
+/// Makes an open element one that becomes a container.
+fn make_container(table: &mut Open)
+    ensures { table.new ≡ record table.old { kind = OpenKind.Node Keeping.Any } }
+{
+    table.kind = OpenKind::Node(Keeping::Any);
+}
+
+/// Begins the rows of a table without a caption.
+///
+/// # Errors
+///
+/// `OutOfMemory` if an allocation is refused.
+fn make_parts(alloc: Global, table: &mut Open, tree: &mut TreeBuilder) -> Result<(), Error>
+    requires kind { table.old.kind ≡ OpenKind.Captions }
+    requires given { table.old.is_given ≡ false }
+    ensures seen { OnOk result (Becomes without_captions table.old table.new tree.old tree.new) }
+    ensures root { OnOk result (is_root table.new.kind ≡ false) }
+    ensures err { OnlyOutOfMemory result }
+{
+    let inside = tree.take_inside(alloc)?;
+    let front = if table.is_stray {
+        Vec::new(alloc)
+    } else {
+        inside
+    };
+    table.kind = OpenKind::Parts(TableSpans::new(alloc));
+    table.is_stray = false;
+    table.due.set_front(alloc, front)
+}
+
+/// Takes what is due in an open element, which gives nothing back then.
+///
+/// # Errors
+///
+/// `OutOfMemory` if an allocation is refused.
+fn take_from(alloc: Global, parent: &mut Open) -> Result<InsertedNodes, Error>
+    ensures due { IfOk result (λ i. insertion_in i ≡ due_of parent.old.due) }
+    ensures left { OnOk result (parent.new ≡ record parent.old { due = record nothing_held { mark = parent.old.due.mark }; is_given = false }) }
+    ensures err { OnlyOutOfMemory result }
+{
+    let insertion = parent.due.take_insertion(alloc)?;
+    parent.is_given = false;
+    Ok(insertion)
+}
+
+/// Appends nodes without children.
+///
+/// # Errors
+///
+/// `OutOfMemory` if an allocation is refused.
+pub(super) fn put_all(nodes: Vec<RenderNode>, tree: &mut TreeBuilder) -> Result<(), Error>
+    ensures ok { OnOk result (tree.new ≡ added (leaves nodes.items) tree.old) }
+    ensures err { OnlyOutOfMemory result }
+{
+    for node in nodes {
+        tree.put(node)?;
+    }
+    Ok(())
+}
+
+impl Conversion {
+    /// Writes nodes without children that are inserted.
+    ///
+    /// # Errors
+    ///
+    /// `OutOfMemory` if an allocation is refused.
+    fn insert_all(&mut self, nodes: Vec<RenderNode>) -> Result<(), Error>
+        ensures ok { OnOk result (self.new ≡ wrote (leaves nodes.items) self.old) }
+        ensures err { OnlyOutOfMemory result }
+    {
+        if let Err(error) = put_all(nodes, &mut self.tree) {
+            self.elements.clear();
+            return Err(error);
+        }
+        Ok(())
+    }
+
+    /// Opens an element that writes what is inserted in front of its children.
+    ///
+    /// # Errors
+    ///
+    /// `OutOfMemory` if an allocation is refused.
+    fn hold(&mut self, element: Open, node: RenderNode, front: Vec<RenderNode>) -> Result<(), Error>
+        requires root { is_root element.kind ≡ false }
+        requires holds { Holds element.kind (leaf node ∷ []) }
+        requires given { MayGive (element_seen element (leaf node ∷ [])) }
+        requires given_to { GivesTo (element_seen element (leaf node ∷ [])) self.old }
+        ensures ok { OnOk result (self.new ≡ wrote (leaves front.items) (element_seen element (leaf node ∷ []) ∷ self.old)) }
+        ensures open { OnOk result (IsOpen self.old) }
+        ensures err { OnlyOutOfMemory result }
+    {
+        self.begin(element, node)?;
+        self.insert_all(front)
+    }
+
+    /// Opens an element that writes what is inserted by the elements outside, and then its own, in front of its children.
+    ///
+    /// # Errors
+    ///
+    /// `OutOfMemory` if an allocation is refused.
+    #[tactic(auto, using(crate::proofs::SeenLemmas::wrote_twice))]
+    fn hold_within(
+        &mut self,
+        element: Open,
+        node: RenderNode,
+        outer: Vec<RenderNode>,
+        front: Vec<RenderNode>,
+    ) -> Result<(), Error>
+        requires root { is_root element.kind ≡ false }
+        requires holds { Holds element.kind (leaf node ∷ []) }
+        requires given { MayGive (element_seen element (leaf node ∷ [])) }
+        requires given_to { GivesTo (element_seen element (leaf node ∷ [])) self.old }
+        ensures ok { OnOk result (self.new
+            ≡ wrote (leaves (outer.items ++ front.items)) (element_seen element (leaf node ∷ []) ∷ self.old)) }
+        ensures open { OnOk result (IsOpen self.old) }
+        ensures err { OnlyOutOfMemory result }
+    {
+        self.hold(element, node, outer)?;
+        self.insert_all(front)
+    }
+
+    /// Opens an element that becomes a node and inserts nothing.
+    ///
+    /// # Errors
+    ///
+    /// `OutOfMemory` if an allocation is refused.
+    fn open_plain(
+        &mut self,
+        kind: NodeKind,
+        style: NodeStyle,
+        if_empty: IfEmpty,
+    ) -> Result<(), Error>
+        ensures ok { OnOk result (self.new ≡ opened (record { kind = ElementKind.Node kind; style = style; if_empty = if_empty; texts = no_texts }) self.old) }
+        ensures err { OnlyOutOfMemory result }
+    {
+        let keeping = Keeping::of(&kind);
+        let open = Open::new(OpenKind::Node(keeping), Due::none(), if_empty, false);
+        self.begin(open, node_in(style, kind))
+    }
+
+    /// Opens an element that becomes a node and inserts these texts.
+    ///
+    /// # Errors
+    ///
+    /// `OutOfMemory` if an allocation is refused.
+    #[inline(never)]
+    fn open_inserting(
+        &mut self,
+        alloc: Global,
+        kind: NodeKind,
+        style: NodeStyle,
+        if_empty: IfEmpty,
+        texts: ElementTexts,
+    ) -> Result<(), Error>
+        requires { has_any texts ≡ true }
+        ensures ok { OnOk result (self.new ≡ opened (record { kind = ElementKind.Node kind; style = style; if_empty = if_empty; texts = texts }) self.old) }
+        ensures err { OnlyOutOfMemory result }
+    {
+        let ElementTexts {
+            mark,
+            before,
+            after,
+        } = texts;
+        let front = front_nodes(alloc, &mark, before)?;
+        let due = Due::after(alloc, mark, after)?;
+        if kind.holds_insertions() {
+            let keeping = Keeping::of(&kind);
+            let open = Open::new(OpenKind::Node(keeping), due, if_empty, true);
+            return self.hold(open, node_in(style, kind), front);
+        }
+        let container = Open::new(OpenKind::Node(Keeping::Any), due, if_empty, true);
+        self.hold(container, RenderNode::from(NodeKind::Container), front)?;
+        self.open_wrapped(kind, style, if_empty)
+    }
+
+    /// Opens an element that becomes a node, in a container that closes with it.
+    ///
+    /// # Errors
+    ///
+    /// `OutOfMemory` if an allocation is refused.
+    fn open_wrapped(
+        &mut self,
+        kind: NodeKind,
+        style: NodeStyle,
+        if_empty: IfEmpty,
+    ) -> Result<(), Error>
+        ensures ok { OnOk result (self.new
+            ≡ record (holder (Node kind) (node_in style kind) if_empty None nothing false) { is_wrapped = true } ∷ self.old) }
+        ensures err { OnlyOutOfMemory result }
+    {
+        let keeping = Keeping::of(&kind);
+        let mut open = Open::new(OpenKind::Node(keeping), Due::none(), if_empty, false);
+        open.is_wrapped = true;
+        self.begin(open, node_in(style, kind))
+    }
+
+    /// Reports whether the innermost open element is a table whose rows come.
+    fn is_in_table(&self) -> bool
+        ensures { result ≡ in_table self.now }
+    {
+        match self.elements.last() {
+            Some(parent) => is_table(&parent.kind),
+            None => false,
+        }
+    }
+
+    /// Reports whether the innermost open element is a part of a table.
+    fn is_in_rows(&self) -> bool
+        ensures { result ≡ in_rows self.now }
+    {
+        match self.elements.last() {
+            Some(parent) => is_rows(&parent.kind),
+            None => false,
+        }
+    }
+
+    /// Reports whether the innermost open element is a row.
+    fn is_in_row(&self) -> bool
+        ensures { result ≡ in_row self.now }
+    {
+        match self.elements.last() {
+            Some(parent) => is_row(&parent.kind),
+            None => false,
+        }
+    }
+
+    /// Returns the kind of the node of a caption that opens.
+    fn caption_kind(&self) -> NodeKind
+        ensures { result ≡ kind_of_caption self.now }
+    {
+        match self.elements.last() {
+            Some(parent) => caption_kind(&parent.kind),
+            None => NodeKind::Container,
+        }
+    }
+
+    /// Takes what is due in the innermost open element, if this is of the right kind. The element gives nothing back then.
+    ///
+    /// # Errors
+    ///
+    /// `OutOfMemory` if an allocation is refused.
+    fn take_due(&mut self, alloc: Global, is_taken: bool) -> Result<InsertedNodes, Error>
+        ensures due { IfOk result (λ i. insertion_in i ≡ taken is_taken self.old) }
+        ensures left { OnOk result (self.new ≡ left_once is_taken self.old) }
+        ensures given { OnOk result (AllMayGive self.old) }
+        ensures err { OnlyOutOfMemory result }
+    {
+        let Some(parent) = self.elements.last_mut() else {
+            return Ok(InsertedNodes::new(alloc));
+        };
+        if !is_taken {
+            return Ok(InsertedNodes::new(alloc));
+        }
+        match take_from(alloc, parent) {
+            Ok(insertion) => Ok(insertion),
+            Err(error) => {
+                self.elements.clear();
+                Err(error)
+            }
+        }
+    }
+
+    /// Opens a part of a table.
+    ///
+    /// # Errors
+    ///
+    /// `OutOfMemory` if an allocation is refused.
+    #[inline(never)]
+    fn open_rows(
+        &mut self,
+        alloc: Global,
+        behind: bool,
+        if_empty: IfEmpty,
+        texts: ElementTexts,
+    ) -> Result<(), Error>
+        ensures ok { (kind : ElementKind) (style : NodeStyle) → OnOk result (self.new
+            ≡ rows_opened behind (record { kind = kind; style = style; if_empty = if_empty; texts = texts }) self.old) }
+        ensures err { OnlyOutOfMemory result }
+    {
+        let in_table = self.is_in_table();
+        let outer = self.take_due(alloc, in_table)?;
+        let due = Due::carried(alloc, texts, outer)?;
+        let rows = OpenKind::Rows(behind, PartRows::new(alloc));
+        let mut open = Open::new(rows, due, if_empty, false);
+        open.is_given = in_table;
+        self.begin_part(open)
+    }
+
+    /// Opens a row of a table.
+    ///
+    /// # Errors
+    ///
+    /// `OutOfMemory` if an allocation is refused.
+    fn open_row(
+        &mut self,
+        alloc: Global,
+        style: NodeStyle,
+        if_empty: IfEmpty,
+        texts: ElementTexts,
+    ) -> Result<(), Error>
+        ensures ok { OnOk result (self.new
+            ≡ opened (record { kind = ElementKind.Part Part.Row; style = style; if_empty = if_empty; texts = texts }) self.old) }
+        ensures err { OnlyOutOfMemory result }
+    {
+        let in_rows = self.is_in_rows();
+        let outer = self.take_due(alloc, in_rows)?;
+        let due = Due::carried(alloc, texts, outer)?;
+        let row = OpenKind::Row(RowCells::new(alloc));
+        let open = Open::new(row, due, if_empty, false);
+        self.begin(open, node_in(style, NodeKind::TableRow))
+    }
+
+    /// Opens a cell of a row.
+    ///
+    /// # Errors
+    ///
+    /// `OutOfMemory` if an allocation is refused.
+    fn open_cell(
+        &mut self,
+        alloc: Global,
+        span: CellSpan,
+        style: NodeStyle,
+        if_empty: IfEmpty,
+        texts: ElementTexts,
+    ) -> Result<(), Error>
+        ensures ok { OnOk result (self.new
+            ≡ opened (record { kind = ElementKind.Part (Part.Cell span); style = style; if_empty = if_empty; texts = texts }) self.old) }
+        ensures err { OnlyOutOfMemory result }
+    {
+        let in_row = self.is_in_row();
+        let outer = self.take_due(alloc, in_row)?;
+        let (cell, front) = cell_of(alloc, span, if_empty, texts, outer.back)?;
+        self.hold_within(
+            cell,
+            node_in(style, NodeKind::TableCell),
+            outer.front,
+            front,
+        )
+    }
+
+    /// Opens a table, whose captions come next.
+    ///
+    /// # Errors
+    ///
+    /// `OutOfMemory` if an allocation is refused.
+    fn open_table(
+        &mut self,
+        alloc: Global,
+        style: NodeStyle,
+        if_empty: IfEmpty,
+        texts: ElementTexts,
+    ) -> Result<(), Error>
+        ensures ok { OnOk result (self.new
+            ≡ opened (record { kind = ElementKind.Part Part.Table; style = style; if_empty = if_empty; texts = texts }) self.old) }
+        ensures err { OnlyOutOfMemory result }
+    {
+        let ElementTexts {
+            mark,
+            before,
+            after,
+        } = texts;
+        let front = front_nodes(alloc, &mark, before)?;
+        let due = Due::after(alloc, mark, after)?;
+        let open = Open::new(OpenKind::Captions, due, if_empty, true);
+        self.hold(open, node_in(style, NodeKind::Container), front)
+    }
+
+    /// Opens a caption.
+    ///
+    /// # Errors
+    ///
+    /// `OutOfMemory` if an allocation is refused.
+    fn open_caption(
+        &mut self,
+        alloc: Global,
+        style: NodeStyle,
+        if_empty: IfEmpty,
+        texts: ElementTexts,
+    ) -> Result<(), Error>
+        ensures ok { OnOk result (self.new
+            ≡ opened (record { kind = ElementKind.Part Part.Caption; style = style; if_empty = if_empty; texts = texts }) self.old) }
+        ensures err { OnlyOutOfMemory result }
+    {
+        let kind = self.caption_kind();
+        let inserts = texts.has_any();
+        let ElementTexts {
+            mark,
+            before,
+            after,
+        } = texts;
+        let front = front_nodes(alloc, &mark, before)?;
+        let due = Due::after(alloc, mark, after)?;
+        let open = Open::new(OpenKind::Caption, due, if_empty, inserts);
+        self.hold(open, node_in(style, kind), front)
+    }
+
+    /// Opens a part of a table, or a table.
+    ///
+    /// # Errors
+    ///
+    /// `OutOfMemory` if an allocation is refused.
+    fn open_part(
+        &mut self,
+        alloc: Global,
+        part: Part,
+        style: NodeStyle,
+        if_empty: IfEmpty,
+        texts: ElementTexts,
+    ) -> Result<(), Error>
+        ensures ok { OnOk result (self.new
+            ≡ opened (record { kind = ElementKind.Part part; style = style; if_empty = if_empty; texts = texts }) self.old) }
+        ensures err { OnlyOutOfMemory result }
+    {
+        match part {
+            Part::Table => self.open_table(alloc, style, if_empty, texts),
+            Part::Body => self.open_rows(alloc, false, if_empty, texts),
+            Part::Foot => self.open_rows(alloc, true, if_empty, texts),
+            Part::Row => self.open_row(alloc, style, if_empty, texts),
+            Part::Cell(span) => self.open_cell(alloc, span, style, if_empty, texts),
+            Part::Caption => self.open_caption(alloc, style, if_empty, texts),
+        }
+    }
+
+    /// Opens an element.
+    ///
+    /// # Errors
+    ///
+    /// `OutOfMemory` if an allocation is refused.
+    pub fn open(&mut self, alloc: Global, element: Element) -> Result<(), Error>
+        ensures ok { OnOk result (self.new ≡ opened element self.old) }
+        ensures err { OnlyOutOfMemory result }
+    {
+        let Element {
+            kind,
+            style,
+            if_empty,
+            texts,
+        } = element;
+        match kind {
+            ElementKind::Node(kind) => {
+                if !texts.has_any() {
+                    return self.open_plain(kind, style, if_empty);
+                }
+                self.open_inserting(alloc, kind, style, if_empty, texts.into_texts())
+            }
+            ElementKind::Part(part) => {
+                self.open_part(alloc, part, style, if_empty, texts.into_texts())
+            }
+        }
+    }
+
+    /// Begins the rows of the innermost open table, whose captions have all come.
+    ///
+    /// # Errors
+    ///
+    /// `OutOfMemory` if an allocation is refused.
+    pub fn part(&mut self, alloc: Global) -> Result<(), Error>
+        ensures ok { OnOk result (self.new ≡ all_parted self.old) }
+        ensures err { OnlyOutOfMemory result }
+    {
+        if !self.is_in_captions() {
+            return Ok(());
+        }
+        if self.has_result() {
+            self.keep_captions();
+            return self.open_parts(alloc);
+        }
+        self.become_parts(alloc)
+    }
+
+    /// Reports whether the innermost open element is a table whose captions come.
+    fn is_in_captions(&self) -> bool
+        ensures { result ≡ in_captions self.now }
+    {
+        match self.elements.last() {
+            Some(parent) => is_captions(&parent.kind),
+            None => false,
+        }
+    }
+
+    /// Reports whether a result that counts has come in the innermost open element.
+    fn has_result(&self) -> bool
+        ensures { result ≡ has_result self.now }
+    {
+        match self.elements.last() {
+            Some(parent) => parent.has_results,
+            None => false,
+        }
+    }
+
+    /// Makes a table with a caption a container.
+    fn keep_captions(&mut self)
+        requires { in_captions self.old ≡ true }
+        ensures { self.new ≡ innermost with_captions self.old }
+    {
+        let Some(table) = self.elements.last_mut() else {
+            return;
+        };
+        make_container(table);
+    }
+
+    /// Opens a table whose captions have come, in a container that closes with it.
+    ///
+    /// # Errors
+    ///
+    /// `OutOfMemory` if an allocation is refused.
+    fn open_parts(&mut self, alloc: Global) -> Result<(), Error>
+        ensures ok { OnOk result (self.new ≡ table_in_container ∷ self.old) }
+        ensures err { OnlyOutOfMemory result }
+    {
+        let parts = OpenKind::Parts(TableSpans::new(alloc));
+        let mut open = Open::new(parts, Due::none(), IfEmpty::Vanishes, false);
+        open.is_wrapped = true;
+        self.begin(open, RenderNode::from(NodeKind::Container))
+    }
+
+    /// Begins the rows of a table without a caption. What is written in it is due in its first cell.
+    ///
+    /// # Errors
+    ///
+    /// `OutOfMemory` if an allocation is refused.
+    fn become_parts(&mut self, alloc: Global) -> Result<(), Error>
+        requires { in_captions self.old ≡ true }
+        ensures ok { OnOk result (self.new ≡ innermost without_captions self.old) }
+        ensures err { OnlyOutOfMemory result }
+    {
+        let Some(table) = self.elements.last_mut() else {
+            return Ok(());
+        };
+        if let Err(error) = make_parts(alloc, table, &mut self.tree) {
+            self.elements.clear();
+            return Err(error);
+        }
+        Ok(())
+    }
+}

@@ -1,6 +1,0 @@
-pub mod Bare
-pub mod Drafting
-pub mod Expanding
-pub mod Firsts
-pub mod Lists
-pub mod Noting

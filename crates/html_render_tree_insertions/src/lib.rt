@@ -1,4 +1,0 @@
-//! Trees of drafts.
-#![tactic(auto)]
-
-pub mod drafts;

@@ -1,0 +1,384 @@
+//! Plans of nodes: which render node a node of a document becomes, its children aside.
+
+ghost use Rattle.std.specs.Prelude.{◌≡◌, [], false, true, None, IfOk, map, option_copied};
+ghost use Rattle.html_render_dom_values.specs.Outcome.{OnlyOutOfMemory};
+ghost use Rattle.html_render_dom_nodes.specs.Content.{name_of, property_of};
+ghost use Rattle.html_render_dom.specs.Dom.{IsForest, IsNode};
+ghost use Rattle.html_render_dom.specs.ElementStyle.{style_by, style_of};
+ghost use Rattle.html_render_dom.specs.RuleIndex.{Finds};
+ghost use Rattle.html_render_dom_styles.specs.Rules.{rule_of};
+ghost use Rattle.html_render_layout_nodes.specs.RenderNodes.{without_style};
+ghost use Rattle.html_render_tree_mapping.specs.Conversion.{own_style};
+ghost use Rattle.html_render_tree_mapping.specs.ElementTexts.{has_any, no_texts};
+ghost use Rattle.html_render_tree_mapping.specs.Marks.{mark_of};
+ghost use Rattle.html_render_tree_mapping.specs.Preformatted.{is_preformatted};
+ghost use Rattle.html_render_tree_mapping.specs.Plans.{document_element, element_plan, mark_plan, plan_at};
+
+use crate::attributes::mark_of;
+use crate::mapping::{
+    ElementKind, IfEmpty, Mapping, element_mapping, is_preformatted, node_style, preformat,
+};
+use html_render_dom::Error;
+use html_render_dom::dom::{Attribute, Handle, NodeData, QualName, RcDom};
+use html_render_dom::style::{ComputedStyle, RuleIndex, StyleRule};
+use html_render_layout_nodes::text::NodeText;
+use html_render_layout_nodes::tree::{NodeKind, NodeStyle, RenderNode};
+use std::alloc::{AllocError, Global};
+use std::marker::Model;
+
+/// Texts that an element inserts.
+#[derive(Drop)]
+pub struct ElementTexts {
+    /// Name of its fragment mark.
+    pub mark: Option<NodeText>,
+    /// Content in front of its children.
+    pub before: Option<NodeText>,
+    /// Content after its children.
+    pub after: Option<NodeText>,
+}
+
+impl ElementTexts {
+    /// Reports whether there is a text.
+    pub fn has_any(&self) -> bool
+        ensures { result ≡ has_any self.now }
+    {
+        self.mark.is_some() || self.before.is_some() || self.after.is_some()
+    }
+}
+
+/// Texts that an element inserts, boxed since most elements insert none.
+#[derive(Drop)]
+pub struct InsertedTexts {
+    texts: Option<Box<ElementTexts>>,
+}
+
+impl Model for InsertedTexts {
+    ghost use Rattle.std.specs.Prelude.{option_map, unwrap_or};
+    ghost use Rattle.html_render_tree_mapping.specs.ElementTexts.{no_texts};
+    ghost use Rattle.html_render_tree_mapping.specs.declared.plans.ElementTexts.{ElementTexts};
+
+    ghost Value = { ElementTexts };
+
+    ghost view = { λ t. unwrap_or (option_map (λ b. b.value) t.texts) no_texts };
+}
+
+impl InsertedTexts {
+    /// Returns no texts.
+    #[inline]
+    pub fn none() -> InsertedTexts
+        ensures { result ≡ no_texts }
+    {
+        InsertedTexts { texts: None }
+    }
+
+    /// Creates the texts that an element inserts. Without any, nothing is allocated.
+    ///
+    /// # Errors
+    ///
+    /// `OutOfMemory` if an allocation is refused.
+    pub fn new(alloc: Global, texts: ElementTexts) -> Result<InsertedTexts, Error>
+        ensures ok { IfOk result (λ t. t ≡ texts) }
+        ensures err { OnlyOutOfMemory result }
+    {
+        if !texts.has_any() {
+            return Ok(InsertedTexts::none());
+        }
+        let texts = Box::new(alloc, texts)?;
+        Ok(InsertedTexts { texts: Some(texts) })
+    }
+
+    /// Reports whether there is a text.
+    #[inline]
+    pub fn has_any(&self) -> bool
+        ensures { result ≡ has_any self.now }
+    {
+        match &self.texts {
+            Some(texts) => texts.has_any(),
+            None => false,
+        }
+    }
+
+    /// Converts the texts into a record of them.
+    pub fn into_texts(self) -> ElementTexts
+        ensures { result ≡ self }
+    {
+        match self.texts {
+            Some(texts) => Box::into_inner(texts),
+            None => ElementTexts {
+                mark: None,
+                before: None,
+                after: None,
+            },
+        }
+    }
+}
+
+/// An element that becomes a node or a part of a table.
+#[derive(Drop)]
+pub struct Element {
+    /// What it becomes.
+    pub kind: ElementKind,
+    /// Style of its node.
+    pub style: NodeStyle,
+    /// What becomes of it if its children have no results that count.
+    pub if_empty: IfEmpty,
+    /// Texts that it inserts.
+    pub texts: InsertedTexts,
+}
+
+/// Plan of a node of a document.
+#[derive(Drop)]
+pub enum Plan {
+    /// It becomes nothing, and its children aren't converted.
+    Nothing,
+    /// It becomes this node, and its children aren't converted.
+    Alone(RenderNode),
+    /// It is an element.
+    Over {
+        /// The element.
+        element: Element,
+        /// Whether its children are converted.
+        has_children: bool,
+    },
+}
+
+/// Returns the plan of an element that becomes nothing: its mark is left.
+fn mark_plan(mark: Option<NodeText>) -> Plan
+    ensures { result ≡ mark_plan mark }
+{
+    match mark {
+        Some(name) => Plan::Alone(RenderNode::from(NodeKind::FragmentStart(name))),
+        None => Plan::Nothing,
+    }
+}
+
+/// Returns a copy of a text, if there is one.
+fn copy_of(text: Option<&NodeText>) -> Result<Option<NodeText>, AllocError>
+    ensures { IfOk result (λ copy. copy ≡ option_copied text.entry) }
+{
+    match text {
+        Some(text) => Ok(Some(text.clone()?)),
+        None => Ok(None),
+    }
+}
+
+/// Returns the plan of an element that has a style.
+fn styled_plan(
+    alloc: Global,
+    mapping: Mapping,
+    mark: Option<NodeText>,
+    style: &ComputedStyle,
+) -> Result<Plan, Error>
+    ensures ok { IfOk result (λ plan. plan ≡ element_plan mapping mark (style_of style.now)) }
+    ensures err { OnlyOutOfMemory result }
+{
+    if style.display.val().is_some() {
+        return Ok(Plan::Nothing);
+    }
+    let (kind, if_empty, has_children) = match mapping {
+        Mapping::Nothing => return Ok(mark_plan(mark)),
+        Mapping::Leaf(kind) => (ElementKind::Node(kind), IfEmpty::Stands, false),
+        Mapping::Parent(kind, if_empty) => (kind, if_empty, true),
+    };
+    let texts = ElementTexts {
+        mark,
+        before: copy_of(style.content_before.val())?,
+        after: copy_of(style.content_after.val())?,
+    };
+    let element = Element {
+        kind,
+        style: node_style(style),
+        if_empty,
+        texts: InsertedTexts::new(alloc, texts)?,
+    };
+    Ok(Plan::Over {
+        element,
+        has_children,
+    })
+}
+
+/// Returns the plan of an element that inserts these texts and whose style is that without any declaration.
+fn plain_plan(mapping: Mapping, texts: InsertedTexts) -> Plan
+    requires { (texts.before ≡ None) × (texts.after ≡ None) }
+    ensures { result ≡ element_plan mapping texts.mark (style_by []) }
+{
+    match mapping {
+        Mapping::Nothing => mark_plan(texts.into_texts().mark),
+        Mapping::Leaf(kind) => Plan::Over {
+            element: Element {
+                kind: ElementKind::Node(kind),
+                style: NodeStyle::default(),
+                if_empty: IfEmpty::Stands,
+                texts,
+            },
+            has_children: false,
+        },
+        Mapping::Parent(kind, if_empty) => Plan::Over {
+            element: Element {
+                kind,
+                style: NodeStyle::default(),
+                if_empty,
+                texts,
+            },
+            has_children: true,
+        },
+    }
+}
+
+/// Returns the plan of an element whose style is that without any declaration.
+fn unstyled_plan(alloc: Global, mapping: Mapping, mark: Option<NodeText>) -> Result<Plan, Error>
+    ensures ok { IfOk result (λ plan. plan ≡ element_plan mapping mark (style_by [])) }
+    ensures err { OnlyOutOfMemory result }
+{
+    let texts = InsertedTexts::new(
+        alloc,
+        ElementTexts {
+            mark,
+            before: None,
+            after: None,
+        },
+    )?;
+    Ok(plain_plan(mapping, texts))
+}
+
+/// Returns the style of an element of its own: what the rules state of it, and for `pre` that white space is preserved.
+#[inline(never)]
+fn own_style(
+    alloc: Global,
+    rules: &[StyleRule],
+    index: &RuleIndex,
+    name: &QualName,
+    attributes: &[Attribute],
+) -> Result<ComputedStyle, Error>
+    requires { Finds index.now (map rule_of rules.now) }
+    ensures ok { IfOk result (λ style. style_of style ≡ own_style (map rule_of rules.now) (name_of name.now) (map property_of attributes.now)) }
+    ensures err { OnlyOutOfMemory result }
+{
+    let mut style = index.computed_style(alloc, rules, name.local.as_str(), attributes)?;
+    if is_preformatted(name) {
+        preformat(&mut style);
+    }
+    Ok(style)
+}
+
+/// Returns the plan of an element that may have a mark or a style. Its style is computed only where a rule may select it.
+#[inline(never)]
+fn attributed_plan(
+    alloc: Global,
+    rules: &[StyleRule],
+    index: &RuleIndex,
+    mapping: Mapping,
+    name: &QualName,
+    attributes: &[Attribute],
+) -> Result<Plan, Error>
+    requires { Finds index.now (map rule_of rules.now) }
+    ensures ok { IfOk result (λ plan. plan ≡ element_plan mapping (mark_of (name_of name.now) (map property_of attributes.now))
+        (own_style (map rule_of rules.now) (name_of name.now) (map property_of attributes.now))) }
+    ensures err { OnlyOutOfMemory result }
+{
+    let mark = mark_of(alloc, name, attributes)?;
+    if is_preformatted(name) || index.may_select(name.local.as_str(), attributes) {
+        let style = own_style(alloc, rules, index, name, attributes)?;
+        return styled_plan(alloc, mapping, mark, &style);
+    }
+    unstyled_plan(alloc, mapping, mark)
+}
+
+/// Returns the plan of an element without attributes that isn't preformatted, if that needs no style to be computed.
+fn plan_by_name(
+    alloc: Global,
+    rules: &[StyleRule],
+    index: &RuleIndex,
+    mapping: Mapping,
+    name: &QualName,
+) -> Result<Plan, Error>
+    requires index { Finds index.now (map rule_of rules.now) }
+    requires preformatted { is_preformatted (name_of name.now) ≡ false }
+    ensures ok { IfOk result (λ plan. plan ≡ element_plan mapping (mark_of (name_of name.now) []) (own_style (map rule_of rules.now) (name_of name.now) [])) }
+    ensures err { OnlyOutOfMemory result }
+{
+    let local = name.local.as_str();
+    if !index.may_select(local, &[]) {
+        return Ok(plain_plan(mapping, InsertedTexts::none()));
+    }
+    match index.plain_style(local) {
+        Some(style) => styled_plan(alloc, mapping, None, style),
+        None => attributed_plan(alloc, rules, index, mapping, name, &[]),
+    }
+}
+
+/// Returns the plan of an element with this mapping.
+fn element_plan(
+    alloc: Global,
+    rules: &[StyleRule],
+    index: &RuleIndex,
+    mapping: Mapping,
+    name: &QualName,
+    attributes: &[Attribute],
+) -> Result<Plan, Error>
+    requires { Finds index.now (map rule_of rules.now) }
+    ensures ok { IfOk result (λ plan. plan ≡ element_plan mapping (mark_of (name_of name.now) (map property_of attributes.now))
+        (own_style (map rule_of rules.now) (name_of name.now) (map property_of attributes.now))) }
+    ensures err { OnlyOutOfMemory result }
+{
+    // most elements have no attributes, so these take the shortest way
+    if attributes.is_empty() && !is_preformatted(name) {
+        return plan_by_name(alloc, rules, index, mapping, name);
+    }
+    attributed_plan(alloc, rules, index, mapping, name, attributes)
+}
+
+/// Returns the plan of the document's node.
+fn document_plan() -> Plan
+    ensures { result ≡ Plan.Over document_element true }
+{
+    Plan::Over {
+        element: Element {
+            kind: ElementKind::Node(NodeKind::Container),
+            style: NodeStyle::default(),
+            if_empty: IfEmpty::Stands,
+            texts: InsertedTexts::none(),
+        },
+        has_children: true,
+    }
+}
+
+/// Returns the node of a text.
+fn text_node(alloc: Global, contents: &str) -> Result<RenderNode, Error>
+    ensures ok { IfOk result (λ node. node ≡ without_style (NodeKind.Text contents.now)) }
+    ensures err { OnlyOutOfMemory result }
+{
+    let text = NodeText::from_str(alloc, contents)?;
+    Ok(RenderNode::from(NodeKind::Text(text)))
+}
+
+/// Returns the plan of a node of a document. `index` is that of the rules.
+///
+/// # Errors
+///
+/// `OutOfMemory` if an allocation for a text, a target, a source, a title, a name of a mark or a content is refused.
+pub fn plan_of(
+    alloc: Global,
+    rules: &[StyleRule],
+    index: &RuleIndex,
+    dom: &RcDom,
+    node: Handle,
+) -> Result<Plan, Error>
+    requires index { Finds index.now (map rule_of rules.now) }
+    requires forest { IsForest dom.now }
+    requires node { IsNode dom.now node }
+    ensures ok { IfOk result (λ plan. plan ≡ plan_at (map rule_of rules.now) dom.now node) }
+    ensures err { OnlyOutOfMemory result }
+{
+    match dom.data(node) {
+        NodeData::Document => Ok(document_plan()),
+        NodeData::Text { contents } => Ok(Plan::Alone(text_node(alloc, contents.as_str())?)),
+        NodeData::Element { name, attrs, .. } => {
+            let mapping = element_mapping(alloc, dom, node, name, attrs.as_slice())?;
+            element_plan(alloc, rules, index, mapping, name, attrs.as_slice())
+        }
+        NodeData::Doctype { .. }
+        | NodeData::Comment { .. }
+        | NodeData::ProcessingInstruction { .. } => Ok(Plan::Nothing),
+    }
+}
