@@ -14,7 +14,8 @@ use Rattle.html_render_tree_convert.specs.Steps.{Closed, closed_once, is_table, 
 use Rattle.html_render_tree_convert.specs.declared.elements.Open.{Open}
 use Rattle.html_render_tree_convert.specs.declared.elements.OpenKind.{OpenKind}
 use Rattle.html_render_tree_convert.specs.declared.elements.OpenKind.TheVariants.{Root, Node, Captions, Parts, Rows, Row, Cell, Caption}
-use Rattle.html_render_tree_convert.proofs.SeenLemmas.{Entries, Levels, Holds-root, last-set, last-split, received-gives, received-gives_to}
+use Rattle.html_render_tree_convert.proofs.SeenLemmas.{Entries, Levels, Holds-root, received-gives, received-gives_to}
+use Rattle.html_render_tree_convert.proofs.Stacks.{last-set, last-split}
 
 -- ---- the last elements of a list
 

@@ -1,4 +1,4 @@
-pub mod Positions
+pub mod Stacks
 pub mod LevelLemmas
 pub mod Entries
 pub mod Coming

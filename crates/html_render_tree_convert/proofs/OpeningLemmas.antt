@@ -11,11 +11,13 @@ use Rattle.html_render_tree_mapping.specs.declared.plans.ElementTexts.{ElementTe
 use Rattle.html_render_tree_mapping.specs.declared.tables.CellSpan.{CellSpan}
 use Rattle.html_render_tree_mapping.specs.declared.tables.Part.{Part}
 use Rattle.html_render_tree_mapping.specs.declared.tables.Part.TheVariants as part
+use Rattle.html_render_tree_mapping.specs.ElementTexts.{no_texts}
+use Rattle.html_render_tree_convert.specs.Held.{nothing_held}
 use Rattle.html_render_tree_convert.specs.Levels.{leaf}
 use Rattle.html_render_tree_convert.specs.OpenElements.{Insertion, OpenElement, insertion_of, leaves, node_in, nothing, text_nodes}
 use Rattle.html_render_tree_convert.specs.OpenElements.{OpenKind as OpenElementKind}
 use Rattle.html_render_tree_convert.specs.OpenElements as elements
-use Rattle.html_render_tree_convert.specs.Opening.{AllMayGive, GivesBack, IsOpen, cell_as_open, in_row, left_once, own_front, rows_opened, taken, wrote}
+use Rattle.html_render_tree_convert.specs.Opening.{AllMayGive, GivesBack, IsOpen, cell_as_open, due_in, in_row, left_once, own_front, rows_opened, taken, wrote}
 use Rattle.html_render_tree_convert.specs.Seen.{element_seen}
 use Rattle.html_render_tree_convert.specs.Steps.{begun_cell, is_row, opened}
 use Rattle.html_render_tree_convert.specs.declared.elements.Open.{Open}
@@ -73,6 +75,29 @@ module _ (span : CellSpan) (style : NodeStyle) (if_empty : IfEmpty) (texts : Ele
       by (elements.Rows behind rows) g e = ap (λ o. begun_within o (p ∷ ps)) e ∙ within-none p ps
       by (elements.Cell s) g e = ap (λ o. begun_within o (p ∷ ps)) e ∙ within-none p ps
       by elements.Caption g e = ap (λ o. begun_within o (p ∷ ps)) e ∙ within-none p ps
+
+-- a cell that inserts nothing, in an element that has nothing to write
+abbrev pub plain_cell : CellSpan → IfEmpty → Open
+plain_cell span if_empty = record (cell_as_open span if_empty no_texts []) { due = nothing_held }
+
+pub plain_cell_opens : (span : CellSpan) (style : NodeStyle) (if_empty : IfEmpty) (ps : List OpenElement) → due_in ps ≡ nothing → IsOpen ps →
+    element_seen (plain_cell span if_empty) (leaf (node_in style TableCell) ∷ []) ∷ ps ≡ opened (part_element (part.Cell span) style if_empty no_texts) ps
+plain_cell_opens span style if_empty [] e some = absurd some
+plain_cell_opens span style if_empty (p ∷ ps) e some = by p.kind
+  where
+    made : OpenElement
+    made = element_seen (plain_cell span if_empty) (leaf (node_in style TableCell) ∷ [])
+
+    by : (k : OpenElementKind) → made ∷ (p ∷ ps) ≡ begun_cell span (is_row k) (part_element (part.Cell span) style if_empty no_texts) p ++ ps
+    by (elements.Row cells) =
+        ap (λ (d : Insertion). let q : OpenElement = record p { due = d } in made ∷ (q ∷ ps)) e
+        ∙ ap (λ (d : Insertion). begun_cell span true (part_element (part.Cell span) style if_empty no_texts) (record p { due = d }) ++ ps) (sym e)
+    by (elements.Node kind) = refl
+    by elements.Captions = refl
+    by (elements.Parts spans) = refl
+    by (elements.Rows behind rows) = refl
+    by (elements.Cell s) = refl
+    by elements.Caption = refl
 
 pub IsOpen-left : (b : Bool) (ps : List OpenElement) → IsOpen (left_once b ps) → IsOpen ps
 IsOpen-left true [] h = h

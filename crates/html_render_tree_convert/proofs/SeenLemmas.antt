@@ -1,7 +1,7 @@
 -- Open elements as code keeps them, after one opens.
-use Rattle.std.proofs.Common.{◌≡◌, not, ◌||◌, is_some, ℕ, suc, ◌+◌, ◌<◌, ◌≤◌, Bool, true, false, if◌then◌else◌, Option, Some, None, option_map, List, [], ◌∷◌, ◌++◌, length, get_or, set, take, drop, reverse, refl, sym, ap, subst, ◌∙◌, arith, append_assoc}
-use Rattle.std.proofs.lemmas.List.{reverse-append, reverse-reverse, length-drop, length-reverse, length-take-le}
-use Rattle.std.proofs.Math.Seq.{split_at, set_at}
+use Rattle.std.proofs.Common.{◌≡◌, not, ◌||◌, is_some, ℕ, ◌+◌, ◌<◌, ◌≤◌, Bool, true, false, if◌then◌else◌, Option, Some, None, option_map, List, [], ◌∷◌, ◌++◌, length, get_or, set, take, reverse, refl, sym, ap, subst, ◌∙◌, arith, append_assoc, append-nil}
+use Rattle.std.specs.Bool.{OnFalse, OnTrue}
+use Rattle.std.proofs.lemmas.List.{reverse-append, reverse-reverse, length-reverse}
 use Rattle.html_render_layout_nodes.specs.declared.tree.Entry.{Entry}
 use Rattle.html_render_layout_nodes.specs.declared.tree.NodeKind.{NodeKind}
 use Rattle.html_render_layout_nodes.specs.declared.tree.RenderNode.{RenderNode}
@@ -9,8 +9,9 @@ use Rattle.html_render_tree_convert.specs.OpenElements.{Insertion, OpenElement, 
 use Rattle.html_render_tree_convert.specs.Held.{due_of, nothing_held}
 use Rattle.html_render_tree_convert.specs.Keeping.{keeping_of}
 use Rattle.html_render_tree_convert.specs.declared.kinds.Keeping.TheVariants.{Any}
-use Rattle.html_render_tree_convert.specs.Levels.{added, leaf}
+use Rattle.html_render_tree_convert.specs.Levels.{added}
 use Rattle.html_render_tree_convert.proofs.Entries.{leaves-append}
+use Rattle.html_render_tree_convert.proofs.Stacks.{innermost-first, innermost-set}
 use Rattle.html_render_tree_convert.specs.OpenElements.{OpenKind as OpenElementKind}
 use Rattle.html_render_tree_convert.specs.OpenElements as elements
 use Rattle.html_render_tree_mapping.specs.Results.{Role}
@@ -110,21 +111,6 @@ Holds-root (Row cells) es e = cc
 Holds-root (Cell span) es e = cc
 Holds-root Caption es e = cc
 
--- the last of open elements, and those before it
-pub last-split : (os : List Open) (n : ℕ) (o : Open) → n + 1 ≡ length os → o ≡ get_or os n o → os ≡ take n os ++ o ∷ []
-last-split os n o h is =
-    split_at os n o (omega (arith, h)) ∙ ap (λ x. take n os ++ x ∷ drop (suc n) os) (sym is)
-    ∙ ap (λ l. take n os ++ o ∷ l) (none (drop (suc n) os) (omega (arith, h, length-drop (suc n) os)))
-  where
-    none : (l : List Open) → length l ≤ 0 → l ≡ []
-    none [] h = refl
-    none (x ∷ xs) h = absurd (omega (arith, h))
-
-pub last-set : (os : List Open) (n : ℕ) (o x : Open) → n + 1 ≡ length os → o ≡ get_or os n o → set os n x ≡ take n os ++ x ∷ []
-last-set os n o x h is =
-    let many : length (take n os) ≡ n = length-take-le n os (omega (arith, h)) in
-    ap (λ l. set l n x) (last-split os n o h is) ∙ set_at (take n os) o [] x n many
-
 -- what holds of the changed elements and their entries, and what they are seen as
 abbrev pub Changed : (OpenElement → OpenElement) → (os : List Open) (levels : Levels) (new : List Open) (after : Levels) → Type 0
 Changed f os levels new after = IsSound (reverse new) after × (seen (reverse new) after ≡ innermost f (seen (reverse os) levels))
@@ -162,8 +148,8 @@ pub changed-last : (f : OpenElement → OpenElement) (os : List Open) (n : ℕ) 
     Changed f os levels (set os n new) after
 changed-last f os n levels after old new h is root b g t holds =
     let front = take n os in
-    let was : reverse os ≡ old ∷ reverse front = ap reverse (last-split os n old h is) ∙ reverse-append front (old ∷ []) in
-    let now : reverse (set os n new) ≡ new ∷ reverse front = ap reverse (last-set os n old new h is) ∙ reverse-append front (new ∷ []) in
+    let was : reverse os ≡ old ∷ reverse front = innermost-first os n old h is in
+    let now : reverse (set os n new) ≡ new ∷ reverse front = innermost-set os n old new h is in
     let x = changed-innermost f (reverse front) levels after old new root b g t (subst (λ l. IsSound l levels) was holds) in
     (subst (λ l. IsSound l after) (sym now) x.0, ap (λ l. seen l after) now ∙ x.1 ∙ ap (λ l. innermost f (seen l levels)) (sym was))
 
@@ -223,10 +209,13 @@ IsSound-pushed os new o es levels after made added some root holds gives gives_t
 
 -- ---- entries are written in the innermost
 
-pub added-leaf : (ns : List RenderNode) (n : RenderNode) (levels : Levels) →
-    added (leaf n ∷ []) (added (leaves ns) levels) ≡ added (leaves (ns ++ n ∷ [])) levels
-added-leaf ns n [] = refl
-added-leaf ns n (top ∷ below) = ap (λ l. l ∷ below) (append_assoc top (leaves ns) (leaf n ∷ []) ∙ ap (λ l. top ++ l) (sym (leaves-append ns (n ∷ []))))
+pub added_twice : (ns ms : List RenderNode) (levels : Levels) → added (leaves ms) (added (leaves ns) levels) ≡ added (leaves (ns ++ ms)) levels
+added_twice ns ms [] = refl
+added_twice ns ms (top ∷ below) = ap (λ l. l ∷ below) (append_assoc top (leaves ns) (leaves ms) ∙ ap (λ l. top ++ l) (sym (leaves-append ns ms)))
+
+pub added_nothing : (levels : Levels) → added [] levels ≡ levels
+added_nothing [] = refl
+added_nothing (top ∷ below) = ap (λ l. l ∷ below) (append-nil top)
 
 own-more : (k : OpenKind) (es xs : Entries) → Holds k es → own_node (has_entry k) (es ++ xs) ≡ own_node (has_entry k) es
 own-more Root es xs h = refl
@@ -343,12 +332,18 @@ pub Top-last : (os now : List Open) (n : ℕ) (levels : Levels) (o : Open) (ps :
     IsSound (reverse os) levels → seen (reverse os) levels ≡ ps → Top o ps
 Top-last os now n levels o ps same h is sound e =
     let front = take n now in
-    let was : reverse os ≡ o ∷ reverse front = ap reverse (sym same ∙ last-split now n o h is) ∙ reverse-append front (o ∷ []) in
+    let was : reverse os ≡ o ∷ reverse front = ap reverse (sym same) ∙ innermost-first now n o h is in
     subst (Top o) (ap (λ l. seen l levels) (sym was) ∙ e) (Top-first o (reverse front) levels (subst (λ l. IsSound l levels) was sound))
 
 -- kind of the innermost node
 abbrev pub own_kind : {o : Open} {ps : List OpenElement} → Top o ps → NodeKind
 own_kind {o = o} t = (own_node (has_entry o.kind) t.own).kind
+
+-- ---- whether something is due
+
+pub OnFalse-not : {P : Type 0} (b : Bool) (Q : Type 0) → (P → Q) → OnTrue b P → OnFalse (not b) Q
+OnFalse-not true Q f h = f h
+OnFalse-not false Q f h = tt
 
 -- ---- what is due is taken for good
 

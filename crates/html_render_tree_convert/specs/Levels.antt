@@ -27,10 +27,6 @@ begun n levels = (leaf n ∷ []) ∷ levels
 abbrev pub begun_part : List (List (Entry RenderNode)) → List (List (Entry RenderNode))
 begun_part levels = [] ∷ levels
 
-abbrev pub top_len : List (List (Entry RenderNode)) → ℕ
-top_len [] = 0
-top_len (top ∷ below) = length top
-
 -- kind of the first entry of the innermost open node
 abbrev pub top_kind : List (List (Entry RenderNode)) → Option NodeKind
 top_kind ((e ∷ es) ∷ below) = Some e.node.kind

@@ -81,6 +81,11 @@ abbrev pub kind_of_caption : List OpenElement → NodeKind
 kind_of_caption [] = Container
 kind_of_caption (p ∷ ps) = caption_kind p.kind
 
+-- what is due in the innermost open element
+abbrev pub due_in : List OpenElement → Insertion
+due_in [] = nothing
+due_in (p ∷ ps) = p.due
+
 -- what is due in the innermost open element, if it is taken
 abbrev pub taken : (is_taken : Bool) → List OpenElement → Insertion
 taken true (p ∷ ps) = p.due

@@ -37,6 +37,10 @@ after_pick Captions dom h = Parts ∷ (nodes (picked Others dom (children_at dom
 after_pick Others dom h = nodes (picked Feet dom (children_at dom h)) ++ Close ∷ []
 after_pick Feet dom h = Close ∷ []
 
+-- what comes at a position
+abbrev pub coming_at : Dom → Position → List Visit
+coming_at dom p = nodes (ahead dom p) ++ after_pick p.pick dom p.element
+
 -- WHAT COMES on a walk that has entered these elements, the innermost first, and enters no more
 abbrev pub coming : Dom → List Position → List Visit
 coming dom [] = []

@@ -4,13 +4,14 @@ ghost use Rattle.std.specs.Prelude.{◌≡◌, [], ◌∷◌, ◌++◌, IfNone, 
 ghost use Rattle.html_render_layout_nodes.specs.declared.tree.Entry.{Entry};
 ghost use Rattle.html_render_layout_nodes.specs.declared.tree.RenderNode.{RenderNode};
 ghost use Rattle.html_render_tree_convert.specs.TopStart.{first_start};
-ghost use Rattle.html_render_tree_convert.specs.Levels.{leaf, added, begun, begun_part, closed, closed_part, dropped, nodes_inside, sized, top_kind, top_len, with_kind, without_inside};
+ghost use Rattle.html_render_tree_convert.specs.Levels.{leaf, added, begun, begun_part, closed, closed_part, dropped, nodes_inside, sized, top_kind, with_kind, without_inside};
 
 use html_render_layout_nodes::tree::{Entry, NodeKind, RenderNode};
 use std::alloc::{AllocError, Global};
 use std::marker::Model;
 
 /// Writes the size of the subtree of the node at `start`, to which all entries from there on belong.
+#[inline(always)]
 fn write_size(entries: &mut Vec<Entry<RenderNode>>, start: usize)
     ensures { entries.new.items ≡ take start entries.old.items ++ sized (drop start entries.old.items) }
 {
@@ -74,16 +75,6 @@ impl Model for TreeBuilder {
 }
 
 impl TreeBuilder {
-    /// Creates a builder without nodes.
-    pub fn new(alloc: Global) -> TreeBuilder
-        ensures { result ≡ [] ∷ [] }
-    {
-        TreeBuilder {
-            entries: Vec::new(alloc),
-            starts: Vec::new(alloc),
-        }
-    }
-
     /// Creates a builder without nodes, with room for `nodes` nodes.
     pub fn with_capacity(alloc: Global, nodes: usize) -> Result<TreeBuilder, AllocError>
         ensures { IfOk result (λ b. b ≡ [] ∷ []) }
@@ -95,27 +86,31 @@ impl TreeBuilder {
     }
 
     /// Appends a node without children.
+    #[inline(always)]
     pub fn put(&mut self, node: RenderNode) -> Result<(), AllocError>
         ensures ok { OnOk result (self.new ≡ added (leaf node ∷ []) self.old) }
         ensures err { OnErr result (self.new ≡ self.old) }
     {
-        self.entries.push(Entry {
+        self.entries.reserve(1)?;
+        self.entries.push_reserved(Entry {
             node,
             subtree_len: 1,
-        })?;
+        });
         Ok(())
     }
 
     /// Opens a node.
+    #[inline(always)]
     pub fn begin(&mut self, node: RenderNode) -> Result<(), AllocError>
         ensures ok { OnOk result (self.new ≡ begun node self.old) }
     {
-        let start = self.entries.len();
-        self.entries.push(Entry {
+        self.entries.reserve(1)?;
+        self.starts.reserve(1)?;
+        self.starts.push_reserved(self.entries.len());
+        self.entries.push_reserved(Entry {
             node,
             subtree_len: 1,
-        })?;
-        self.starts.push(start)?;
+        });
         Ok(())
     }
 
@@ -129,17 +124,8 @@ impl TreeBuilder {
         Ok(())
     }
 
-    /// Returns the number of entries of the innermost open node, its own included.
-    pub fn top_len(&self) -> usize
-        ensures { result ≡ top_len self.now }
-    {
-        match self.starts.last() {
-            Some(start) => self.entries.len() - *start,
-            None => self.entries.len(),
-        }
-    }
-
     /// Returns the kind of the innermost open node's first entry, which is its own if it has one.
+    #[inline(always)]
     pub fn top_kind(&self) -> Option<&NodeKind>
         ensures some { IfSome result (λ kind. top_kind self.now ≡ Some kind.now) }
         ensures none { IfNone result (top_kind self.now ≡ None) }
@@ -176,6 +162,7 @@ impl TreeBuilder {
     }
 
     /// Closes the innermost open node: writes the size of its subtree.
+    #[inline(always)]
     pub fn close(&mut self)
         ensures { self.new ≡ closed self.old }
     {

@@ -1,11 +1,13 @@
 //! The conversion of a document in one forward pass: what each event of a walk does to the open elements.
 
 ghost use Rattle.std.specs.Prelude.{◌≡◌, [], ◌∷◌, ◌++◌, IfErr, IfOk, OnOk, Some, false};
+ghost use Rattle.std.specs.Bool.{OnFalse};
 ghost use Rattle.html_render_dom_values.specs.Outcome.{OnlyOutOfMemory};
+ghost use Rattle.html_render_layout_nodes.specs.RenderNodes.{without_style};
 ghost use Rattle.html_render_parts.specs.Refusal.{Fails};
 ghost use Rattle.html_render_tree_convert.specs.Levels.{begun, begun_part, leaf};
-ghost use Rattle.html_render_tree_convert.specs.OpenElements.{OpenElement, root};
-ghost use Rattle.html_render_tree_convert.specs.Opening.{Becomes, GivesTo, IsOpen, MayGive};
+ghost use Rattle.html_render_tree_convert.specs.OpenElements.{OpenElement, nothing, root};
+ghost use Rattle.html_render_tree_convert.specs.Opening.{Becomes, GivesTo, IsOpen, MayGive, due_in};
 ghost use Rattle.html_render_tree_convert.specs.Seen.{Holds, element_seen, is_root};
 ghost use Rattle.html_render_tree_convert.specs.Steps.{closed_leaf, put, received};
 
@@ -13,7 +15,8 @@ use crate::builder::TreeBuilder;
 use crate::due::Due;
 use crate::elements::{Open, OpenKind, Role};
 use html_render_dom_values::Error;
-use html_render_layout_nodes::tree::{Entry, RenderNode};
+use html_render_layout_nodes::text::NodeText;
+use html_render_layout_nodes::tree::{Entry, NodeKind, RenderNode};
 use html_render_tree_mapping::mapping::IfEmpty;
 use std::alloc::Global;
 use std::marker::Model;
@@ -26,6 +29,7 @@ mod opening;
 /// # Errors
 ///
 /// `OutOfMemory` if an allocation is refused.
+#[inline(always)]
 fn begin_in(
     elements: &mut Vec<Open>,
     tree: &mut TreeBuilder,
@@ -36,8 +40,9 @@ fn begin_in(
     ensures tree { OnOk result (tree.new ≡ begun node tree.old) }
     ensures err { OnlyOutOfMemory result }
 {
+    elements.reserve(1)?;
     tree.begin(node)?;
-    elements.push(element)?;
+    elements.push_reserved(element);
     Ok(())
 }
 
@@ -65,6 +70,7 @@ fn begin_part_in(
 /// # Errors
 ///
 /// `OutOfMemory` if an allocation is refused.
+#[inline(always)]
 fn put_in(
     alloc: Global,
     node: RenderNode,
@@ -121,11 +127,17 @@ impl Conversion {
         })
     }
 
+    /// Returns the allocator.
+    pub fn allocator(&self) -> Global {
+        *self.elements.allocator()
+    }
+
     /// Writes a node without children.
     ///
     /// # Errors
     ///
     /// `OutOfMemory` if an allocation is refused.
+    #[inline(always)]
     pub fn put(&mut self, alloc: Global, node: RenderNode) -> Result<(), Error>
         ensures ok { OnOk result (self.new ≡ put node self.old) }
         ensures err { OnlyOutOfMemory result }
@@ -140,11 +152,26 @@ impl Conversion {
         Ok(())
     }
 
+    /// Writes a copy of a text.
+    ///
+    /// # Errors
+    ///
+    /// `OutOfMemory` if an allocation is refused.
+    #[inline(always)]
+    pub fn put_text(&mut self, alloc: Global, contents: &NodeText) -> Result<(), Error>
+        ensures ok { OnOk result (self.new ≡ put (without_style (NodeKind.Text contents.now)) self.old) }
+        ensures err { OnlyOutOfMemory result }
+    {
+        let text = contents.clone()?;
+        self.put(alloc, RenderNode::from(NodeKind::Text(text)))
+    }
+
     /// Opens an element with a node of its own.
     ///
     /// # Errors
     ///
     /// `OutOfMemory` if an allocation is refused.
+    #[inline(always)]
     fn begin(&mut self, element: Open, node: RenderNode) -> Result<(), Error>
         requires root { is_root element.kind ≡ false }
         requires holds { Holds element.kind (leaf node ∷ []) }
@@ -186,6 +213,17 @@ impl Conversion {
             return Err(error);
         }
         Ok(())
+    }
+
+    /// Reports whether the innermost open element may have something to write.
+    #[inline]
+    fn may_have_due(&self) -> bool
+        ensures { OnFalse result (due_in self.now ≡ nothing) }
+    {
+        match self.elements.last() {
+            Some(parent) => !parent.due.is_none(),
+            None => false,
+        }
     }
 
     /// Returns the nodes that are written, in pre-order.

@@ -1,10 +1,12 @@
 //! Conversion of a document into a render tree.
 
-ghost use Rattle.std.specs.Prelude.{◌≡◌, [], ◌∷◌, ◌++◌, IfErr, IfOk, OnOk, Some, map};
+ghost use Rattle.std.specs.Prelude.{◌≡◌, IfErr, IfOk, OnOk, Some, map, true};
+ghost use Rattle.html_render_dom_values.specs.Outcome.{OnlyOutOfMemory};
 ghost use Rattle.html_render_dom_styles.specs.Rules.{rule_of};
-ghost use Rattle.html_render_layout_nodes.specs.declared.tree.Entry.{Entry};
 ghost use Rattle.html_render_parts.specs.Refusal.{Fails};
-ghost use Rattle.html_render_dom.specs.Dom.{tree_of};
+ghost use Rattle.html_render_dom.specs.Dom.{IsForest, IsNode, tree_of};
+ghost use Rattle.html_render_dom.specs.RuleIndex.{Finds};
+ghost use Rattle.html_render_tree_mapping.specs.Plans.{plain_element, plan_at};
 ghost use Rattle.html_render_tree_mapping.specs.Results.{render_tree_of};
 ghost use Rattle.html_render_tree_convert.specs.Events.{element_events, nothing_inside};
 ghost use Rattle.html_render_tree_convert.specs.Following.{done_at_once, followed};
@@ -16,9 +18,9 @@ use crate::cursor::{Cursor, Pick, Visit};
 use html_render_dom::dom::{Handle, RcDom};
 use html_render_dom::style::{RuleIndex, StyleRule};
 use html_render_dom_values::Error;
-use html_render_layout_nodes::tree::{Entry, PreorderForest, RenderNode};
-use html_render_tree_mapping::mapping::ElementKind;
-use html_render_tree_mapping::plans::{Element, Plan, plan_of};
+use html_render_layout_nodes::tree::{Entry, NodeStyle, PreorderForest, RenderNode};
+use html_render_tree_mapping::mapping::{ElementKind, IfEmpty};
+use html_render_tree_mapping::plans::{Element, Plan, plain_element, plan_of, text_at};
 use html_render_tree_mapping::tables::Part;
 use std::alloc::Global;
 
@@ -49,12 +51,12 @@ fn convert_alone(alloc: Global, element: Element, conversion: &mut Conversion) -
     conversion.close(alloc)
 }
 
-/// Converts a node as far as can be without its children, which come next if they are converted.
+/// Converts a node of a plan as far as can be without its children, which come next if they are converted.
 ///
 /// # Errors
 ///
 /// Those of [`Conversion::close`].
-fn convert_node(
+fn follow(
     alloc: Global,
     plan: Plan,
     node: Handle,
@@ -83,6 +85,63 @@ fn convert_node(
     }
 }
 
+/// Opens an element that has no style and inserts nothing. Its children come next.
+///
+/// # Errors
+///
+/// `OutOfMemory` if an allocation is refused.
+#[inline(always)]
+fn enter_plain(
+    alloc: Global,
+    kind: ElementKind,
+    if_empty: IfEmpty,
+    node: Handle,
+    cursor: &mut Cursor,
+    conversion: &mut Conversion,
+) -> Result<(), Error>
+    ensures ok { OnOk result (run (done_at_once (Plan.Over (plain_element kind if_empty) true)) conversion.old ≡ Some conversion.new) }
+    ensures cursor { OnOk result (cursor.new ≡ followed (Plan.Over (plain_element kind if_empty) true) node cursor.old) }
+    ensures err { OnlyOutOfMemory result }
+{
+    let pick = first_pick(&kind);
+    conversion.open_plain(alloc, kind, NodeStyle::default(), if_empty)?;
+    cursor.enter(node, pick)?;
+    Ok(())
+}
+
+/// Converts a node as far as can be without its children, which come next if they are converted. Texts, and elements that have
+/// no style and insert nothing, take the shortest way, since most nodes are these.
+///
+/// # Errors
+///
+/// Those of [`Conversion::close`].
+#[inline(always)]
+fn convert_node(
+    rules: &[StyleRule],
+    index: &RuleIndex,
+    dom: &RcDom,
+    node: Handle,
+    cursor: &mut Cursor,
+    conversion: &mut Conversion,
+) -> Result<(), Error>
+    requires index { Finds index.now (map rule_of rules.now) }
+    requires forest { IsForest dom.now }
+    requires node { IsNode dom.now node }
+    ensures ok { OnOk result (run (done_at_once (plan_at (map rule_of rules.now) dom.now node)) conversion.old ≡ Some conversion.new) }
+    ensures cursor { OnOk result (cursor.new ≡ followed (plan_at (map rule_of rules.now) dom.now node) node cursor.old) }
+    ensures err { IfErr result (λ e. Fails e (run (done_at_once (plan_at (map rule_of rules.now) dom.now node)) conversion.old)) }
+{
+    let alloc = conversion.allocator();
+    if let Some(text) = text_at(dom, node) {
+        return conversion.put_text(alloc, text);
+    }
+    if let Some((kind, if_empty)) = plain_element(rules, index, dom, node) {
+        return enter_plain(alloc, kind, if_empty, node, cursor, conversion);
+    }
+    let plan = plan_of(alloc, rules, index, dom, node)?;
+    follow(alloc, plan, node, cursor, conversion)
+}
+
 /// Returns the nodes of a document in pre-order. It takes no more stack for a deep document than for a flat one.
 ///
 /// # Errors
@@ -100,14 +159,18 @@ fn entries_of(
     let index = RuleIndex::of(alloc, rules)?;
     let mut cursor = Cursor::new(alloc);
     let mut conversion = Conversion::new(alloc, dom.node_count())?;
-    let document = dom.get_document();
-    let plan = plan_of(alloc, rules, &index, dom, document)?;
-    convert_node(alloc, plan, document, &mut cursor, &mut conversion)?;
-    'visits: while let Some(visit) = cursor.next(dom)? {
+    convert_node(
+        rules,
+        &index,
+        dom,
+        dom.get_document(),
+        &mut cursor,
+        &mut conversion,
+    )?;
+    'visits: while let Some(visit) = cursor.next(dom) {
         match visit {
             Visit::Node(node) => {
-                let plan = plan_of(alloc, rules, &index, dom, node)?;
-                convert_node(alloc, plan, node, &mut cursor, &mut conversion)?;
+                convert_node(rules, &index, dom, node, &mut cursor, &mut conversion)?
             }
             Visit::Parts => conversion.part(alloc)?,
             Visit::Close => conversion.close(alloc)?,

@@ -1,10 +1,10 @@
 //! A walk over a document: each node, and where the children of an element end, one after another.
 
-ghost use Rattle.std.specs.Prelude.{◌≡◌, ◌++◌, ◌∷◌, [], All, IfNone, IfOk, IfSome, MatchOption, OnErr, OnOk};
+ghost use Rattle.std.specs.Prelude.{◌≡◌, ◌∷◌, [], All, IfNone, IfSome, MatchOption, OnErr, OnOk};
 ghost use Rattle.html_render_dom_nodes.specs.Content.{content_of};
-ghost use Rattle.html_render_dom.specs.Dom.{IsNode, children_at};
+ghost use Rattle.html_render_dom.specs.Dom.{IsNode};
 ghost use Rattle.html_render_tree_convert.specs.Order.{is_named, picks};
-ghost use Rattle.html_render_tree_convert.specs.Walk.{IsVisited, ahead, coming, entered, nodes, picked};
+ghost use Rattle.html_render_tree_convert.specs.Walk.{IsVisited, ahead, coming, coming_at, entered};
 
 use html_render_dom::dom::{Handle, Namespace, NodeData, RcDom};
 use std::alloc::{AllocError, Global};
@@ -59,6 +59,7 @@ fn is_named(name: &str, node: &NodeData) -> bool
 }
 
 /// Reports whether a child is picked.
+#[inline(always)]
 fn picks(pick: Pick, node: &NodeData) -> bool
     ensures { result ≡ picks pick (content_of node.now) }
 {
@@ -70,29 +71,62 @@ fn picks(pick: Pick, node: &NodeData) -> bool
     }
 }
 
-/// Returns the position after the next child that is picked, and this child; `None` without one.
-fn next_picked(dom: &RcDom, position: Position) -> Option<(Position, Handle)>
-    requires { IsNode dom.now position.element }
-    ensures none { IfNone result (ahead dom.now position ≡ []) }
-    ensures some { IfSome result (λ r. ahead dom.now position ≡ r.1 ∷ ahead dom.now r.0) }
-    ensures same { IfSome result (λ r. (r.0.element ≡ position.element) × (r.0.pick ≡ position.pick)) }
-    ensures node { IfSome result (λ r. IsNode dom.now r.1) }
+/// Returns the next child that is picked, and moves the position past it; `None` without one.
+#[inline(always)]
+fn next_picked(dom: &RcDom, position: &mut Position) -> Option<Handle>
+    requires { IsNode dom.now position.old.element }
+    ensures none { IfNone result (ahead dom.now position.old ≡ []) }
+    ensures some { IfSome result (λ child. ahead dom.now position.old ≡ child ∷ ahead dom.now position.new) }
+    ensures element { position.new.element ≡ position.old.element }
+    ensures pick { position.new.pick ≡ position.old.pick }
+    ensures node { IfSome result (λ child. IsNode dom.now child) }
 {
     let children = dom.child_list(position.element);
+    let pick = position.pick;
     let mut next = position.next;
     'children: while next < children.len() {
         let child = children[next];
         next += 1;
-        if picks(position.pick, dom.data(child)) {
-            let after = Position {
-                element: position.element,
-                pick: position.pick,
-                next,
-            };
-            return Some((after, child));
+        if picks(pick, dom.data(child)) {
+            position.next = next;
+            return Some(child);
         }
     }
     None
+}
+
+/// Moves a position in front of the children of a pick.
+fn restart(position: &mut Position, pick: Pick)
+    ensures { position.new ≡ entered position.old.element pick }
+{
+    position.pick = pick;
+    position.next = 0;
+}
+
+/// Returns what comes next at a position, and moves the position past it; `None` where the element ends.
+#[inline(always)]
+fn advance(dom: &RcDom, position: &mut Position) -> Option<Visit>
+    requires { IsNode dom.now position.old.element }
+    ensures some { IfSome result (λ visit. coming_at dom.now position.old ≡ visit ∷ coming_at dom.now position.new) }
+    ensures none { IfNone result (coming_at dom.now position.old ≡ Visit.Close ∷ []) }
+    ensures element { position.new.element ≡ position.old.element }
+    ensures node { IfSome result (IsVisited dom.now) }
+{
+    if let Some(child) = next_picked(dom, position) {
+        return Some(Visit::Node(child));
+    }
+    match position.pick {
+        Pick::All | Pick::Feet => None,
+        Pick::Captions => {
+            restart(position, Pick::Others);
+            Some(Visit::Parts)
+        }
+        Pick::Others => {
+            restart(position, Pick::Feet);
+            let child = next_picked(dom, position)?;
+            Some(Visit::Node(child))
+        }
+    }
 }
 
 /// A walk over a document. Contracts see the elements that it has entered, the innermost first.
@@ -121,66 +155,33 @@ impl Cursor {
     }
 
     /// Enters an element: its children come next, of a table first those of `pick`.
+    #[inline(always)]
     pub fn enter(&mut self, element: Handle, pick: Pick) -> Result<(), AllocError>
         ensures ok { OnOk result (self.new ≡ entered element pick ∷ self.old) }
         ensures err { OnErr result (self.new ≡ self.old) }
     {
-        self.open.push(Position {
+        self.open.reserve(1)?;
+        self.open.push_reserved(Position {
             element,
             pick,
             next: 0,
-        })?;
+        });
         Ok(())
     }
 
-    /// Returns the first foot of a table, whose other children have come, or its end without one.
-    fn next_foot(&mut self, dom: &RcDom, element: Handle) -> Result<Visit, AllocError>
-        requires element { IsNode dom.now element }
-        requires nodes { All (λ p. IsNode dom.now p.element) self.now }
-        ensures visit { IfOk result (λ v. (nodes (picked Pick.Feet dom.now (children_at dom.now element)) ++ (Visit.Close ∷ coming dom.now self.old))
-            ≡ v ∷ coming dom.now self.new) }
-        ensures nodes { OnOk result (All (λ p. IsNode dom.now p.element) self.new) }
-        ensures node { IfOk result (IsVisited dom.now) }
-    {
-        let feet = Position {
-            element,
-            pick: Pick::Feet,
-            next: 0,
-        };
-        let Some((after, child)) = next_picked(dom, feet) else {
-            return Ok(Visit::Close);
-        };
-        self.open.push(after)?;
-        Ok(Visit::Node(child))
-    }
-
     /// Returns what comes next; `None` at the end.
-    pub fn next(&mut self, dom: &RcDom) -> Result<Option<Visit>, AllocError>
+    #[inline(always)]
+    pub fn next(&mut self, dom: &RcDom) -> Option<Visit>
         requires { All (λ p. IsNode dom.now p.element) self.now }
-        ensures visit { IfOk result (λ visit. MatchOption visit (coming dom.now self.old ≡ [])
-            (λ v. coming dom.now self.old ≡ v ∷ coming dom.now self.new)) }
-        ensures nodes { OnOk result (All (λ p. IsNode dom.now p.element) self.new) }
-        ensures node { IfOk result (λ visit. IfSome visit (IsVisited dom.now)) }
+        ensures visit { MatchOption result (coming dom.now self.old ≡ []) (λ v. coming dom.now self.old ≡ v ∷ coming dom.now self.new) }
+        ensures nodes { All (λ p. IsNode dom.now p.element) self.new }
+        ensures node { IfSome result (IsVisited dom.now) }
     {
-        let Some(position) = self.open.pop() else {
-            return Ok(None);
-        };
-        let element = position.element;
-        let pick = position.pick;
-        if let Some((after, child)) = next_picked(dom, position) {
-            self.open.push(after)?;
-            return Ok(Some(Visit::Node(child)));
+        let position = self.open.last_mut()?;
+        if let Some(visit) = advance(dom, position) {
+            return Some(visit);
         }
-        match pick {
-            Pick::All | Pick::Feet => Ok(Some(Visit::Close)),
-            Pick::Captions => {
-                self.enter(element, Pick::Others)?;
-                Ok(Some(Visit::Parts))
-            }
-            Pick::Others => {
-                let visit = self.next_foot(dom, element)?;
-                Ok(Some(visit))
-            }
-        }
+        self.open.pop();
+        Some(Visit::Close)
     }
 }

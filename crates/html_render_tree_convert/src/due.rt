@@ -4,9 +4,11 @@ ghost use Rattle.std.specs.Prelude.{◌≡◌, [], ◌++◌, IfOk, None, OnOk, S
 ghost use Rattle.std.specs.Bool.{OnTrue};
 ghost use Rattle.html_render_dom_values.specs.Outcome.{OnlyOutOfMemory};
 ghost use Rattle.html_render_layout_nodes.specs.declared.tree.NodeKind.TheVariants.{FragmentStart};
-ghost use Rattle.html_render_tree_convert.specs.OpenElements.{nothing, text_nodes};
+ghost use Rattle.html_render_tree_convert.specs.OpenElements.{leaves, nothing, text_nodes};
+ghost use Rattle.html_render_tree_convert.specs.Levels.{added};
 ghost use Rattle.html_render_tree_convert.specs.Held.{due_of, held_in, insertion_in, nothing_held};
 
+use crate::builder::TreeBuilder;
 use html_render_dom_values::Error;
 use html_render_layout_nodes::text::NodeText;
 use html_render_layout_nodes::tree::{NodeKind, RenderNode};
@@ -77,6 +79,31 @@ impl DueParts {
     }
 }
 
+impl DueParts {
+    /// Writes what is due after the children of an element that closes: its own text, and then the outer insertion's nodes.
+    ///
+    /// # Errors
+    ///
+    /// `OutOfMemory` if an allocation is refused.
+    fn write_back(self, tree: &mut TreeBuilder) -> Result<(), Error>
+        ensures ok { OnOk result (tree.new ≡ added (leaves (due_of (held_in (Some self))).back) tree.old) }
+        ensures err { OnlyOutOfMemory result }
+    {
+        let DueParts {
+            mark: _mark,
+            outer,
+            front: _front,
+            after,
+        } = self;
+        let InsertedNodes {
+            front: _outer_front,
+            back,
+        } = outer;
+        put_texts(None, after, tree)?;
+        put_all(back, tree)
+    }
+}
+
 /// What an open element has still to write, boxed since most elements insert nothing.
 #[derive(Drop)]
 pub struct Due {
@@ -99,6 +126,14 @@ impl Due {
         ensures { result ≡ nothing_held }
     {
         Due { parts: None }
+    }
+
+    /// Reports whether it was created as nothing.
+    #[inline]
+    pub fn is_none(&self) -> bool
+        ensures { OnTrue result (self.now ≡ nothing_held) }
+    {
+        self.parts.is_none()
     }
 
     /// Creates what an element has still to write. Where that is nothing, nothing is allocated.
@@ -193,6 +228,7 @@ impl Due {
     /// # Errors
     ///
     /// `OutOfMemory` if an allocation is refused.
+    #[inline(never)]
     pub fn take_insertion(&mut self, alloc: Global) -> Result<InsertedNodes, Error>
         ensures ok { IfOk result (λ i. insertion_in i ≡ due_of self.old) }
         ensures left { OnOk result (self.new ≡ record nothing_held { mark = self.old.mark }) }
@@ -204,7 +240,24 @@ impl Due {
         }
     }
 
+    /// Writes what is due after the children of an element that closes.
+    ///
+    /// # Errors
+    ///
+    /// `OutOfMemory` if an allocation is refused.
+    #[inline(never)]
+    pub fn write_back(self, tree: &mut TreeBuilder) -> Result<(), Error>
+        ensures ok { OnOk result (tree.new ≡ added (leaves (due_of self).back) tree.old) }
+        ensures err { OnlyOutOfMemory result }
+    {
+        match self.parts {
+            Some(parts) => Box::into_inner(parts).write_back(tree),
+            None => Ok(()),
+        }
+    }
+
     /// Takes the insertion of the elements outside.
+    #[inline(never)]
     pub fn take_outer(&mut self, alloc: Global) -> InsertedNodes
         ensures outer { insertion_in result ≡ self.old.outer }
         ensures left { self.new ≡ record self.old { outer = nothing } }
@@ -249,6 +302,7 @@ impl Due {
     /// # Errors
     ///
     /// `OutOfMemory` if an allocation is refused.
+    #[inline(never)]
     pub fn set_insertion(&mut self, alloc: Global, insertion: InsertedNodes) -> Result<(), Error>
         ensures ok { OnOk result (self.new ≡ record { mark = self.old.mark; outer = insertion_in insertion; front = []; after = None }) }
         ensures err { OnlyOutOfMemory result }
@@ -307,4 +361,57 @@ fn nodes_after(alloc: Global, after: Option<NodeText>) -> Result<Vec<RenderNode>
         nodes.push(RenderNode::from(NodeKind::Text(text)))?;
     }
     Ok(nodes)
+}
+
+/// Returns a copy of a text, if there is one.
+///
+/// # Errors
+///
+/// `OutOfMemory` if an allocation is refused.
+pub fn copy_of(text: &Option<NodeText>) -> Result<Option<NodeText>, Error>
+    ensures ok { IfOk result (λ copy. copy ≡ text.now) }
+    ensures err { OnlyOutOfMemory result }
+{
+    match text {
+        Some(text) => Ok(Some(text.clone()?)),
+        None => Ok(None),
+    }
+}
+
+/// Writes the texts in front of an element's children: its mark, and its content.
+///
+/// # Errors
+///
+/// `OutOfMemory` if an allocation is refused.
+pub fn put_texts(
+    mark: Option<NodeText>,
+    before: Option<NodeText>,
+    tree: &mut TreeBuilder,
+) -> Result<(), Error>
+    ensures ok { OnOk result (tree.new ≡ added (leaves (text_nodes FragmentStart mark ++ text_nodes NodeKind.Text before)) tree.old) }
+    ensures err { OnlyOutOfMemory result }
+{
+    if let Some(name) = mark {
+        tree.put(RenderNode::from(NodeKind::FragmentStart(name)))?;
+    }
+    if let Some(text) = before {
+        tree.put(RenderNode::from(NodeKind::Text(text)))?;
+    }
+    Ok(())
+}
+
+/// Appends nodes without children.
+///
+/// # Errors
+///
+/// `OutOfMemory` if an allocation is refused.
+#[inline(never)]
+pub fn put_all(nodes: Vec<RenderNode>, tree: &mut TreeBuilder) -> Result<(), Error>
+    ensures ok { OnOk result (tree.new ≡ added (leaves nodes.items) tree.old) }
+    ensures err { OnlyOutOfMemory result }
+{
+    for node in nodes {
+        tree.put(node)?;
+    }
+    Ok(())
 }

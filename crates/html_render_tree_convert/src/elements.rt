@@ -74,7 +74,7 @@ impl OpenKind {
     }
 
     /// Reports whether it keeps a result of this role and kind.
-    #[inline]
+    #[inline(always)]
     fn keeps(&self, role: &Role, kind: &NodeKind) -> bool
         ensures { result ≡ keeps_in self.now (meant role.now) kind.now }
     {
@@ -89,7 +89,7 @@ impl OpenKind {
     }
 
     /// Reports whether a result of this role and kind counts.
-    #[inline]
+    #[inline(always)]
     fn counts(&self, role: &Role, kind: &NodeKind, has_children: bool) -> bool
         ensures { result ≡ counts_for self.now (meant role.now) kind.now has_children }
     {
@@ -104,7 +104,7 @@ impl OpenKind {
     }
 
     /// Reports whether a result of this role is in its place, if it is kept.
-    #[inline]
+    #[inline(always)]
     fn has_place(&self, role: &Role) -> bool
         ensures { result ≡ places self.now (meant role.now) }
     {
@@ -119,7 +119,7 @@ impl OpenKind {
     /// # Errors
     ///
     /// `OutOfMemory` if an allocation is refused.
-    #[inline]
+    #[inline(always)]
     fn gather(&mut self, alloc: Global, role: Role) -> Result<(), Error>
         ensures ok { OnOk result (Gathers self.old (meant role) self.new) }
         ensures err { OnlyOutOfMemory result }
@@ -198,7 +198,7 @@ impl Open {
     /// # Errors
     ///
     /// `OutOfMemory` if an allocation is refused.
-    #[inline]
+    #[inline(always)]
     pub fn receive(
         &mut self,
         alloc: Global,

@@ -213,6 +213,7 @@ pub fn push_part(alloc: Global, part: &PartRows, spans: &mut TableSpans) -> Resu
 /// # Errors
 ///
 /// `Fail` exactly if a cell ends after column or row `u128::MAX`, and `OutOfMemory` if an allocation is refused.
+#[inline(never)]
 pub fn grid_of(alloc: Global, spans: &TableSpans) -> Result<Grid, Error>
     ensures ok { IfOk result (λ grid. option_map unmeasured_table (cell_grid_of spans.now) ≡ Some grid) }
     ensures err { IfErr result (λ e. Fails e (option_map unmeasured_table (cell_grid_of spans.now))) }

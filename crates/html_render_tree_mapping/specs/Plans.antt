@@ -44,9 +44,13 @@ displayed_plan (mapping.Parent kind if_empty) mark style = Over (element_of kind
 abbrev pub element_plan : Mapping → (mark : Option (List ℕ)) → ElementStyle → Plan
 element_plan m mark style = if is_some style.display then Nothing else displayed_plan m mark style
 
+-- element without a style that inserts nothing
+abbrev pub plain_element : ElementKind → IfEmpty → Element
+plain_element kind if_empty = record { kind = kind; style = no_style; if_empty = if_empty; texts = no_texts }
+
 -- the document's node
 abbrev pub document_element : Element
-document_element = record { kind = Node Container; style = no_style; if_empty = Stands; texts = no_texts }
+document_element = plain_element (Node Container) Stands
 
 -- PLAN of a node over its children
 abbrev pub plan_of : List StyleRule → Content → (children : Forest Content) → Plan

@@ -1,6 +1,6 @@
 //! Which render node a node of a document becomes.
 
-ghost use Rattle.std.specs.Prelude.{◌≡◌, ◌&&◌, IfOk, codes, if◌then◌else◌, map};
+ghost use Rattle.std.specs.Prelude.{◌≡◌, ◌&&◌, ◌||◌, IfOk, codes, if◌then◌else◌, map};
 ghost use Rattle.std.specs.Str.{bytes_eq};
 ghost use Rattle.html_render_dom_values.specs.Outcome.{OnlyOutOfMemory};
 ghost use Rattle.html_render_dom_nodes.specs.Content.{name_of, property_of, space_of, is_html};
@@ -75,7 +75,8 @@ fn table_part(part: Part, if_empty: IfEmpty) -> Mapping
 
 /// What becomes of an element of HTML whose node holds no text, by its local name and its attributes. Cells and rows, of which
 /// there are most in a long table, are looked for first.
-fn html_mapping(name: &str, attributes: &[Attribute]) -> Mapping
+#[inline(always)]
+pub(crate) fn html_mapping(name: &str, attributes: &[Attribute]) -> Mapping
     ensures { result ≡ html_mapping name.now (map property_of attributes.now) }
 {
     match name {
@@ -142,6 +143,14 @@ fn image_mapping(alloc: Global, source: &str, title: &str) -> Result<Mapping, Er
     Ok(Mapping::Leaf(NodeKind::Image(image)))
 }
 
+/// Reports whether what becomes of an element of HTML of this name may have a text of its own.
+#[inline(always)]
+pub(crate) fn is_mapped_apart(name: &str) -> bool
+    ensures { result ≡ (bytes_eq name.now (codes "a") || (bytes_eq name.now (codes "img") || bytes_eq name.now (codes "wbr"))) }
+{
+    name == "a" || (name == "img" || name == "wbr")
+}
+
 /// What becomes of an element of HTML, by its local name and its attributes.
 fn html_element_mapping(
     alloc: Global,
@@ -191,6 +200,7 @@ pub(crate) fn element_mapping(
 }
 
 /// Reports whether an element is a `pre` of HTML.
+#[inline(always)]
 pub(crate) fn is_preformatted(name: &QualName) -> bool
     ensures { result ≡ is_preformatted (name_of name.now) }
 {

@@ -1,25 +1,28 @@
 //! Plans of nodes: which render node a node of a document becomes, its children aside.
 
-ghost use Rattle.std.specs.Prelude.{◌≡◌, [], false, true, None, IfOk, map, option_copied};
+ghost use Rattle.std.specs.Prelude.{◌≡◌, [], false, true, List, None, IfOk, IfSome, map, option_copied};
+ghost use Rattle.std.specs.Bool.{OnTrue};
+ghost use Rattle.html_render_dom_values.specs.Forest.{Forest};
 ghost use Rattle.html_render_dom_values.specs.Outcome.{OnlyOutOfMemory};
-ghost use Rattle.html_render_dom_nodes.specs.Content.{name_of, property_of};
+ghost use Rattle.html_render_dom_nodes.specs.Content.{Content, name_of, property_of, space_of};
 ghost use Rattle.html_render_dom.specs.Dom.{IsForest, IsNode};
 ghost use Rattle.html_render_dom.specs.ElementStyle.{style_by, style_of};
 ghost use Rattle.html_render_dom.specs.RuleIndex.{Finds};
-ghost use Rattle.html_render_dom_styles.specs.Rules.{rule_of};
+ghost use Rattle.html_render_dom_styles.specs.Rules.{Rule, rule_of};
 ghost use Rattle.html_render_layout_nodes.specs.RenderNodes.{without_style};
-ghost use Rattle.html_render_tree_mapping.specs.Conversion.{own_style};
+ghost use Rattle.html_render_tree_mapping.specs.Conversion.{element_mapping, own_style};
 ghost use Rattle.html_render_tree_mapping.specs.ElementTexts.{has_any, no_texts};
 ghost use Rattle.html_render_tree_mapping.specs.Marks.{mark_of};
 ghost use Rattle.html_render_tree_mapping.specs.Preformatted.{is_preformatted};
-ghost use Rattle.html_render_tree_mapping.specs.Plans.{document_element, element_plan, mark_plan, plan_at};
+ghost use Rattle.html_render_tree_mapping.specs.Plans.{document_element, element_plan, mark_plan, plain_element, plan_at};
 
 use crate::attributes::mark_of;
 use crate::mapping::{
-    ElementKind, IfEmpty, Mapping, element_mapping, is_preformatted, node_style, preformat,
+    ElementKind, IfEmpty, Mapping, element_mapping, html_mapping, is_mapped_apart, is_preformatted,
+    node_style, preformat,
 };
 use html_render_dom::Error;
-use html_render_dom::dom::{Attribute, Handle, NodeData, QualName, RcDom};
+use html_render_dom::dom::{Attribute, Handle, Namespace, NodeData, QualName, RcDom};
 use html_render_dom::style::{ComputedStyle, RuleIndex, StyleRule};
 use html_render_layout_nodes::text::NodeText;
 use html_render_layout_nodes::tree::{NodeKind, NodeStyle, RenderNode};
@@ -38,6 +41,17 @@ pub struct ElementTexts {
 }
 
 impl ElementTexts {
+    /// Returns no texts.
+    pub fn none() -> ElementTexts
+        ensures { result ≡ no_texts }
+    {
+        ElementTexts {
+            mark: None,
+            before: None,
+            after: None,
+        }
+    }
+
     /// Reports whether there is a text.
     pub fn has_any(&self) -> bool
         ensures { result ≡ has_any self.now }
@@ -104,11 +118,7 @@ impl InsertedTexts {
     {
         match self.texts {
             Some(texts) => Box::into_inner(texts),
-            None => ElementTexts {
-                mark: None,
-                before: None,
-                after: None,
-            },
+            None => ElementTexts::none(),
         }
     }
 }
@@ -284,7 +294,19 @@ fn attributed_plan(
     unstyled_plan(alloc, mapping, mark)
 }
 
-/// Returns the plan of an element without attributes that isn't preformatted, if that needs no style to be computed.
+/// Reports whether an element without attributes has the style without any declaration.
+#[inline(always)]
+fn is_unstyled(rules: &[StyleRule], index: &RuleIndex, name: &QualName) -> bool
+    requires { Finds index.now (map rule_of rules.now) }
+    ensures { OnTrue result (own_style (map rule_of rules.now) (name_of name.now) [] ≡ style_by []) }
+{
+    if is_preformatted(name) {
+        return false;
+    }
+    rules.is_empty() || !index.may_select(name.local.as_str(), &[])
+}
+
+/// Returns the plan of an element without attributes that isn't preformatted. Its style is computed only where it wasn't before.
 fn plan_by_name(
     alloc: Global,
     rules: &[StyleRule],
@@ -297,11 +319,10 @@ fn plan_by_name(
     ensures ok { IfOk result (λ plan. plan ≡ element_plan mapping (mark_of (name_of name.now) []) (own_style (map rule_of rules.now) (name_of name.now) [])) }
     ensures err { OnlyOutOfMemory result }
 {
-    let local = name.local.as_str();
-    if !index.may_select(local, &[]) {
+    if is_unstyled(rules, index, name) {
         return Ok(plain_plan(mapping, InsertedTexts::none()));
     }
-    match index.plain_style(local) {
+    match index.plain_style(name.local.as_str()) {
         Some(style) => styled_plan(alloc, mapping, None, style),
         None => attributed_plan(alloc, rules, index, mapping, name, &[]),
     }
@@ -326,6 +347,65 @@ fn element_plan(
         return plan_by_name(alloc, rules, index, mapping, name);
     }
     attributed_plan(alloc, rules, index, mapping, name, attributes)
+}
+
+/// Returns what an element becomes that has no attributes and whose style is that without any declaration, if its children are
+/// converted; `None` for an element that needs more to be known.
+#[inline(never)]
+fn plain_kind(
+    rules: &[StyleRule],
+    index: &RuleIndex,
+    name: &QualName,
+) -> Option<(ElementKind, IfEmpty)>
+    requires { Finds index.now (map rule_of rules.now) }
+    ensures { IfSome result (λ r. (below : Forest Content) →
+        element_plan (element_mapping (space_of name.now.ns) name.now.local [] below) (mark_of (name_of name.now) []) (own_style (map rule_of rules.now) (name_of name.now) [])
+        ≡ Plan.Over (plain_element r.0 r.1) true) }
+{
+    let Namespace::Html = name.ns else {
+        return None;
+    };
+    let local = name.local.as_str();
+    if is_mapped_apart(local) || !is_unstyled(rules, index, name) {
+        return None;
+    }
+    match html_mapping(local, &[]) {
+        Mapping::Parent(kind, if_empty) => Some((kind, if_empty)),
+        _ => None,
+    }
+}
+
+/// Returns what an element of HTML becomes that has no attributes and that no rule selects, if its children are converted;
+/// `None` for other nodes, and where that needs more to be known. `index` is that of the rules.
+#[inline(always)]
+pub fn plain_element(
+    rules: &[StyleRule],
+    index: &RuleIndex,
+    dom: &RcDom,
+    node: Handle,
+) -> Option<(ElementKind, IfEmpty)>
+    requires index { Finds index.now (map rule_of rules.now) }
+    requires node { IsNode dom.now node }
+    ensures { IfSome result (λ r. plan_at (map rule_of rules.now) dom.now node ≡ Plan.Over (plain_element r.0 r.1) true) }
+{
+    match dom.data(node) {
+        NodeData::Element { name, attrs, .. } if attrs.as_slice().is_empty() => {
+            plain_kind(rules, index, name)
+        }
+        _ => None,
+    }
+}
+
+/// Returns the text of a node of a document; `None` if it is no text.
+#[inline(always)]
+pub fn text_at<'a>(dom: &'a RcDom, node: Handle) -> Option<&'a NodeText>
+    requires { IsNode dom.now node }
+    ensures { IfSome result (λ text. (rules : List Rule) → plan_at rules dom.now node ≡ Plan.Alone (without_style (NodeKind.Text text.now))) }
+{
+    match dom.data(node) {
+        NodeData::Text { contents } => Some(contents),
+        _ => None,
+    }
 }
 
 /// Returns the plan of the document's node.

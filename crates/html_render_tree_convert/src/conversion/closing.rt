@@ -13,7 +13,6 @@ ghost use Rattle.html_render_tree_convert.specs.Seen.{Holds, element_seen, is_ro
 ghost use Rattle.html_render_tree_convert.specs.Steps.{closed, closed_once, is_wrapped, received};
 
 use super::Conversion;
-use super::opening::put_all;
 use crate::builder::TreeBuilder;
 use crate::due::Due;
 use crate::elements::{Open, OpenKind, Role};
@@ -30,6 +29,7 @@ impl Conversion {
     ///
     /// `Fail` exactly if it is a table and a cell ends after column or row `u128::MAX`, and `OutOfMemory` if an allocation is
     /// refused.
+    #[inline(always)]
     pub fn close(&mut self, alloc: Global) -> Result<(), Error>
         ensures ok { OnOk result (Some self.new ≡ closed self.old) }
         ensures err { IfErr result (λ e. Fails e (closed self.old)) }
@@ -58,6 +58,7 @@ impl Conversion {
     ///
     /// `Fail` exactly if it is a table and a cell ends after column or row `u128::MAX`, and `OutOfMemory` if an allocation is
     /// refused.
+    #[inline(always)]
     fn close_once(&mut self, alloc: Global) -> Result<(), Error>
         ensures ok { OnOk result (Some self.new ≡ closed_once self.old) }
         ensures err { IfErr result (λ e. Fails e (closed_once self.old)) }
@@ -79,6 +80,7 @@ impl Conversion {
 ///
 /// `Fail` exactly if it is a table and a cell ends after column or row `u128::MAX`, and `OutOfMemory` if an allocation is
 /// refused.
+#[inline(always)]
 fn close_last(alloc: Global, elements: &mut Vec<Open>, tree: &mut TreeBuilder) -> Result<(), Error>
     ensures ok { OnOk result (ClosesLast elements.old.items tree.old elements.new.items tree.new) }
     ensures err { IfErr result (λ e. (o parent : Open) (rest : List Open) → reverse elements.old.items ≡ o ∷ (parent ∷ rest) →
@@ -99,9 +101,10 @@ fn close_last(alloc: Global, elements: &mut Vec<Open>, tree: &mut TreeBuilder) -
 ///
 /// `Fail` exactly if it is a table and a cell ends after column or row `u128::MAX`, and `OutOfMemory` if an allocation is
 /// refused.
+#[inline(always)]
 fn close_into(
     alloc: Global,
-    element: Open,
+    mut element: Open,
     parent: &mut Open,
     tree: &mut TreeBuilder,
 ) -> Result<(), Error>
@@ -110,7 +113,6 @@ fn close_into(
 {
     set_grid(alloc, &element.kind, tree)?;
     let vanishes = element.vanishes();
-    let mut element = element;
     give_back(alloc, &mut element, parent)?;
     if vanishes {
         tree.drop_open();
@@ -125,6 +127,7 @@ fn close_into(
 ///
 /// `Fail` exactly if it is a table and a cell ends after column or row `u128::MAX`, and `OutOfMemory` if an allocation is
 /// refused.
+#[inline(always)]
 fn set_grid(alloc: Global, kind: &OpenKind, tree: &mut TreeBuilder) -> Result<(), Error>
     ensures ok { OnOk result (Gridded kind.now tree.old tree.new) }
     ensures err { IfErr result (λ e. FailsGrid kind.now e) }
@@ -141,6 +144,7 @@ fn set_grid(alloc: Global, kind: &OpenKind, tree: &mut TreeBuilder) -> Result<()
 /// # Errors
 ///
 /// `OutOfMemory` if an allocation is refused.
+#[inline(always)]
 fn give_back(alloc: Global, element: &mut Open, parent: &mut Open) -> Result<(), Error>
     ensures element { OnOk result (element.new ≡ without_given element.old) }
     ensures parent { OnOk result (parent.new ≡ with_given_of element.old parent.old) }
@@ -158,6 +162,7 @@ fn give_back(alloc: Global, element: &mut Open, parent: &mut Open) -> Result<(),
 /// # Errors
 ///
 /// `OutOfMemory` if an allocation is refused.
+#[inline(never)]
 fn put_mark(
     alloc: Global,
     mark: Option<NodeText>,
@@ -181,7 +186,39 @@ fn put_mark(
 /// # Errors
 ///
 /// `OutOfMemory` if an allocation is refused.
+#[inline(always)]
 fn close_standing(
+    alloc: Global,
+    element: Open,
+    parent: &mut Open,
+    tree: &mut TreeBuilder,
+) -> Result<(), Error>
+    ensures ok { OnOk result (ClosesStanding element parent.old tree.old parent.new tree.new) }
+    ensures err { OnlyOutOfMemory result }
+{
+    // most elements become nodes that have no role in a table
+    if let OpenKind::Node(_) = element.kind {
+        write_due(element.due, tree)?;
+        let has_children = element.has_children;
+        return close_node(
+            alloc,
+            Role::Contents,
+            has_children,
+            element.is_stray,
+            parent,
+            tree,
+        );
+    }
+    close_part(alloc, element, parent, tree)
+}
+
+/// Closes a table, a part of one, a caption, or any other element that doesn't vanish.
+///
+/// # Errors
+///
+/// `OutOfMemory` if an allocation is refused.
+#[inline(never)]
+fn close_part(
     alloc: Global,
     element: Open,
     parent: &mut Open,
@@ -200,7 +237,7 @@ fn close_standing(
         is_wrapped: _,
         is_stray,
     } = element;
-    write_back(alloc, &kind, due, tree)?;
+    write_back(&kind, due, tree)?;
     let has_children = has_children_left(&kind, has_children);
     let has_entry = kind.has_entry();
     let role = role_left(kind);
@@ -229,6 +266,7 @@ fn has_children_left(kind: &OpenKind, has_children: bool) -> bool
 }
 
 /// Returns the role of what an element of this kind becomes.
+#[inline(always)]
 fn role_left(kind: OpenKind) -> Role
     ensures { meant result ≡ role_left kind }
 {
@@ -241,19 +279,34 @@ fn role_left(kind: OpenKind) -> Role
     }
 }
 
+/// Writes what is due after the children of an element.
+///
+/// # Errors
+///
+/// `OutOfMemory` if an allocation is refused.
+#[inline(always)]
+fn write_due(due: Due, tree: &mut TreeBuilder) -> Result<(), Error>
+    ensures ok { OnOk result (tree.new ≡ added (leaves (due_of due).back) tree.old) }
+    ensures err { OnlyOutOfMemory result }
+{
+    if due.is_none() {
+        return Ok(());
+    }
+    due.write_back(tree)
+}
+
 /// Writes what is due after the children of an element of this kind.
 ///
 /// # Errors
 ///
 /// `OutOfMemory` if an allocation is refused.
-fn write_back(alloc: Global, kind: &OpenKind, due: Due, tree: &mut TreeBuilder) -> Result<(), Error>
+#[inline(always)]
+fn write_back(kind: &OpenKind, due: Due, tree: &mut TreeBuilder) -> Result<(), Error>
     ensures ok { OnOk result (tree.new ≡ (if is_completed kind.now then added (leaves (due_of due).back) tree.old else tree.old)) }
     ensures err { OnlyOutOfMemory result }
 {
     if is_completed(kind) {
-        let mut due = due;
-        let insertion = due.take_insertion(alloc)?;
-        return put_all(insertion.back, tree);
+        return write_due(due, tree);
     }
     Ok(())
 }
@@ -263,6 +316,7 @@ fn write_back(alloc: Global, kind: &OpenKind, due: Due, tree: &mut TreeBuilder) 
 /// # Errors
 ///
 /// `OutOfMemory` if an allocation is refused.
+#[inline(always)]
 fn close_node(
     alloc: Global,
     role: Role,
@@ -293,6 +347,7 @@ fn close_node(
 /// # Errors
 ///
 /// `OutOfMemory` if an allocation is refused.
+#[inline(never)]
 fn close_rows(
     alloc: Global,
     role: Role,

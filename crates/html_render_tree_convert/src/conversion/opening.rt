@@ -4,8 +4,8 @@ ghost use Rattle.std.specs.Prelude.{◌≡◌, [], ◌∷◌, ◌++◌, IfOk, No
 ghost use Rattle.html_render_dom_values.specs.Outcome.{OnlyOutOfMemory};
 ghost use Rattle.html_render_tree_convert.specs.Held.{due_of, insertion_in, nothing_held};
 ghost use Rattle.html_render_tree_convert.specs.Levels.{added, leaf};
-ghost use Rattle.html_render_tree_convert.specs.OpenElements.{Node, holder, leaves, node_in, nothing};
-ghost use Rattle.html_render_tree_convert.specs.Opening.{AllMayGive, Becomes, GivesTo, IsOpen, MayGive, in_captions, in_row, in_rows, in_table, has_result, innermost, is_captions};
+ghost use Rattle.html_render_tree_convert.specs.OpenElements.{Node, holder, leaves, node_in, nothing, text_nodes};
+ghost use Rattle.html_render_tree_convert.specs.Opening.{AllMayGive, Becomes, GivesTo, IsOpen, MayGive, due_in, in_captions, in_row, in_rows, in_table, has_result, innermost, is_captions};
 ghost use Rattle.html_render_tree_convert.specs.Opening.{cell_as_open, kind_of_caption, left_once, own_front, rows_opened, taken, with_captions, without_captions, wrote};
 ghost use Rattle.html_render_tree_convert.specs.Seen.{Holds, element_seen, is_root, kind_seen};
 ghost use Rattle.html_render_tree_convert.specs.Steps.{all_parted, caption_kind, is_row, is_rows, is_table, opened, table_in_container};
@@ -13,11 +13,12 @@ ghost use Rattle.html_render_tree_mapping.specs.ElementTexts.{has_any, no_texts}
 
 use super::Conversion;
 use crate::builder::TreeBuilder;
-use crate::due::{Due, DueParts, InsertedNodes, front_nodes};
+use crate::due::{Due, DueParts, InsertedNodes, copy_of, front_nodes, put_all, put_texts};
 use crate::elements::{Open, OpenKind};
 use crate::kinds::Keeping;
 use crate::spans::{PartRows, RowCells, TableSpans};
 use html_render_dom_values::Error;
+use html_render_layout_nodes::text::NodeText;
 use html_render_layout_nodes::tree::{Estimate, NodeKind, NodeStyle, RenderNode};
 use html_render_tree_mapping::mapping::{ElementKind, IfEmpty};
 use html_render_tree_mapping::plans::{Element, ElementTexts};
@@ -158,21 +159,6 @@ fn take_from(alloc: Global, parent: &mut Open) -> Result<InsertedNodes, Error>
     Ok(insertion)
 }
 
-/// Appends nodes without children.
-///
-/// # Errors
-///
-/// `OutOfMemory` if an allocation is refused.
-pub(super) fn put_all(nodes: Vec<RenderNode>, tree: &mut TreeBuilder) -> Result<(), Error>
-    ensures ok { OnOk result (tree.new ≡ added (leaves nodes.items) tree.old) }
-    ensures err { OnlyOutOfMemory result }
-{
-    for node in nodes {
-        tree.put(node)?;
-    }
-    Ok(())
-}
-
 impl Conversion {
     /// Writes nodes without children that are inserted.
     ///
@@ -188,6 +174,51 @@ impl Conversion {
             return Err(error);
         }
         Ok(())
+    }
+
+    /// Writes the texts in front of an element's children: its mark, and its content.
+    ///
+    /// # Errors
+    ///
+    /// `OutOfMemory` if an allocation is refused.
+    fn insert_texts(
+        &mut self,
+        mark: Option<NodeText>,
+        before: Option<NodeText>,
+    ) -> Result<(), Error>
+        ensures ok { OnOk result (self.new ≡ wrote (leaves (text_nodes NodeKind.FragmentStart mark ++ text_nodes NodeKind.Text before)) self.old) }
+        ensures err { OnlyOutOfMemory result }
+    {
+        if let Err(error) = put_texts(mark, before, &mut self.tree) {
+            self.elements.clear();
+            return Err(error);
+        }
+        Ok(())
+    }
+
+    /// Opens an element that writes these texts in front of its children: its mark, and its content.
+    ///
+    /// # Errors
+    ///
+    /// `OutOfMemory` if an allocation is refused.
+    fn hold_texts(
+        &mut self,
+        element: Open,
+        node: RenderNode,
+        mark: Option<NodeText>,
+        before: Option<NodeText>,
+    ) -> Result<(), Error>
+        requires root { is_root element.kind ≡ false }
+        requires holds { Holds element.kind (leaf node ∷ []) }
+        requires given { MayGive (element_seen element (leaf node ∷ [])) }
+        requires given_to { GivesTo (element_seen element (leaf node ∷ [])) self.old }
+        ensures ok { OnOk result (self.new
+            ≡ wrote (leaves (text_nodes NodeKind.FragmentStart mark ++ text_nodes NodeKind.Text before)) (element_seen element (leaf node ∷ []) ∷ self.old)) }
+        ensures open { OnOk result (IsOpen self.old) }
+        ensures err { OnlyOutOfMemory result }
+    {
+        self.begin(element, node)?;
+        self.insert_texts(mark, before)
     }
 
     /// Opens an element that writes what is inserted in front of its children.
@@ -239,7 +270,8 @@ impl Conversion {
     /// # Errors
     ///
     /// `OutOfMemory` if an allocation is refused.
-    fn open_plain(
+    #[inline(always)]
+    fn open_node(
         &mut self,
         kind: NodeKind,
         style: NodeStyle,
@@ -251,6 +283,55 @@ impl Conversion {
         let keeping = Keeping::of(&kind);
         let open = Open::new(OpenKind::Node(keeping), Due::none(), if_empty, false);
         self.begin(open, node_in(style, kind))
+    }
+
+    /// Opens a cell of a row that inserts nothing, in an element that has nothing to write.
+    ///
+    /// # Errors
+    ///
+    /// `OutOfMemory` if an allocation is refused.
+    #[inline(always)]
+    #[tactic(auto, using(crate::proofs::OpeningLemmas::plain_cell_opens))]
+    fn open_plain_cell(
+        &mut self,
+        span: CellSpan,
+        style: NodeStyle,
+        if_empty: IfEmpty,
+    ) -> Result<(), Error>
+        requires { due_in self.old ≡ nothing }
+        ensures ok { OnOk result (self.new
+            ≡ opened (record { kind = ElementKind.Part (Part.Cell span); style = style; if_empty = if_empty; texts = no_texts }) self.old) }
+        ensures err { OnlyOutOfMemory result }
+    {
+        let open = Open::new(OpenKind::Cell(span), Due::none(), if_empty, false);
+        self.begin(open, node_in(style, NodeKind::TableCell))
+    }
+
+    /// Opens an element that inserts nothing.
+    ///
+    /// # Errors
+    ///
+    /// `OutOfMemory` if an allocation is refused.
+    #[inline(always)]
+    pub fn open_plain(
+        &mut self,
+        alloc: Global,
+        kind: ElementKind,
+        style: NodeStyle,
+        if_empty: IfEmpty,
+    ) -> Result<(), Error>
+        ensures ok { OnOk result (self.new ≡ opened (record { kind = kind; style = style; if_empty = if_empty; texts = no_texts }) self.old) }
+        ensures err { OnlyOutOfMemory result }
+    {
+        match kind {
+            ElementKind::Node(kind) => self.open_node(kind, style, if_empty),
+            ElementKind::Part(Part::Cell(span)) if !self.may_have_due() => {
+                self.open_plain_cell(span, style, if_empty)
+            }
+            ElementKind::Part(part) => {
+                self.open_part(alloc, part, style, if_empty, ElementTexts::none())
+            }
+        }
     }
 
     /// Opens an element that becomes a node and inserts these texts.
@@ -276,15 +357,20 @@ impl Conversion {
             before,
             after,
         } = texts;
-        let front = front_nodes(alloc, &mark, before)?;
+        let written = copy_of(&mark)?;
         let due = Due::after(alloc, mark, after)?;
         if kind.holds_insertions() {
             let keeping = Keeping::of(&kind);
             let open = Open::new(OpenKind::Node(keeping), due, if_empty, true);
-            return self.hold(open, node_in(style, kind), front);
+            return self.hold_texts(open, node_in(style, kind), written, before);
         }
         let container = Open::new(OpenKind::Node(Keeping::Any), due, if_empty, true);
-        self.hold(container, RenderNode::from(NodeKind::Container), front)?;
+        self.hold_texts(
+            container,
+            RenderNode::from(NodeKind::Container),
+            written,
+            before,
+        )?;
         self.open_wrapped(kind, style, if_empty)
     }
 
@@ -474,10 +560,10 @@ impl Conversion {
             before,
             after,
         } = texts;
-        let front = front_nodes(alloc, &mark, before)?;
+        let written = copy_of(&mark)?;
         let due = Due::after(alloc, mark, after)?;
         let open = Open::new(OpenKind::Captions, due, if_empty, true);
-        self.hold(open, node_in(style, NodeKind::Container), front)
+        self.hold_texts(open, node_in(style, NodeKind::Container), written, before)
     }
 
     /// Opens a caption.
@@ -503,10 +589,10 @@ impl Conversion {
             before,
             after,
         } = texts;
-        let front = front_nodes(alloc, &mark, before)?;
+        let written = copy_of(&mark)?;
         let due = Due::after(alloc, mark, after)?;
         let open = Open::new(OpenKind::Caption, due, if_empty, inserts);
-        self.hold(open, node_in(style, kind), front)
+        self.hold_texts(open, node_in(style, kind), written, before)
     }
 
     /// Opens a part of a table, or a table.
@@ -551,16 +637,13 @@ impl Conversion {
             if_empty,
             texts,
         } = element;
+        if !texts.has_any() {
+            return self.open_plain(alloc, kind, style, if_empty);
+        }
+        let texts = texts.into_texts();
         match kind {
-            ElementKind::Node(kind) => {
-                if !texts.has_any() {
-                    return self.open_plain(kind, style, if_empty);
-                }
-                self.open_inserting(alloc, kind, style, if_empty, texts.into_texts())
-            }
-            ElementKind::Part(part) => {
-                self.open_part(alloc, part, style, if_empty, texts.into_texts())
-            }
+            ElementKind::Node(kind) => self.open_inserting(alloc, kind, style, if_empty, texts),
+            ElementKind::Part(part) => self.open_part(alloc, part, style, if_empty, texts),
         }
     }
 

@@ -1,8 +1,9 @@
-use Rattle.std.proofs.Common.{◌≡◌, ◌∷◌, [], ◌<◌, All, map, subst, sym, ◌∙◌}
+use Rattle.std.proofs.Common.{◌≡◌, ◌∷◌, [], ◌<◌, All, map, refl, subst, sym, ◌∙◌}
 use Rattle.std.proofs.lemmas.List.Elements.{All-nil}
 use Rattle.std.proofs.lemmas.Result.{IfErr-weaker, IfOk-weaker}
 use Rattle.html_render_dom_styles.specs.Rules.{rule_of}
 use Rattle.html_render_dom.specs.Dom.{IsNode, tree_of}
+use Rattle.html_render_tree_mapping.specs.Plans.{plan_at}
 use Rattle.html_render_tree_convert.specs.Walk.{coming}
 use Rattle.html_render_tree_convert.specs.declared.cursor.Position.{Position}
 use Rattle.html_render_tree_convert.specs.declared.cursor.Visit.TheVariants.{Node}
@@ -15,60 +16,60 @@ pub visits-init : goal.visits-init
 visits-init c =
     let dom = c.args.dom.now in
     let rules = map rule_of c.args.rules.now in
-    let forest = c.get_document-document.ensures.forest in
+    let forest = c.get_document.ensures.forest in
     let holds = λ (p : Position). IsNode dom p.element in
-    let document = c.get_document-document.result in
+    let document = c.get_document.result in
     let none : All holds c.new-cursor.result = subst (All holds) (sym c.new-cursor.ensures) (All-nil holds) in
-    let at : IsNode dom document = subst (IsNode dom) (sym c.get_document-document.ensures.document) forest.has_document in
+    let at : IsNode dom document = subst (IsNode dom) (sym c.get_document.ensures.document) forest.has_document in
     record {
-      comes = started rules dom forest c.in_ok-plan.plan document c.new-cursor.result c.convert_node.new.cursor
-          c.in_ok-conversion.conversion c.convert_node.new.conversion c.in_ok-plan.ensures.ok c.get_document-document.ensures.document
+      comes = started rules dom forest (plan_at rules dom document) document c.new-cursor.result c.convert_node.new.cursor
+          c.in_ok-conversion.conversion c.convert_node.new.conversion refl c.get_document.ensures.document
           c.new-cursor.ensures c.in_ok-conversion.ensures.ok c.in_ok-convert_node.ensures.cursor c.in_ok-convert_node.ensures.ok;
       nodes = subst (All holds) (sym c.in_ok-convert_node.ensures.cursor)
-          (followed-nodes rules dom c.in_ok-plan.plan document c.new-cursor.result at none);
+          (followed-nodes rules dom (plan_at rules dom document) document c.new-cursor.result at none);
     }
 
 -- what comes is a node, and what comes after it
 comes-node : (c : In-Node) → coming c.args.dom.now c.visits.cursor ≡ Node c.in-Node.node ∷ coming c.args.dom.now c.next.new.self
-comes-node c = rw c.in-Node.is at (rw c.in-Some.is at c.in_ok-visit.ensures.visit)
+comes-node c = rw c.in-Node.is at (rw c.in-Some.is at c.next.ensures.visit)
 
 -- which is a node of the document
 node-visited : (c : In-Node) → IsNode c.args.dom.now c.in-Node.node
-node-visited c = rw c.in-Node.is at (rw c.in-Some.is at c.in_ok-visit.ensures.node)
+node-visited c = rw c.in-Node.is at (rw c.in-Some.is at c.next.ensures.node)
 
-pub visits-smaller-in-Continue-branch-8 : goal.visits-smaller-in-Continue-branch-8
-visits-smaller-in-Continue-branch-8 c =
+pub visits-smaller-in-Continue-branch-4 : goal.visits-smaller-in-Continue-branch-4
+visits-smaller-in-Continue-branch-4 c =
     let dom = c.args.dom.now in
-    let m = (goal.at.visits-smaller-in-Continue-branch-8 c).In-Node in
+    let m = (goal.at.visits-smaller-in-Continue-branch-4 c).In-Node in
     let ps = c.next.new.self in
-    let plan = c.in_ok-plan-in-Node.plan in
+    let plan = plan_at (map rule_of c.args.rules.now) c.args.dom.now c.in-Node.node in
     let h = c.in-Node.node in
     subst (λ qs. work dom (coming dom qs) < work dom (coming dom c.visits.cursor)) (sym c.in_ok-convert_node-in-Node.ensures.cursor)
-    (node-less dom c.get_document-document.ensures.forest plan h c.visits.cursor ps (node-visited m) (comes-node m))
+    (node-less dom c.get_document.ensures.forest plan h c.visits.cursor ps (node-visited m) (comes-node m))
 
-pub visits-preserved-in-Continue-branch-8 : goal.visits-preserved-in-Continue-branch-8
-visits-preserved-in-Continue-branch-8 c =
+pub visits-preserved-in-Continue-branch-4 : goal.visits-preserved-in-Continue-branch-4
+visits-preserved-in-Continue-branch-4 c =
     let dom = c.args.dom.now in
     let rules = map rule_of c.args.rules.now in
-    let m = (goal.at.visits-preserved-in-Continue-branch-8 c).In-Node in
+    let m = (goal.at.visits-preserved-in-Continue-branch-4 c).In-Node in
     let holds = λ (p : Position). IsNode dom p.element in
     let ps = c.next.new.self in
-    let plan = c.in_ok-plan-in-Node.plan in
+    let plan = plan_at (map rule_of c.args.rules.now) c.args.dom.now c.in-Node.node in
     let h = c.in-Node.node in
     record {
-      comes = went_on rules dom c.get_document-document.ensures.forest plan h c.visits.cursor ps c.convert_node-in-Node.new.cursor
-          c.visits.conversion c.convert_node-in-Node.new.conversion c.in_ok-plan-in-Node.ensures.ok (comes-node m)
+      comes = went_on rules dom c.get_document.ensures.forest plan h c.visits.cursor ps c.convert_node-in-Node.new.cursor
+          c.visits.conversion c.convert_node-in-Node.new.conversion refl (comes-node m)
           c.in_ok-convert_node-in-Node.ensures.cursor c.in_ok-convert_node-in-Node.ensures.ok c.visits.invariant.comes;
       nodes = subst (All holds) (sym c.in_ok-convert_node-in-Node.ensures.cursor)
-          (followed-nodes rules dom plan h ps (node-visited m) c.in_ok-visit.ensures.nodes);
+          (followed-nodes rules dom plan h ps (node-visited m) c.next.ensures.nodes);
     }
 
 pub returns-in_err-convert_node-clause-err : goal.returns-in_err-convert_node-clause-err
 returns-in_err-convert_node-clause-err c =
     let e = c.in_err-convert_node.field-0.0 in
     fails-handed c.from_residual-in_err-convert_node.result e _ c.from_residual-in_err-convert_node.ensures.1
-    (start-fails (map rule_of c.args.rules.now) c.args.dom.now c.get_document-document.ensures.forest e c.in_ok-plan.plan
-    c.get_document-document.result c.in_ok-conversion.conversion c.in_ok-plan.ensures.ok c.get_document-document.ensures.document
+    (start-fails (map rule_of c.args.rules.now) c.args.dom.now c.get_document.ensures.forest e (plan_at (map rule_of c.args.rules.now) c.args.dom.now c.get_document.result)
+    c.get_document.result c.in_ok-conversion.conversion refl c.get_document.ensures.document
     c.in_ok-conversion.ensures.ok c.in_err-convert_node.ensures.err)
 
 pub returns-in_err-convert_node-in-Node-clause-err : goal.returns-in_err-convert_node-in-Node-clause-err
@@ -76,8 +77,8 @@ returns-in_err-convert_node-in-Node-clause-err c =
     let m = (goal.at.returns-in_err-convert_node-in-Node-clause-err c).In-Node in
     let e = c.in_err-convert_node-in-Node.field-0.0 in
     fails-handed c.from_residual-in_err-convert_node-in-Node.result e _ c.from_residual-in_err-convert_node-in-Node.ensures.1
-    (node-fails (map rule_of c.args.rules.now) c.args.dom.now c.get_document-document.ensures.forest e c.in_ok-plan-in-Node.plan
-    c.in-Node.node c.visits.cursor c.next.new.self c.visits.conversion c.in_ok-plan-in-Node.ensures.ok (comes-node m)
+    (node-fails (map rule_of c.args.rules.now) c.args.dom.now c.get_document.ensures.forest e (plan_at (map rule_of c.args.rules.now) c.args.dom.now c.in-Node.node)
+    c.in-Node.node c.visits.cursor c.next.new.self c.visits.conversion refl (comes-node m)
     c.visits.invariant.comes c.in_err-convert_node-in-Node.ensures.err)
 
 pub returns-in_err-close-in-Close-clause-err : goal.returns-in_err-close-in-Close-clause-err
@@ -85,13 +86,13 @@ returns-in_err-close-in-Close-clause-err c =
     let e = c.in_err-close-in-Close.field-0.0 in
     fails-handed c.from_residual-in_err-close-in-Close.result e _ c.from_residual-in_err-close-in-Close.ensures.1
     (close-fails (map rule_of c.args.rules.now) c.args.dom.now e c.visits.cursor c.next.new.self c.visits.conversion
-    (rw c.in-Close.is at (rw c.in-Some.is at c.in_ok-visit.ensures.visit)) c.visits.invariant.comes c.in_err-close-in-Close.ensures.err)
+    (rw c.in-Close.is at (rw c.in-Some.is at c.next.ensures.visit)) c.visits.invariant.comes c.in_err-close-in-Close.ensures.err)
 
 pub returns-clause-ok : goal.returns-clause-ok
 returns-clause-ok c =
     let dom = c.args.dom.now in
     let rules = map rule_of c.args.rules.now in
-    let over : coming dom c.visits.cursor ≡ [] = rw c.in_default.is at c.in_ok-visit.ensures.visit in
+    let over : coming dom c.visits.cursor ≡ [] = rw c.in_default.is at c.next.ensures.visit in
     let left = one_left rules (tree_of dom 0) c.visits.conversion (ended rules dom c.visits.cursor c.visits.conversion over c.visits.invariant.comes) in
     IfOk-weaker c.into_entries.result _ _ (λ entries is. left.2 ∙ sym is) (c.into_entries.ensures.ok left.0 left.1)
 
@@ -99,6 +100,6 @@ pub returns-clause-err : goal.returns-clause-err
 returns-clause-err c =
     let dom = c.args.dom.now in
     let rules = map rule_of c.args.rules.now in
-    let over : coming dom c.visits.cursor ≡ [] = rw c.in_default.is at c.in_ok-visit.ensures.visit in
+    let over : coming dom c.visits.cursor ≡ [] = rw c.in_default.is at c.next.ensures.visit in
     let left = one_left rules (tree_of dom 0) c.visits.conversion (ended rules dom c.visits.cursor c.visits.conversion over c.visits.invariant.comes) in
     IfErr-weaker c.into_entries.result _ _ (λ e fails. fails-same e left.0.written _ (sym left.2) fails) (c.into_entries.ensures.err left.0 left.1)

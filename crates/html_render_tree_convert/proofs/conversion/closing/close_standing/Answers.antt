@@ -1,16 +1,19 @@
-use Rattle.std.proofs.Common.{sym, ◌∙◌}
-use Rattle.html_render_tree_convert.specs.Seen.{meant}
-use Rattle.html_render_tree_convert.proofs.ClosingSteps.{node-standing, rows-standing}
+use Rattle.std.proofs.Common.{◌||◌, if◌then◌else◌, sym, ap, ◌∙◌}
+use Rattle.html_render_tree_mapping.specs.Results.{Contents}
+use Rattle.html_render_tree_convert.specs.Closing.{is_completed, is_parts, role_left}
+use Rattle.html_render_tree_convert.specs.Held.{due_of}
+use Rattle.html_render_tree_convert.specs.Levels.{added}
+use Rattle.html_render_tree_convert.specs.OpenElements.{leaves}
+use Rattle.html_render_tree_convert.specs.Seen.{has_entry}
+use Rattle.html_render_tree_convert.proofs.ClosingSteps.{node-standing}
+use Rattle.html_render_tree_convert.proofs.Entries.{or-false}
 use Rattle.html_render_tree_convert.proofs.conversion.closing.close_standing.Goals as goal
 
-pub returns-then-has_entry-clause-ok : goal.returns-then-has_entry-clause-ok
-returns-then-has_entry-clause-ok c =
-    node-standing c.args.element c.args.parent.now c.close_node.new.parent c.args.tree.now c.write_back.new.tree c.close_node.new.tree
-    (meant c.role_left-role.result) c.has_children_left-has_children.result c.in_ok-write_back.ensures.ok c.role_left-role.ensures
-    c.has_children_left-has_children.ensures c.close_node.result (sym c.has_entry-has_entry.ensures ∙ c.if-has_entry.true) c.close_node.ensures.ok
-
-pub returns-else-has_entry-clause-ok : goal.returns-else-has_entry-clause-ok
-returns-else-has_entry-clause-ok c =
-    rows-standing c.args.element c.args.parent.now c.close_rows.new.parent c.args.tree.now c.write_back.new.tree c.close_rows.new.tree
-    (meant c.role_left-role.result) c.has_children_left-has_children.result c.in_ok-write_back.ensures.ok c.role_left-role.ensures
-    c.has_children_left-has_children.ensures c.close_rows.result (sym c.has_entry-has_entry.ensures ∙ c.if-has_entry.false) c.close_rows.ensures.ok
+pub returns-in-Node-clause-ok : goal.returns-in-Node-clause-ok
+returns-in-Node-clause-ok c =
+    let o = c.args.element in
+    node-standing o c.args.parent.now c.close_node.new.parent c.args.tree.now c.write_due.new.tree c.close_node.new.tree
+    Contents o.has_children (c.in_ok-write_due.ensures.ok ∙ ap (λ k. if is_completed k then added (leaves (due_of o.due).back) c.args.tree.now else c.args.tree.now) (sym c.in-Node.is))
+    (sym (ap role_left c.in-Node.is))
+    (sym (or-false o.has_children) ∙ ap (λ k. o.has_children || is_parts k) (sym c.in-Node.is))
+    c.close_node.result (ap has_entry c.in-Node.is) c.close_node.ensures.ok

@@ -1,7 +1,7 @@
 use Rattle.std.proofs.Common.{◌≡◌}
 use Rattle.html_render_tree_convert.specs.Levels.{added}
 use Rattle.html_render_tree_convert.specs.OpenElements.{leaves}
-use Rattle.html_render_tree_convert.proofs.conversion.opening.put_all.Given as goal
+use Rattle.html_render_tree_convert.proofs.due.put_all.Given as goal
 
 abbrev pub invariant-loop-node : goal.invariant-loop-node
 invariant-loop-node l = l.tree ≡ added (leaves l.yielded) l.initial.tree

@@ -1,9 +1,0 @@
-use Rattle.std.proofs.Common.{[], ◌∷◌, ap, ◌∙◌}
-use Rattle.html_render_tree_convert.specs.Levels.{added, leaf}
-use Rattle.html_render_tree_convert.proofs.SeenLemmas.{added-leaf}
-use Rattle.html_render_tree_convert.proofs.conversion.opening.put_all.Goals as goal
-
-pub loop-node-preserved : goal.loop-node-preserved
-loop-node-preserved c =
-    let n = c.in-Some.node in
-    c.in_ok-put.ensures.ok ∙ ap (added (leaf n ∷ [])) c.loop-node.invariant ∙ added-leaf c.loop-node.yielded n c.args.tree.now
