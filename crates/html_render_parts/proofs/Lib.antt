@@ -12,4 +12,5 @@ pub mod RisingEnds
 pub mod RowAfterRow
 pub mod RowsOfCells
 pub mod SideBySide
+pub mod SimpleRows
 pub mod Vectors

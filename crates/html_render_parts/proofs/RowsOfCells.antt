@@ -1,5 +1,5 @@
 -- The rows of a table that aren't placed yet, one after another.
-use Rattle.std.proofs.Common.{◌≡◌, ℕ, ◌+◌, ◌<◌, ◌≤◌, true, false, List, [], ◌∷◌, Some, length, get_or, drop, map, All, refl, sym, ap, ◌∙◌, subst, arith}
+use Rattle.std.proofs.Common.{◌≡◌, ℕ, ◌+◌, ◌<◌, ◌≤◌, true, false, List, [], ◌∷◌, Some, length, get_or, drop, map, All, refl, sym, ap, ◌∙◌, subst, arith, inl, inr}
 use Rattle.std.proofs.Common.{Bool, Err, IfErr, IfOk, MatchBool, Ok, Result}
 use Rattle.std.specs.Global.{Vec}
 use Rattle.std.proofs.lemmas.List.{drop_all, drop_more, get_or-map, length-map}
@@ -9,12 +9,13 @@ use Rattle.html_render_dom_values.specs.declared.errors.Error.TheVariants.{TooNa
 use Rattle.html_render_parts.specs.declared.table.cells.GridCell.{GridCell}
 use Rattle.html_render_parts.specs.declared.table.placement.Place.{Place}
 use Rattle.html_render_parts.specs.declared.table.placement.PositionedCell.{PositionedCell}
-use Rattle.html_render_parts.specs.Placement.{bottom_rows, lists, rows_from}
+use Rattle.html_render_parts.specs.Placement.{bottom_rows, lists, own_from, own_rows_from, rows_from}
 use Rattle.html_render_parts.specs.PlacementSteps.{AreAhead, IsNextBottom, Placing, places_ahead, with_next_row}
 use Rattle.html_render_parts.specs.Grid.{positions_fit}
 use Rattle.html_render_parts.specs.TableCells.{CellGrid, IsCellGrid, columns_of, span_on, spans_on}
 use Rattle.html_render_parts.specs.Refusal.{Fails}
 use Rattle.html_render_parts.proofs.CellsOnColumns.{IsWithin, cells-are}
+use Rattle.html_render_parts.proofs.NumberTests.{ltb-tells}
 use Rattle.html_render_parts.proofs.RowAfterRow.{fits-bottom, fits-next, next-is, next-past}
 use Rattle.html_render_parts.proofs.SideBySide.{are-ordered}
 use Rattle.html_render_parts.proofs.Vectors.{at-vector}
@@ -25,13 +26,15 @@ IsOrdered p = p.start ≤ p.end
 -- at first no row is placed
 pub all-ahead : (g : CellGrid) → IsCellGrid g → AreAhead g 0 []
 all-ahead g h = record {
+  table = h;
+  own = refl;
   within = omega arith;
   fits = (cells-are (spans_on g) g h.own).0;
   ordered = are-ordered (spans_on g) h.valid;
 }
 
 -- the next of the table's own rows and those after it, by their spans
-own-ahead : (g : CellGrid) (row : ℕ) (cells : List GridCell) → row < length g.rows → get_or g.rows row cells ≡ cells →
+pub own-ahead : (g : CellGrid) (row : ℕ) (cells : List GridCell) → row < length g.rows → get_or g.rows row cells ≡ cells →
     drop row (spans_on g) ≡ map (span_on g.edges) cells ∷ drop (row + 1) (spans_on g)
 own-ahead g row cells inside at =
     let spans = map (span_on g.edges) cells in
@@ -62,11 +65,19 @@ own-on_edges g rows row cells same inside is h =
     (λ c w. let most = w.0 in let some = w.1 in omega arith) cells.items
     (at-vector (All (IsWithin (columns_of g))) rows row cells (subst (All (All (IsWithin (columns_of g)))) (sym same) h) inside is)
 
+none-ahead : (g : CellGrid) (row : ℕ) → length g.rows ≤ row → drop row (spans_on g) ≡ []
+none-ahead g row past = drop_all row (spans_on g) (subst (λ n. n ≤ row) (sym (length-map g.rows (map (span_on g.edges)))) past)
+
 -- after the table's own rows follow the rows below the last one
 bottom-ahead : (g : CellGrid) (row : ℕ) (hung : List PositionedCell) → length g.rows ≤ row → places_ahead g row hung ≡ bottom_rows hung
-bottom-ahead g row hung past =
-    let more : length (spans_on g) ≤ row = subst (λ n. n ≤ row) (sym (length-map g.rows (map (span_on g.edges)))) past in
-    ap (rows_from row hung) (drop_all row (spans_on g) more)
+bottom-ahead g row hung past = ap (rows_from row hung) (none-ahead g row past)
+
+-- what follows an element at an index
+drop-next : {X : Type 0} (xs : List X) (i : ℕ) (x : X) (rest : List X) → drop i xs ≡ x ∷ rest → drop (i + 1) xs ≡ rest
+drop-next xs i x rest e = elim (ltb-tells i (length xs)) [
+  | inl t ↦ (let f : get_or xs i x ∷ drop (i + 1) xs ≡ x ∷ rest = sym (drop_more xs i x t.1) ∙ e in cc)
+  | inr t ↦ (let f : [] ≡ x ∷ rest = sym (drop_all i xs t.1) ∙ e in cc)
+]
 
 -- whether `next` places the first of these rows, and the others remain
 pub record IsAhead (g : CellGrid) (row : ℕ) (hung : List PositionedCell) (row' : ℕ) (next : Placing) : Type 0 where
@@ -84,9 +95,14 @@ own-next g row cells done next inside at h made =
     let is = next-is row spans done next made in
     let places : places_ahead g row done.hanging ≡ next.places ∷ places_ahead g (row + 1) next.hanging =
     rw (here, is.places, is.hangs_on) refl in
+    let own : drop row (own_rows_from 0 [] (spans_on g)) ≡ own_from row 0 done.hanging spans ∷ own_rows_from (row + 1) next.hanging more =
+    h.own ∙ ap (own_rows_from row done.hanging) here
+    ∙ ap (λ hs. own_from row 0 done.hanging spans ∷ own_rows_from (row + 1) hs more) (sym is.hangs_on) in
     record {
       places = places;
       ahead = record {
+        table = h.table;
+        own = drop-next (own_rows_from 0 [] (spans_on g)) row _ _ own;
         within = omega arith;
         fits = sym (fits-next row spans more done next is) ∙ ap (λ r. positions_fit (rows_from row done.hanging r)) (sym here) ∙ h.fits;
         ordered = All-tail (All IsOrdered) next.places (places_ahead g (row + 1) next.hanging) (subst (All (All IsOrdered)) places h.ordered);
@@ -100,9 +116,12 @@ bottom-next g row done next past h is =
     let old = bottom-ahead g row done.hanging past in
     let new = bottom-ahead g row next.hanging past in
     let places : places_ahead g row done.hanging ≡ next.places ∷ places_ahead g row next.hanging = rw (old, new) is.rows in
+    let none : drop row (spans_on g) ≡ [] = none-ahead g row past in
     record {
       places = places;
       ahead = record {
+        table = h.table;
+        own = h.own ∙ ap (own_rows_from row done.hanging) none ∙ sym (ap (own_rows_from row next.hanging) none);
         within = h.within;
         fits = ap positions_fit new ∙ sym (fits-bottom done next is) ∙ ap positions_fit (sym old) ∙ h.fits;
         ordered = All-tail (All IsOrdered) next.places (places_ahead g row next.hanging) (subst (All (All IsOrdered)) places h.ordered);

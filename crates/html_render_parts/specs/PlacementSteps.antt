@@ -9,9 +9,9 @@ use Rattle.html_render_parts.specs.declared.table.CellKind.{CellKind}
 use Rattle.html_render_parts.specs.declared.table.CellKind.TheVariants.{Cell, Placeholder, Gap}
 use Rattle.html_render_parts.specs.declared.table.placement.Place.{Place}
 use Rattle.html_render_parts.specs.declared.table.placement.PositionedCell.{PositionedCell}
-use Rattle.html_render_parts.specs.Placement.{hangs_into, hanging, due_end, not_due, rest_from, row_from, own_from, bottom_rows, rows_from}
+use Rattle.html_render_parts.specs.Placement.{hangs_into, hanging, due_end, not_due, rest_from, row_from, own_from, own_rows_from, bottom_rows, rows_from}
 use Rattle.html_render_parts.specs.Grid.{numbered, positions_fit}
-use Rattle.html_render_parts.specs.TableCells.{CellGrid, spans_on}
+use Rattle.html_render_parts.specs.TableCells.{CellGrid, IsCellGrid, spans_on}
 
 -- row under construction: its places, its own cells, the recorded ends, the cells that hang into the next row, and the
 -- position at which the next place begins
@@ -159,8 +159,10 @@ places_ahead g row hung = rows_from row hung (drop row (spans_on g))
 abbrev pub rows_ahead : CellGrid → ℕ → List PositionedCell → List (List PlacedCell)
 rows_ahead g row hung = map (map (numbered g.edges)) (places_ahead g row hung)
 
--- whether the rows from `row` on fit, and no place in them begins after its end
+-- whether these are rows of the table: they fit, no place in them begins after its end, and their own cells are the table's
 pub record AreAhead (g : CellGrid) (row : ℕ) (hung : List PositionedCell) : Type 0 where
+  pub table : IsCellGrid g
+  pub own : drop row (own_rows_from 0 [] (spans_on g)) ≡ own_rows_from row hung (drop row (spans_on g))
   pub within : row ≤ length g.rows
   pub fits : positions_fit (places_ahead g row hung) ≡ true
   pub ordered : All (All (λ p. p.start ≤ p.end)) (places_ahead g row hung)

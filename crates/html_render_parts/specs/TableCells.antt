@@ -16,11 +16,15 @@ pub record CellGrid : Type 0 where
 abbrev pub columns_of : CellGrid → ℕ
 columns_of g = length g.edges - 1
 
--- a cell on the columns between its own column and its end: their first and their number, and the cell's rowspan
+-- a cell of this span on the columns between its own column and its end: their first and their number, and its rowspan
+abbrev pub cell_at : (edges : List ℕ) → (column : ℕ) → Span → GridCell
+cell_at edges column s =
+    let first = rank edges column in
+    record { rowspan = s.rowspan; first = first; columns = rank edges (column + s.colspan) - first }
+
+-- a cell on the columns of its grid
 abbrev pub on_columns : (edges : List ℕ) → PositionedCell → GridCell
-on_columns edges c =
-    let first = rank edges c.column in
-    record { rowspan = c.span.rowspan; first = first; columns = rank edges (c.column + c.span.colspan) - first }
+on_columns edges c = cell_at edges c.column c.span
 
 -- cells of these rows on the columns of their grid; `None` if a place would end past 2^128 - 1
 abbrev pub cell_grid_of : List (List Span) → Option CellGrid

@@ -15,6 +15,7 @@ mod gathering;
 mod laws;
 mod numbering;
 mod placement;
+mod simple;
 
 use html_render_dom_values::Error;
 use std::alloc::Global;

@@ -50,7 +50,7 @@ fn rows_of(alloc: Global, grid: &TableCells) -> Result<RowsAhead, Error>
     ensures ok { IfOk result (λ rows. rows ≡ rows_on grid.now) }
     ensures err { OnlyOutOfMemory result }
 {
-    let cells = grid.try_clone(alloc)?;
+    let cells = grid.try_clone()?;
     cells.into_rows(alloc)
 }
 

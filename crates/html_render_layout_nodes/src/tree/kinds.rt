@@ -26,7 +26,7 @@ impl Grid {
         ensures ok { IfOk result (λ grid. grid ≡ self.now) }
         ensures err { OnlyOutOfMemory result }
     {
-        let cells = self.cells().try_clone(alloc)?;
+        let cells = self.cells().try_clone()?;
         let needs = Vec::from_slice(alloc, self.needs())?;
         let mut grid = Grid::new(alloc, cells)?;
         grid.set_needs(needs);

@@ -4,21 +4,23 @@
 //! places follow from the cells and the edges: the two cells in the first row, and a gap and a placeholder in the row below
 //! it.
 
-ghost use Rattle.std.specs.Prelude.{◌≡◌, ◌+◌, ◌^◌, ◌≤◌, ◌<◌, ◌∷◌, [], All, Some, length, map, IsTrue, IfOk, IfErr, OnOk, MatchBool, MatchOption};
+ghost use Rattle.std.specs.Prelude.{◌≡◌, ◌+◌, ◌^◌, ◌≤◌, ◌<◌, ◌++◌, ◌∷◌, [], true, All, Some, length, map, IsTrue, IfOk, IfErr, OnOk, MatchBool, MatchOption};
 ghost use Rattle.std.specs.List.Sorted.{IsStrictlyIncreasing};
 ghost use Rattle.html_render_dom_values.specs.Outcome.{OnlyOutOfMemory};
-ghost use Rattle.html_render_parts.specs.Placement.{lists, own_rows_from, placed_rows};
-ghost use Rattle.html_render_parts.specs.PlacementSteps.{AreAhead, fitting_positions, places_ahead};
+ghost use Rattle.html_render_parts.specs.Placement.{hanging, lists, own_from, own_rows_from, placed_rows, rising, row_from};
+ghost use Rattle.html_render_parts.specs.PlacementSteps.{AreAhead, fitting_positions, places_ahead, row_fits, row_told, rows_ahead};
+ghost use Rattle.html_render_parts.specs.SimpleRows.{AllStoredFit, StoredFit, fitting_row, own_or_simple, own_rows_on, own_with_simple, row_on};
 ghost use Rattle.html_render_parts.specs.Grid.{AreValid, edges_of, positions_fit};
 ghost use Rattle.html_render_parts.specs.TableCells.{cell_grid_of, columns_of, on_columns, rows_on, span_on};
 ghost use Rattle.html_render_parts.specs.Refusal.{Fails};
 
 use crate::table::gathering::Positions;
 use crate::table::placement::{PositionedCell, RowPlacer};
-use crate::table::{PlacedCell, Span, numbering};
+use crate::table::{PlacedCell, Span, numbering, simple};
 use html_render_dom_values::Error;
 use std::alloc::{AllocError, Global};
 use std::marker::Model;
+use std::sync::Arc;
 
 /// Cell of a table on the columns of its grid.
 #[derive(Clone, Copy)]
@@ -31,29 +33,71 @@ pub struct GridCell {
     pub columns: usize,
 }
 
-/// Cells of a table at their own columns, row by row, and the edges of its grid.
+/// Edges of a table's grid, and the cells that it doesn't place side by side from position 0 on.
 #[derive(Drop)]
 struct PlacedCells {
     /// Edges, rising.
     edges: Vec<u128>,
-    /// Own cells of each row.
+    /// Own cells of each row; none of a simple row.
     own: Vec<Vec<PositionedCell>>,
+}
+
+/// Adds the edges of a simple row.
+#[tactic(auto, using(crate::specs::laws::Refusal::refusals))]
+fn add_simple_row(
+    cells: &[Span],
+    positions: &mut Positions,
+    ends: &mut Vec<u128>,
+) -> Result<(), Error>
+    ensures positions { OnOk result (positions.new ≡ rising (positions.old ++ row_told 0 [] cells.now)) }
+    ensures fits { OnOk result (row_fits (row_from 0 [] cells.now) ≡ true) }
+    ensures err { IfErr result (λ e. Fails e (fitting_row (row_from 0 [] cells.now))) }
+{
+    simple::put_ends(ends, cells)?;
+    positions.add(ends)?;
+    Ok(())
+}
+
+/// Places the next row of a table, and adds its edges. Returns its own cells; none of a simple row. `ends` is a buffer.
+fn place_next_own(
+    alloc: Global,
+    row: usize,
+    cells: &[Span],
+    placer: &mut RowPlacer,
+    positions: &mut Positions,
+    ends: &mut Vec<u128>,
+) -> Result<Vec<PositionedCell>, Error>
+    ensures hanging { OnOk result (placer.new.hanging ≡ hanging (row + 1) (placer.old.hanging ++ own_from row 0 placer.old.hanging cells.now)) }
+    ensures positions { OnOk result (positions.new ≡ rising (positions.old ++ row_told 0 placer.old.hanging cells.now)) }
+    ensures fits { OnOk result (row_fits (row_from 0 placer.old.hanging cells.now) ≡ true) }
+    ensures own { IfOk result (λ own. own_or_simple row cells.now own.items ≡ own_from row 0 placer.old.hanging cells.now) }
+    ensures err { IfErr result (λ e. Fails e (fitting_row (row_from 0 placer.old.hanging cells.now))) }
+{
+    if placer.hangs_nothing() && simple::spans_end(cells) {
+        add_simple_row(cells, positions, ends)?;
+        return Ok(Vec::new(alloc));
+    }
+    placer.place_row(row, cells)?;
+    positions.add(placer.told())?;
+    let own = Vec::from_slice(alloc, placer.own())?;
+    Ok(own)
 }
 
 /// Places the rows of a table, and returns their own cells and the edges. The other places aren't stored.
 fn place_cells(alloc: Global, rows: &[Vec<Span>]) -> Result<PlacedCells, Error>
     ensures fits { IfOk result (λ p. IsTrue (positions_fit (placed_rows (lists rows.now)))) }
     ensures edges { IfOk result (λ p. p.edges.items ≡ edges_of (placed_rows (lists rows.now))) }
-    ensures own { IfOk result (λ p. lists p.own.items ≡ own_rows_from 0 [] (lists rows.now)) }
+    ensures own { IfOk result (λ p. own_with_simple 0 (lists rows.now) (lists p.own.items) ≡ own_rows_from 0 [] (lists rows.now)) }
+    ensures count { IfOk result (λ p. length p.own.items ≡ length rows.now) }
     ensures err { IfErr result (λ e. Fails e (fitting_positions (placed_rows (lists rows.now)))) }
 {
     let mut placer = RowPlacer::new(alloc);
     let mut positions = Positions::zero(alloc)?;
+    let mut ends = Vec::new(alloc);
     let mut own = Vec::with_capacity(alloc, rows.len())?;
     for (row, cells) in rows.iter().enumerate() {
-        placer.place_row(row, cells)?;
-        positions.add(placer.told())?;
-        own.push(Vec::from_slice(alloc, placer.own())?)?;
+        let placed = place_next_own(alloc, row, cells, &mut placer, &mut positions, &mut ends)?;
+        own.push(placed)?;
     }
     'bottom: while placer.place_bottom_row()? {
         positions.add(placer.told())?;
@@ -62,27 +106,8 @@ fn place_cells(alloc: Global, rows: &[Vec<Span>]) -> Result<PlacedCells, Error>
     Ok(PlacedCells { edges, own })
 }
 
-/// Returns a cell on the columns of its grid. `guess` is the expected first column: it saves a search if it is right.
-fn cell_on(edges: &[u128], cell: &PositionedCell, guess: usize) -> GridCell
-    requires rising { IsStrictlyIncreasing edges.now }
-    requires fits { cell.now.column + cell.now.span.colspan < 2 ^ 128 }
-    ensures { result ≡ on_columns edges.now cell.now }
-{
-    let first = numbering::rank_near(edges, cell.column, guess);
-    let end = numbering::rank_near(
-        edges,
-        cell.column + cell.span.colspan,
-        first.saturating_add(1),
-    );
-    GridCell {
-        rowspan: cell.span.rowspan,
-        first,
-        columns: end - first,
-    }
-}
-
-/// Returns the cells of a row on the columns of their grid.
-fn row_on(
+/// Returns placed cells of a row on the columns of their grid.
+fn placed_on(
     alloc: Global,
     edges: &[u128],
     cells: &[PositionedCell],
@@ -94,39 +119,48 @@ fn row_on(
     let mut row = Vec::with_capacity(alloc, cells.len())?;
     let mut behind: usize = 0;
     for cell in cells {
-        let placed = cell_on(edges, cell, behind);
+        let placed = simple::cell_at(edges, cell.column, &cell.span, behind);
         behind = placed.first.saturating_add(placed.columns);
         row.push(placed)?;
     }
     Ok(row)
 }
 
-/// Returns the cells of all rows on the columns of their grid.
+/// Returns the cells of a row on the columns of their grid. `own` are its own cells; none of a simple row.
+fn row_on(
+    alloc: Global,
+    edges: &[u128],
+    cells: &[Span],
+    own: &[PositionedCell],
+) -> Result<Vec<GridCell>, AllocError>
+    requires rising { IsStrictlyIncreasing edges.now }
+    requires fits { StoredFit cells.now own.now }
+    ensures { IfOk result (λ v. v.items ≡ row_on edges.now cells.now own.now) }
+{
+    if own.is_empty() {
+        simple::cells_on(alloc, edges, cells)
+    } else {
+        placed_on(alloc, edges, own)
+    }
+}
+
+/// Returns the cells of all rows on the columns of their grid. `own` are the own cells of each row; none of simple rows.
 fn rows_on_columns(
     alloc: Global,
     edges: &[u128],
+    rows: &[Vec<Span>],
     own: &[Vec<PositionedCell>],
 ) -> Result<Vec<Vec<GridCell>>, AllocError>
     requires rising { IsStrictlyIncreasing edges.now }
-    requires fits { All (λ cells. All (λ c. c.column + c.span.colspan < 2 ^ 128) cells) (lists own.now) }
-    ensures { IfOk result (λ v. lists v.items ≡ map (map (on_columns edges.now)) (lists own.now)) }
+    requires count { length own.now ≡ length rows.now }
+    requires fits { AllStoredFit (lists rows.now) (lists own.now) }
+    ensures { IfOk result (λ v. lists v.items ≡ own_rows_on edges.now (lists rows.now) (lists own.now)) }
 {
-    let mut rows = Vec::with_capacity(alloc, own.len())?;
-    for cells in own {
-        rows.push(row_on(alloc, edges, cells)?)?;
+    let mut cells = Vec::with_capacity(alloc, rows.len())?;
+    for (row, spans) in rows.iter().enumerate() {
+        cells.push(row_on(alloc, edges, spans, &own[row])?)?;
     }
-    Ok(rows)
-}
-
-/// Returns a copy of the cells of all rows.
-fn copied_rows(alloc: Global, rows: &[Vec<GridCell>]) -> Result<Vec<Vec<GridCell>>, AllocError>
-    ensures { IfOk result (λ v. lists v.items ≡ lists rows.now) }
-{
-    let mut copy = Vec::with_capacity(alloc, rows.len())?;
-    for cells in rows {
-        copy.push(Vec::from_slice(alloc, cells)?)?;
-    }
-    Ok(copy)
+    Ok(cells)
 }
 
 /// Replaces `spans` by the spans of a row's cells.
@@ -145,13 +179,19 @@ fn put_spans(spans: &mut Vec<Span>, edges: &[u128], cells: &[GridCell]) -> Resul
     Ok(())
 }
 
-/// Cells of a table on the columns of its grid, row by row, and the edges of the grid.
+/// Edges of a table's grid, and its cells on the columns between them.
 #[derive(Drop)]
-pub struct TableCells {
+struct CellRows {
     /// Edges: 0 and the ends of all places, each once, rising. There is one more than there are columns.
     edges: Vec<u128>,
     /// Own cells of each row.
     rows: Vec<Vec<GridCell>>,
+}
+
+/// Cells of a table on the columns of its grid, row by row, and the edges of the grid. Copies share them.
+#[derive(Drop)]
+pub struct TableCells {
+    shared: Arc<CellRows>,
 }
 
 impl Model for TableCells {
@@ -160,9 +200,9 @@ impl Model for TableCells {
 
     ghost Value = { CellGrid };
 
-    ghost view = { λ c. record { edges = c.edges.items; rows = lists c.rows.items } };
+    ghost view = { λ c. record { edges = c.shared.value.edges.items; rows = lists c.shared.value.rows.items } };
 
-    ghost invariant = { λ c. IsCellGrid (record { edges = c.edges.items; rows = lists c.rows.items }) };
+    ghost invariant = { λ c. IsCellGrid (record { edges = c.shared.value.edges.items; rows = lists c.shared.value.rows.items }) };
 }
 
 impl TableCells {
@@ -179,11 +219,10 @@ impl TableCells {
         ensures err { IfErr result (λ e. Fails e (cell_grid_of (lists rows.now))) }
     {
         let placed = place_cells(alloc, rows)?;
-        let rows = rows_on_columns(alloc, &placed.edges, &placed.own)?;
-        Ok(TableCells {
-            edges: placed.edges,
-            rows,
-        })
+        let rows = rows_on_columns(alloc, &placed.edges, rows, &placed.own)?;
+        let edges = placed.edges;
+        let shared = Arc::new(alloc, CellRows { edges, rows })?;
+        Ok(TableCells { shared })
     }
 
     /// Returns the edges of the grid: 0 and the ends of all places, each once, rising.
@@ -191,14 +230,14 @@ impl TableCells {
         ensures edges { result.now ≡ self.now.edges }
         ensures rising { IsStrictlyIncreasing result.now }
     {
-        self.edges.as_slice()
+        self.shared.edges.as_slice()
     }
 
     /// Returns the number of columns of the table.
     pub fn columns(&self) -> usize
         ensures { result ≡ columns_of self.now }
     {
-        self.edges.len().saturating_sub(1)
+        self.shared.edges.len().saturating_sub(1)
     }
 
     /// Returns the own cells of each row, without placeholders and gaps.
@@ -206,21 +245,20 @@ impl TableCells {
         ensures rows { lists result.now ≡ self.now.rows }
         ensures on_columns { All (λ cells. All (λ c. (c.first + c.columns ≤ columns_of self.now) × (0 < c.columns)) cells) self.now.rows }
     {
-        self.rows.as_slice()
+        self.shared.rows.as_slice()
     }
 
-    /// Returns a copy.
+    /// Returns a copy, which shares the cells in memory.
     ///
     /// # Errors
     ///
-    /// `OutOfMemory`.
-    pub fn try_clone(&self, alloc: Global) -> Result<TableCells, Error>
+    /// `OutOfMemory` if there are 2^63 copies.
+    pub fn try_clone(&self) -> Result<TableCells, Error>
         ensures ok { IfOk result (λ copy. copy ≡ self.now) }
         ensures err { OnlyOutOfMemory result }
     {
-        let edges = Vec::from_slice(alloc, &self.edges)?;
-        let rows = copied_rows(alloc, &self.rows)?;
-        Ok(TableCells { edges, rows })
+        let shared = self.shared.clone()?;
+        Ok(TableCells { shared })
     }
 
     /// Returns an iterator over the rows of the table, from the first on, with the places in each.
@@ -241,7 +279,7 @@ impl TableCells {
         ensures { result ≡ rows_on self }
     {
         // the proof reads here that these are the cells of a table
-        let _ = &self.edges;
+        let _ = &self.shared;
         RowsLeft {
             cells: self,
             row: 0,
@@ -249,6 +287,28 @@ impl TableCells {
             spans: Vec::new(alloc),
         }
     }
+}
+
+/// Returns the places of the next row of a table if it is simple. Otherwise `None`, and nothing changes.
+fn next_simple(
+    alloc: Global,
+    cells: &TableCells,
+    row: &mut usize,
+    placer: &RowPlacer,
+) -> Result<Option<Vec<PlacedCell>>, AllocError>
+    requires { AreAhead cells.now row.old placer.now.hanging }
+    ensures placed { IfOk result (λ found. MatchOption found (row.new ≡ row.old)
+        (λ places. rows_ahead cells.now row.old placer.now.hanging ≡ places.items ∷ rows_ahead cells.now row.new placer.now.hanging)) }
+    ensures ahead { AreAhead cells.now row.new placer.now.hanging }
+{
+    if let Some(own) = cells.rows().get(*row) {
+        if placer.hangs_nothing() && simple::cells_end(own) {
+            let places = simple::places_on(alloc, cells.edges(), own)?;
+            *row += 1;
+            return Ok(Some(places));
+        }
+    }
+    Ok(None)
 }
 
 /// Places the next row of a table, and returns whether there is one.
@@ -309,6 +369,9 @@ impl RowsLeft {
         ensures ok { IfOk result (λ row. MatchOption row ((self.old ≡ []) × (self.new ≡ [])) (λ places. self.old ≡ places.items ∷ self.new)) }
         ensures err { OnlyOutOfMemory result }
     {
+        if let Some(places) = next_simple(alloc, &self.cells, &mut self.row, &self.placer)? {
+            return Ok(Some(places));
+        }
         let placed = place_next(
             &self.cells,
             &mut self.row,

@@ -1,8 +1,10 @@
-use Rattle.std.proofs.Common.{◌≡◌, ◌+◌, ◌++◌, ◌∷◌, [], drop, ap, ◌∙◌, subst}
-use Rattle.std.proofs.lemmas.List.{map_push}
-use Rattle.html_render_parts.specs.Placement.{lists, own_rows_from, placed_rows, rows_from}
+use Rattle.std.proofs.Common.{◌≡◌, ◌+◌, ◌++◌, ◌∷◌, [], drop, length, ap, ◌∙◌, subst, refl, sym, append_assoc}
+use Rattle.std.proofs.lemmas.List.{append-nil, drop_all, length-append, map_push}
+use Rattle.html_render_parts.specs.Placement.{lists, own_from, own_rows_from, placed_rows, row_from, rows_from}
+use Rattle.html_render_parts.specs.PlacementSteps.{Placing, row_told}
+use Rattle.html_render_parts.specs.SimpleRows.{own_or_simple, own_with_simple}
 use Rattle.html_render_parts.proofs.GatheringEnds.{IsGathered, gathered-bottom, gathered-next}
-use Rattle.html_render_parts.proofs.RowAfterRow.{next-is, own-next}
+use Rattle.html_render_parts.proofs.RowAfterRow.{IsNext}
 use Rattle.html_render_parts.proofs.Vectors.{lists-drop}
 use Rattle.html_render_parts.proofs.table.cells.place_cells.Goals as goal
 
@@ -13,24 +15,50 @@ loop-row-preserved c =
     let cells = c.index-rows-row.result.items in
     let more = lists (drop (row + 1) c.args.rows.now) in
     let done = c.loop-row.placer in
-    let next = c.place_row.new.self in
+    let hung = done.hanging in
+    let made = c.in_ok-placed.placed.items in
+    let next : Placing = record {
+      places = row_from 0 hung cells;
+      own = own_from row 0 hung cells;
+      told = row_told 0 hung cells;
+      hanging = c.place_next_own.new.placer.hanging;
+    } in
     let split = lists-drop c.args.rows.now row c.index-rows-row.result c.loop-row-test.true c.index-rows-row.is in
-    let is = next-is row cells done next (rw c.deref.ensures.value at c.in_ok-place_row.ensures.ok) in
-    let own : lists c.push.new.self.items ≡ lists c.loop-row.own.items ++ next.own ∷ [] =
-    ap lists c.in_ok-push.ensures.items ∙ map_push _ c.loop-row.own.items _
-    ∙ ap (λ cs. lists c.loop-row.own.items ++ cs ∷ []) (c.in_ok-from_slice.ensures.items ∙ c.own.ensures) in
+    let is : IsNext row cells done next = record {
+      places = refl;
+      own = refl;
+      told = refl;
+      hangs_on = rw c.deref.ensures.value at c.in_ok-placed.ensures.hanging;
+      fits = rw c.deref.ensures.value at c.in_ok-placed.ensures.fits;
+    } in
+    let pushed : lists c.push.new.self.items ≡ lists c.loop-row.own.items ++ made ∷ [] =
+    ap lists c.in_ok-push.ensures.items ∙ map_push _ c.loop-row.own.items _ in
+    let stored : own_or_simple row cells made ≡ own_from row 0 hung cells = rw c.deref.ensures.value at c.in_ok-placed.ensures.own in
     record {
-      gathered = rw (c.in_ok-add.ensures, c.told.ensures)
+      gathered = rw (rw c.deref.ensures.value at c.in_ok-placed.ensures.positions)
           (gathered-next (placed_rows rows) row cells more done next c.loop-row.positions is
-          (subst (λ r. IsGathered (placed_rows rows) (rows_from row done.hanging r) done.hanging c.loop-row.positions) split
+          (subst (λ r. IsGathered (placed_rows rows) (rows_from row hung r) hung c.loop-row.positions) split
           c.loop-row.invariant.gathered));
-      own = rw own (own-next (own_rows_from 0 [] rows) (lists c.loop-row.own.items) row cells more done next is
-          (subst (λ r. lists c.loop-row.own.items ++ own_rows_from row done.hanging r ≡ own_rows_from 0 [] rows) split
-          c.loop-row.invariant.own));
+      own = λ rest e. rw pushed (ap (λ o. own_with_simple 0 rows o) (append_assoc (lists c.loop-row.own.items) (made ∷ []) rest)
+          ∙ c.loop-row.invariant.own (made ∷ rest)
+          (subst (λ r. own_with_simple row r (made ∷ rest) ≡ own_rows_from row hung r) (sym split)
+          (ap (λ o. o ∷ own_with_simple (row + 1) more rest) stored
+          ∙ ap (λ r. own_from row 0 hung cells ∷ r) (e ∙ ap (λ hs. own_rows_from (row + 1) hs more) is.hangs_on))));
+      count = ap length c.in_ok-push.ensures.items ∙ length-append c.loop-row.own.items (_ ∷ []) ∙ ap (λ n. n + 1) c.loop-row.invariant.count;
     }
 
 pub bottom-preserved : goal.bottom-preserved
 bottom-preserved c =
     let is = rw c.if-branch.true at c.in_ok-place_bottom_row.ensures.ok in
-    rw (c.in_ok-add-2.ensures, c.told-in-bottom.ensures)
+    rw (c.in_ok-add.ensures, c.told.ensures)
     (gathered-bottom (placed_rows (lists c.args.rows.now)) c.bottom.placer c.place_bottom_row.new.self c.bottom.positions is c.bottom.invariant)
+
+pub returns-clause-own : goal.returns-clause-own
+returns-clause-own c =
+    let rows = c.args.rows.now in
+    let row = c.loop-row.row in
+    let hung = c.loop-row.placer.hanging in
+    let own = lists c.loop-row.own.items in
+    let none = drop_all row rows c.loop-row-test.false in
+    ap (own_with_simple 0 (lists rows)) (sym (append-nil own))
+    ∙ c.loop-row.invariant.own [] (subst (λ r. own_with_simple row (lists r) [] ≡ own_rows_from row hung (lists r)) (sym none) refl)

@@ -1,5 +1,7 @@
-use Rattle.std.proofs.Common.{◌≡◌, ◌++◌, [], drop, length}
+use Rattle.std.proofs.Common.{◌≡◌, ◌++◌, [], List, drop, length}
+use Rattle.html_render_parts.specs.declared.table.placement.PositionedCell.{PositionedCell}
 use Rattle.html_render_parts.specs.Placement.{bottom_rows, lists, own_rows_from, placed_rows, rows_from}
+use Rattle.html_render_parts.specs.SimpleRows.{own_with_simple}
 use Rattle.html_render_parts.proofs.GatheringEnds.{IsGathered}
 use Rattle.html_render_parts.proofs.table.cells.place_cells.Given as goal
 
@@ -8,7 +10,9 @@ invariant-loop-row l =
     let hung = l.placer.hanging in
     let more = lists (drop l.row l.rows) in record {
       gathered : IsGathered (placed_rows (lists l.rows)) (rows_from l.row hung more) hung l.positions;
-      own : lists l.own.items ++ own_rows_from l.row hung more ≡ own_rows_from 0 [] (lists l.rows);
+      own : (rest : List (List PositionedCell)) → own_with_simple l.row more rest ≡ own_rows_from l.row hung more →
+          own_with_simple 0 (lists l.rows) (lists l.own.items ++ rest) ≡ own_rows_from 0 [] (lists l.rows);
+      count : length l.own.items ≡ l.row;
     }
 
 abbrev pub invariant-bottom : goal.invariant-bottom

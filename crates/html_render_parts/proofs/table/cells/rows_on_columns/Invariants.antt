@@ -1,7 +1,12 @@
-use Rattle.std.proofs.Common.{◌≡◌, map, take}
+use Rattle.std.proofs.Common.{◌≡◌, ◌++◌, drop}
 use Rattle.html_render_parts.specs.Placement.{lists}
-use Rattle.html_render_parts.specs.TableCells.{on_columns}
+use Rattle.html_render_parts.specs.SimpleRows.{AllStoredFit, own_rows_on}
 use Rattle.html_render_parts.proofs.table.cells.rows_on_columns.Given as goal
 
-abbrev pub invariant-loop-cells : goal.invariant-loop-cells
-invariant-loop-cells l = lists l.rows.items ≡ map (map (on_columns l.edges)) (lists (take l.cells-index l.own))
+abbrev pub invariant-loop-row : goal.invariant-loop-row
+invariant-loop-row l =
+    let rows = lists (drop l.row l.rows) in
+    let own = lists (drop l.row l.own) in record {
+      made : lists l.cells.items ++ own_rows_on l.edges rows own ≡ own_rows_on l.edges (lists l.rows) (lists l.own);
+      fits : AllStoredFit rows own;
+    }

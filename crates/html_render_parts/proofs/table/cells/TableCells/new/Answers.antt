@@ -1,9 +1,10 @@
-use Rattle.std.proofs.Common.{◌≡◌, ◌∷◌, [], map}
+use Rattle.std.proofs.Common.{◌≡◌, ◌+◌, ◌<◌, ◌^◌, ◌∷◌, [], All, ap, map, refl, subst, sym, ◌∙◌}
 use Rattle.html_render_parts.specs.Placement.{lists, own_rows_from, placed_rows}
 use Rattle.html_render_parts.specs.Grid.{edges_of, ends}
 use Rattle.html_render_parts.specs.TableCells.{on_columns}
 use Rattle.html_render_parts.proofs.CellsOnColumns.{cells-valid, own-within}
 use Rattle.html_render_parts.proofs.EdgeRanks.{IsStrictlyIncreasing-rising}
+use Rattle.html_render_parts.proofs.SimpleRows.{all-stored_fit, rows-own}
 use Rattle.html_render_parts.proofs.table.cells.TableCells.new.Goals as goal
 
 pub rows_on_columns-requires-clause-rising : goal.rows_on_columns-requires-clause-rising
@@ -13,11 +14,28 @@ rows_on_columns-requires-clause-rising c =
 
 pub rows_on_columns-requires-clause-fits : goal.rows_on_columns-requires-clause-fits
 rows_on_columns-requires-clause-fits c =
-    rw (c.deref-2.ensures.value, c.in_ok-placed.ensures.own) (own-within (lists c.args.rows.now) c.in_ok-placed.ensures.fits)
+    let rows = lists c.args.rows.now in
+    let own = lists c.in_ok-placed.placed.own.items in
+    rw c.deref-2.ensures.value (all-stored_fit 0 rows own
+    (subst (All (All (λ d. d.column + d.span.colspan < 2 ^ 128))) (sym c.in_ok-placed.ensures.own)
+    (own-within rows c.in_ok-placed.ensures.fits)))
 
 pub invariant_of-result : goal.invariant_of-result
 invariant_of-result c =
     let rows = lists c.args.rows.now in
-    let cells : lists c.in_ok-rows.rows.items ≡ map (map (on_columns (edges_of (placed_rows rows)))) (own_rows_from 0 [] rows) =
-    rw (c.deref.ensures.value, c.in_ok-placed.ensures.edges, c.deref-2.ensures.value, c.in_ok-placed.ensures.own) at c.in_ok-rows.ensures in
-    rw (c.in_ok-placed.ensures.edges, cells) (cells-valid rows c.requires c.in_ok-placed.ensures.fits)
+    let own = lists c.in_ok-placed.placed.own.items in
+    let es = edges_of (placed_rows rows) in
+    let cells : lists c.in_ok-rows.rows.items ≡ map (map (on_columns es)) (own_rows_from 0 [] rows) =
+    (rw (c.deref.ensures.value, c.in_ok-placed.ensures.edges, c.deref-2.ensures.value) at c.in_ok-rows.ensures)
+    ∙ rows-own es 0 rows own ∙ ap (map (map (on_columns es))) c.in_ok-placed.ensures.own in
+    rw (c.in_ok-shared.ensures.ok, c.in_ok-placed.ensures.edges, cells) (cells-valid rows c.requires c.in_ok-placed.ensures.fits)
+
+pub returns-clause-ok : goal.returns-clause-ok
+returns-clause-ok c =
+    let rows = lists c.args.rows.now in
+    let own = lists c.in_ok-placed.placed.own.items in
+    let es = edges_of (placed_rows rows) in
+    let cells : lists c.in_ok-rows.rows.items ≡ map (map (on_columns es)) (own_rows_from 0 [] rows) =
+    (rw (c.deref.ensures.value, c.in_ok-placed.ensures.edges, c.deref-2.ensures.value) at c.in_ok-rows.ensures)
+    ∙ rows-own es 0 rows own ∙ ap (map (map (on_columns es))) c.in_ok-placed.ensures.own in
+    rw (c.in_ok-shared.ensures.ok, c.in_ok-placed.ensures.edges, cells, c.in_ok-placed.ensures.fits) refl
