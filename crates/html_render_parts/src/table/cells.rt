@@ -33,7 +33,7 @@ pub struct GridCell {
     pub columns: usize,
 }
 
-/// Edges of a table's grid, and the cells that it doesn't place side by side from position 0 on.
+/// Edges of a table's grid, and own cells of its rows at their own columns.
 #[derive(Drop)]
 struct PlacedCells {
     /// Edges, rising.
