@@ -42,6 +42,10 @@ table_in t i e es behind table =
     ∙ list_any-append (λ e. is_table e.node.kind) (take i (flatten t)) (drop i (flatten t))
     ∙ ap (λ l. before || any_table l) behind ∙ ap (λ b. before || (b || any_table es)) table ∙ or_right before true refl
 
+-- the estimate of a table has its preferred width
+pub sized_table : (b : Bool) (e : Estimate) → b ≡ true → sized_if b e ≡ e
+sized_table b e is = ap (λ c. sized_if c e) is
+
 module _ {D A : Type 0} (decoration : Decoration D A) (decorator : D) (settings : LayoutSettings) where
   abbrev all_sized : Forest RenderNode → Forest RenderNode
   all_sized t = measured decoration decorator settings t
@@ -57,6 +61,17 @@ module _ {D A : Type 0} (decoration : Decoration D A) (decorator : D) (settings 
       record n { kind = with_needs needs n.kind; estimate = e } ≡ found b n f
   noted b n needs e f is_needs is_estimate =
       ap (λ x. record n { kind = x; estimate = e }) is_needs ∙ ap (λ x. record n { kind = measured_kind n.kind f; estimate = x }) is_estimate
+
+  -- storing its estimate in a node that isn't a table gives the measured node
+  unmeasured : (k : NodeKind) (f : Forest RenderNode) → is_table k ≡ false → measured_kind k f ≡ k
+  unmeasured (Table grid) f plain = absurd (true≢false plain)
+  unmeasured k f plain = refl
+
+  pub noted_estimate : (b : Bool) (n : RenderNode) (e : Estimate) (f : Forest RenderNode) → is_table n.kind ≡ false →
+      e ≡ sized_if b (estimate_of decoration decorator settings n.kind f) → record n { estimate = e } ≡ found b n f
+  noted_estimate b n e f plain is_estimate =
+      ap (λ k. record n { kind = k; estimate = e }) (sym (unmeasured n.kind f plain))
+      ∙ ap (λ x. record n { kind = measured_kind n.kind f; estimate = x }) is_estimate
 
   after_sized : (t : Forest RenderNode) → after (found true) t ≡ all_sized t
   after_sized none = refl

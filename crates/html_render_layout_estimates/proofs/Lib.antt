@@ -2,6 +2,7 @@ pub mod NeedsOfCells
 pub mod WordSpans
 pub mod Wording
 pub mod Sizes
+pub mod Blocks
 pub mod Shapes
 pub mod Measuring
 pub mod Parting

@@ -1,6 +1,6 @@
 -- The preferred width of a text that is read from its start.
 use Rattle.std.proofs.Common.{◌≡◌, ℕ, ◌+◌, ◌-◌, ◌<◌, ◌≤◌, min, Bool, true, false, cond, List, [], ◌∷◌, length, drop}
-use Rattle.std.proofs.Common.{get_or, zero, suc, refl, sym, ap, subst, ◌∙◌, arith}
+use Rattle.std.proofs.Common.{get_or, zero, suc, refl, sym, ap, subst, ◌∙◌, arith, inl, inr}
 use Rattle.std.specs.List.{AllWithin}
 use Rattle.std.proofs.lemmas.List.{drop_more, drop_all}
 use Rattle.std.proofs.lemmas.Str.{chars-nil}
@@ -8,7 +8,8 @@ use Rattle.std.proofs.lemmas.Grind.{common_steps}
 use Rattle.std.specs.Str.{chars}
 use Rattle.html_render_layout_lines.specs.Character.{is_collapsible, width_of}
 use Rattle.html_render_layout_lines.specs.laws.Characters.{plain_width}
-use Rattle.html_render_layout_estimates.specs.TextSize.{collapsed_columns, inner_columns, size_of}
+use Rattle.std.proofs.lemmas.Bool.{cases_eq, cases_lt}
+use Rattle.html_render_layout_estimates.specs.TextSize.{collapsed_columns, inner_columns, size_of, IsPlainBetween}
 
 -- ---- characters
 
@@ -167,3 +168,69 @@ space-columns bs spaced within space small = ap (collapsed_columns spaced) (next
   where
     behind : (c : ℕ) → is_collapsible c ≡ true → collapsed_columns spaced (c ∷ chars (drop 1 bs)) ≡ collapsed_columns true (chars (drop 1 bs))
     behind c e = rw e refl
+
+-- ---- a text of printable ASCII in which no space follows another space
+
+-- whether the preferred width of such a text follows from its first `m` bytes, the last of which is `last`
+record Plain (bs : List ℕ) (m last : ℕ) : Type 0 where
+  pub some : 1 ≤ m
+  pub printable : 32 ≤ last
+  pub space : last ≡ 32 → Sized bs m (m - 1) true
+  pub letter : 33 ≤ last → Sized bs m m false
+
+no_space : (b : ℕ) → 32 ≤ b → (b ≡ 32 → ⊥) → 33 ≤ b
+no_space b printable other = elim (cases_lt 32 b) [
+  | inl lt ↦ omega (arith, lt)
+  | inr le ↦ absurd (other (omega (arith, le, printable)))
+]
+
+Plain-next : (bs : List ℕ) (m last : ℕ) → Plain bs m last → m < length bs → 32 ≤ get_or bs m 0 → get_or bs m 0 ≤ 126 →
+    (get_or bs m 0 ≡ 32 → last ≡ 32 → ⊥) → Plain bs (m + 1) (get_or bs m 0)
+Plain-next bs m last w within printable small single = record {
+  some = omega arith;
+  printable = printable;
+  space = λ space. subst (λ k. Sized bs (m + 1) k true) (omega arith)
+      (Sized-space bs m m m false true (w.letter (no_space last w.printable (single space))) within (ap is_collapsible space) (omega (arith, space)) refl refl);
+  letter = λ letter. elim (cases_eq last 32) [
+    | inl before ↦ Sized-letter bs m (m - 1) (m + 1) true false (w.space before) within letter small (omega (arith, w.some)) refl
+    | inr other ↦ Sized-letter bs m m (m + 1) false false (w.letter (no_space last w.printable other)) within letter small (omega arith) refl
+  ];
+}
+
+Plain-first : (bs : List ℕ) (m : ℕ) → 1 ≤ m → m ≤ length bs → 33 ≤ get_or bs 0 0 → get_or bs 0 0 ≤ 126 → IsPlainBetween bs 1 m →
+    Plain bs m (get_or bs (m - 1) 0)
+Plain-first bs zero some within low high plain = absurd (omega (arith, some))
+Plain-first bs (suc zero) some within low high plain = record {
+  some = omega arith;
+  printable = omega (arith, low);
+  space = λ space. absurd (omega (arith, space, low));
+  letter = λ letter. Sized-letter bs 0 0 1 false false (Sized-start bs) (omega (arith, within)) low high refl refl;
+}
+Plain-first bs (suc (suc m)) some within low high plain =
+    let before = Plain-first bs (suc m) (omega arith) (omega (arith, within)) low high (λ k from to. plain k from (omega (arith, to))) in
+    let here = plain (suc m) (omega arith) (omega arith) in
+    let next = Plain-next bs (suc m) (get_or bs (suc m - 1) 0) before (omega (arith, within)) here.0 here.1 here.2 in
+    subst (λ k. Plain bs k (get_or bs (k - 1) 0)) (omega arith) (subst (λ k. Plain bs (suc m + 1) (get_or bs k 0)) (omega arith) next)
+
+-- such a text that begins with a letter takes a column for each byte, but for a space at its end
+pub plain_size : (bs : List ℕ) (last : ℕ) → last + 1 ≡ length bs → 33 ≤ get_or bs 0 0 → get_or bs 0 0 ≤ 126 →
+    IsPlainBetween bs 1 (length bs) →
+    (get_or bs last 0 ≡ 32 → last ≡ size_of (chars bs)) × ((get_or bs last 0 ≡ 32 → ⊥) → length bs ≡ size_of (chars bs))
+plain_size bs last all low high plain = (
+  λ space. sym less ∙ counted (length bs - 1) true (w.space (at_last ∙ space)),
+  λ other. counted (length bs) false (w.letter (no_space (get_or bs (length bs - 1) 0) w.printable (λ e. other (sym at_last ∙ e)))),
+)
+  where
+    w : Plain bs (length bs) (get_or bs (length bs - 1) 0)
+    w = Plain-first bs (length bs) (omega (arith, all)) (omega arith) low high plain
+
+    less : length bs - 1 ≡ last
+    less = omega (arith, all)
+
+    at_last : get_or bs (length bs - 1) 0 ≡ get_or bs last 0
+    at_last = ap (λ k. get_or bs k 0) less
+
+    counted : (k : ℕ) (spaced : Bool) → Sized bs (length bs) k spaced → k ≡ size_of (chars bs)
+    counted k spaced sized =
+        let none : chars (drop (length bs) bs) ≡ [] = ap chars (drop_all (length bs) bs (omega arith)) ∙ chars-nil in
+        sym (size_on-none k spaced) ∙ ap (size_on k spaced) (sym none) ∙ sized.size

@@ -1,5 +1,5 @@
 -- The preferred width of a text: its columns on a line that is long enough for all of it.
-use Rattle.std.specs.Prelude.{ℕ, ◌+◌, ◌-◌, ◌^◌, min, Bool, true, false, List, [], ◌∷◌, if◌then◌else◌}
+use Rattle.std.specs.Prelude.{ℕ, ◌≡◌, ◌≢◌, ◌≤◌, ◌<◌, ◌+◌, ◌-◌, ◌^◌, min, slice_index, Bool, true, false, List, [], ◌∷◌, if◌then◌else◌}
 use Rattle.html_render_layout_lines.specs.Character.{is_collapsible, width_of}
 
 -- a number, limited to the greatest one of 64 bits
@@ -21,3 +21,9 @@ inner_columns (c ∷ cs) = if is_collapsible c then inner_columns cs else collap
 abbrev pub size_of : List ℕ → ℕ
 size_of [] = 0
 size_of (c ∷ cs) = if is_collapsible c then inner_columns cs + min (inner_columns cs) 1 else collapsed_columns false (c ∷ cs)
+
+-- whether the bytes from `low` up to `high` are printable ASCII, and no space among them follows another space
+abbrev pub IsPlainBetween : List ℕ → (low high : ℕ) → Type 0
+IsPlainBetween bytes low high =
+    (k : ℕ) → low ≤ k → k < high →
+    (32 ≤ slice_index bytes k) × (slice_index bytes k ≤ 126) × (slice_index bytes k ≡ 32 → slice_index bytes (k - 1) ≢ 32)

@@ -8,15 +8,15 @@ ghost use Rattle.std.specs.Prelude.{◌≡◌, ◌+◌, ◌+ℤ◌, ◌-ℤ◌, 
 ghost use Rattle.std.specs.Int.{saturate_signed, w64};
 ghost use Rattle.html_render_dom_values.specs.Outcome.{OnlyOutOfMemory};
 ghost use Rattle.html_render_layout_nodes.specs.Preorder.{flatten, forest_of};
-ghost use Rattle.html_render_layout_estimates.specs.Estimates.{trees, greatest_least, text_size, number_columns, prefix_of};
+ghost use Rattle.html_render_layout_estimates.specs.Estimates.{trees, greatest_least, total_size, text_size, number_columns, prefix_of, behind};
 ghost use Rattle.html_render_layout_estimates.specs.TextSize.{saturated};
 ghost use Rattle.html_render_layout_estimates.specs.Estimates.{measured_kind, estimate_of, measured};
-ghost use Rattle.html_render_layout_estimates.specs.Passes.{is_table, has_table, with_needs, without_size, sized_if, with_needed_sizes};
+ghost use Rattle.html_render_layout_estimates.specs.Passes.{is_table, has_table, with_needs, sized_if, with_needed_sizes};
 ghost use Rattle.html_render_layout_estimates.specs.Words.{with_words};
 
 use crate::settings::LayoutSettings;
-use crate::sized::{Measure, measure_table, total_size};
-use crate::text::{columns, size_within};
+use crate::sized::{Measure, measure_table};
+use crate::text::{columns, size, size_within};
 use crate::trees::first_tree;
 use crate::whole_words::add_words;
 use html_render_dom_values::Error;
@@ -31,24 +31,35 @@ struct Children {
     count: usize,
     /// Greatest minimum width of a tree; 0 without trees.
     min_width: usize,
+    /// Sum of the trees' preferred widths, at most `usize::MAX`.
+    preferred_width: usize,
 }
 
-/// Counts the trees in a slice of measured nodes, and finds the greatest of their minimum widths.
+/// Counts the trees in a slice of measured nodes. Finds the greatest of their minimum widths, and adds up their preferred
+/// widths.
 #[inline]
 fn children_of(nodes: &[Entry<RenderNode>]) -> Children
     requires { flatten (forest_of nodes.now) ≡ nodes.now }
     ensures count { result.count ≡ trees (forest_of nodes.now) }
     ensures min_width { result.min_width ≡ greatest_least (forest_of nodes.now) }
+    ensures preferred_width { result.preferred_width ≡ total_size (forest_of nodes.now) }
 {
     let mut count = 0;
     let mut min_width: usize = 0;
+    let mut preferred_width: usize = 0;
     let mut rest = nodes;
     while let Some(first) = first_tree(rest) {
+        let estimate = &first.node.estimate;
         count += 1;
-        min_width = min_width.max(first.node.estimate.min_width);
+        min_width = min_width.max(estimate.min_width);
+        preferred_width = preferred_width.saturating_add(estimate.preferred_width);
         rest = first.beside;
     }
-    Children { count, min_width }
+    Children {
+        count,
+        min_width,
+        preferred_width,
+    }
 }
 
 /// Returns the number of the last of `items` items that are numbered from `first`, limited to the range of `i64`.
@@ -86,7 +97,6 @@ pub fn number_columns<D: TextDecorator>(
 }
 
 /// Returns the columns of the prefix of a node with `children` children; 0 for a kind without a prefix.
-#[inline(always)]
 fn prefix_of<D: TextDecorator>(
     alloc: Global,
     decorator: &D,
@@ -124,83 +134,87 @@ fn prefix_of<D: TextDecorator>(
     }
 }
 
-/// Returns the estimate of a node without children and without a prefix. Its preferred width is left 0.
+/// Returns the estimate of a node without children and without a prefix, of these widths.
+///
+/// The preferred width is 0 unless `with_sizes` is `true`.
 #[inline]
-fn piece(min_width: usize) -> Estimate
-    ensures { result ≡ record { min_width = min_width; preferred_width = 0; prefix = 0; children = 0 } }
+fn leaf(with_sizes: bool, min_width: usize, preferred_width: usize) -> Estimate
+    ensures { result ≡ sized_if with_sizes (record { min_width = min_width; preferred_width = preferred_width; prefix = 0; children = 0 }) }
 {
     Estimate {
         min_width,
-        preferred_width: 0,
+        preferred_width: if with_sizes { preferred_width } else { 0 },
         prefix: 0,
         children: 0,
     }
 }
 
-/// Returns the lesser of an image's preferred width and `limit`.
-pub(crate) fn image_size_within(title: &str, limit: usize) -> usize
-    ensures { result ≡ min (saturated (text_size title.now + 2)) limit }
+/// Returns the estimate of a text with `around` columns around it.
+///
+/// Reads the whole text only if `with_sizes` is `true`. Otherwise the preferred width is 0.
+#[inline]
+fn text_estimate(settings: &LayoutSettings, with_sizes: bool, text: &str, around: usize) -> Estimate
+    ensures { result ≡ sized_if with_sizes (record {
+      min_width = min (saturated (text_size text.now + around)) settings.now.min_wrap_width;
+      preferred_width = saturated (text_size text.now + around);
+      prefix = 0;
+      children = 0;
+    }) }
 {
-    size_within(title, limit).saturating_add(2).min(limit)
+    let limit = settings.min_wrap_width;
+    if with_sizes {
+        let columns = size(text).saturating_add(around);
+        return leaf(true, columns.min(limit), columns);
+    }
+    let columns = size_within(text, limit).saturating_add(around);
+    leaf(false, columns.min(limit), columns)
 }
 
-/// Returns the estimate of a link over its measured children. Its preferred width is left 0.
-fn link_estimate(below: &[Entry<RenderNode>]) -> Estimate
-    requires { flatten (forest_of below.now) ≡ below.now }
-    ensures { result ≡ record { min_width = max (greatest_least (forest_of below.now)) 5; preferred_width = 0; prefix = 0; children = trees (forest_of below.now) } }
+/// Returns the estimate of a link over its measured children. Its preferred width is 0 unless `with_sizes` is `true`.
+#[inline]
+fn link_estimate(with_sizes: bool, children: Children) -> Estimate
+    ensures { result ≡ sized_if with_sizes (record {
+      min_width = max children.min_width 5;
+      preferred_width = saturated (children.preferred_width + 5);
+      prefix = 0;
+      children = children.count;
+    }) }
 {
-    let children = children_of(below);
     Estimate {
         min_width: children.min_width.max(5),
-        preferred_width: 0,
+        preferred_width: if with_sizes {
+            children.preferred_width.saturating_add(5)
+        } else {
+            0
+        },
         prefix: 0,
         children: children.count,
     }
 }
 
-/// Returns the estimate of a node that isn't a table over its measured children. Its preferred width is left 0.
+/// Returns the estimate of a node over its measured children, after a prefix of `prefix` columns. Its preferred width is 0
+/// unless `with_sizes` is `true`.
 #[inline]
-fn estimate_of<D: TextDecorator>(
-    alloc: Global,
-    decorator: &D,
-    settings: &LayoutSettings,
-    kind: &NodeKind,
-    below: &[Entry<RenderNode>],
-) -> Result<Estimate, Error>
-    requires { flatten (forest_of below.now) ≡ below.now }
-    ensures ok { IfOk result (λ e. is_table kind.now ≡ false →
-        e ≡ without_size (estimate_of D.decoration decorator.now settings.now kind.now (forest_of below.now))) }
-    ensures err { OnlyOutOfMemory result }
+fn behind(with_sizes: bool, prefix: usize, children: Children) -> Estimate
+    ensures { result ≡ sized_if with_sizes (behind prefix children.min_width children.preferred_width children.count) }
 {
-    match kind {
-        NodeKind::Text(text) | NodeKind::Svg(text) => Ok(piece(size_within(
-            text.as_str(),
-            settings.min_wrap_width,
-        ))),
-        NodeKind::Break => Ok(piece(1)),
-        NodeKind::Image(image) => Ok(piece(image_size_within(
-            image.title().as_str(),
-            settings.min_wrap_width,
-        ))),
-        NodeKind::FragmentStart(_) => Ok(piece(0)),
-        NodeKind::Link(_) => Ok(link_estimate(below)),
-        _ => {
-            let children = children_of(below);
-            let prefix = prefix_of(alloc, decorator, settings, kind, children.count)?;
-            Ok(Estimate {
-                min_width: children.min_width.saturating_add(prefix),
-                preferred_width: 0,
-                prefix,
-                children: children.count,
-            })
-        }
+    Estimate {
+        min_width: children.min_width.saturating_add(prefix),
+        preferred_width: if with_sizes {
+            children.preferred_width.saturating_add(prefix)
+        } else {
+            0
+        },
+        prefix,
+        children: children.count,
     }
 }
 
 /// Returns the estimate of a node that isn't a table over its measured children.
 ///
 /// The preferred width is computed if `with_sizes` is `true`, for which the children need theirs. Otherwise it is 0.
-fn sized_estimate_of<D: TextDecorator>(
+#[inline(always)]
+fn estimate_of<D: TextDecorator>(
     alloc: Global,
     decorator: &D,
     settings: &LayoutSettings,
@@ -213,57 +227,61 @@ fn sized_estimate_of<D: TextDecorator>(
         e ≡ sized_if with_sizes (estimate_of D.decoration decorator.now settings.now kind.now (forest_of below.now))) }
     ensures err { OnlyOutOfMemory result }
 {
-    let estimate = estimate_of(alloc, decorator, settings, kind, below)?;
-    if !with_sizes {
-        return Ok(estimate);
+    match kind {
+        NodeKind::Text(text) | NodeKind::Svg(text) => {
+            Ok(text_estimate(settings, with_sizes, text.as_str(), 0))
+        }
+        NodeKind::Break => Ok(leaf(with_sizes, 1, 1)),
+        NodeKind::Image(image) => {
+            Ok(text_estimate(settings, with_sizes, image.title().as_str(), 2))
+        }
+        NodeKind::FragmentStart(_) => Ok(leaf(with_sizes, 0, 0)),
+        NodeKind::Link(_) => Ok(link_estimate(with_sizes, children_of(below))),
+        NodeKind::Container
+        | NodeKind::Block
+        | NodeKind::Div
+        | NodeKind::Emphasis(_)
+        | NodeKind::ListItem
+        | NodeKind::Dl
+        | NodeKind::Dt
+        | NodeKind::Strikeout
+        | NodeKind::Superscript
+        | NodeKind::TableRow
+        | NodeKind::TableCell => Ok(behind(with_sizes, 0, children_of(below))),
+        NodeKind::Header(_)
+        | NodeKind::BlockQuote
+        | NodeKind::Ul
+        | NodeKind::Ol(_)
+        | NodeKind::Dd
+        | NodeKind::Table(_) => {
+            let children = children_of(below);
+            let prefix = prefix_of(alloc, decorator, settings, kind, children.count)?;
+            Ok(behind(with_sizes, prefix, children))
+        }
     }
-    let preferred_width = match kind {
-        NodeKind::Text(text) | NodeKind::Svg(text) => size_within(text.as_str(), usize::MAX),
-        NodeKind::Break => 1,
-        NodeKind::Image(image) => image_size_within(image.title().as_str(), usize::MAX),
-        NodeKind::FragmentStart(_) => 0,
-        NodeKind::Link(_) => total_size(below).saturating_add(5),
-        _ => total_size(below).saturating_add(estimate.prefix),
-    };
-    Ok(Estimate {
-        preferred_width,
-        ..estimate
-    })
 }
 
-/// Measures a node over its measured children.
-///
-/// The preferred width is computed if `with_sizes` is `true`, for which the children need theirs. Otherwise it is 0. The
-/// caller ensures that `with_sizes` is `true` for a table.
-#[inline]
-fn measure_of<D: TextDecorator>(
+/// Measures a node over its measured children. The caller ensures that it is a table.
+fn table_measure<D: TextDecorator>(
     alloc: Global,
     decorator: &D,
     settings: &LayoutSettings,
-    with_sizes: bool,
     kind: &NodeKind,
     below: &[Entry<RenderNode>],
 ) -> Result<Measure, Error>
     requires kept { flatten (forest_of below.now) ≡ below.now }
-    requires sized { is_table kind.now ≡ true → with_sizes ≡ true }
-    ensures estimate { IfOk result (λ m. m.estimate
-        ≡ sized_if with_sizes (estimate_of D.decoration decorator.now settings.now kind.now (forest_of below.now))) }
+    requires table { is_table kind.now ≡ true }
+    ensures estimate { IfOk result (λ m. m.estimate ≡ estimate_of D.decoration decorator.now settings.now kind.now (forest_of below.now)) }
     ensures needs { IfOk result (λ m. with_needs m.needs.items kind.now ≡ measured_kind kind.now (forest_of below.now)) }
     ensures err { OnlyOutOfMemory result }
 {
-    if let NodeKind::Table(grid) = kind {
-        let children = children_of(below).count;
-        let prefix = prefix_of(alloc, decorator, settings, kind, children)?;
-        return measure_table(alloc, grid.cells(), prefix, children, below);
-    }
-    let estimate = sized_estimate_of(alloc, decorator, settings, with_sizes, kind, below)?;
-    Ok(Measure {
-        estimate,
-        needs: Vec::new(alloc),
-    })
+    let NodeKind::Table(grid) = kind else {
+        unreachable!();
+    };
+    measure_table(alloc, grid.cells(), children_of(below).count, below)
 }
 
-/// Stores a measurement in its node.
+/// Stores the measurement of a table in its node.
 #[inline]
 fn note(node: &mut RenderNode, measure: Measure)
     ensures { node.new ≡ record node.old { kind = with_needs measure.needs.items node.old.kind; estimate = measure.estimate } }
@@ -272,6 +290,14 @@ fn note(node: &mut RenderNode, measure: Measure)
     if let NodeKind::Table(grid) = &mut node.kind {
         grid.set_needs(measure.needs);
     }
+}
+
+/// Stores the estimate of a node that isn't a table.
+#[inline]
+fn set_estimate(node: &mut RenderNode, estimate: Estimate)
+    ensures { node.new ≡ record node.old { estimate = estimate } }
+{
+    node.estimate = estimate;
 }
 
 /// Reports whether a node is a table.
@@ -315,8 +341,13 @@ fn measure_nodes<D: TextDecorator>(
         let entry = &all[at];
         let below = &all[at + 1..at + entry.subtree_len];
         let kind = &entry.node.kind;
-        let measure = measure_of(alloc, decorator, settings, with_sizes, kind, below)?;
-        note(&mut entries[at].node, measure);
+        if is_table(kind) {
+            let measure = table_measure(alloc, decorator, settings, kind, below)?;
+            note(&mut entries[at].node, measure);
+        } else {
+            let estimate = estimate_of(alloc, decorator, settings, with_sizes, kind, below)?;
+            set_estimate(&mut entries[at].node, estimate);
+        }
     }
     Ok(())
 }

@@ -2,18 +2,19 @@
 //!
 //! `size_within(" Hello  wide\n", 80)` is 11: the white space at the start counts 1, and so does that between the words.
 
-ghost use Rattle.std.specs.Prelude.{◌≡◌, ◌+◌, Bool, if◌then◌else◌, [], ◌∷◌, ◌<◌, ◌≤◌, drop, length, min, true, false, IfOk, IfErr, IfNone, IfSome, MatchOption};
+ghost use Rattle.std.specs.Prelude.{◌≡◌, ◌+◌, Bool, if◌then◌else◌, [], ◌∷◌, ◌<◌, ◌≤◌, drop, length, min, true, false, IfOk, IfErr, IfNone, IfSome, MatchOption, IsTrue};
 ghost use Rattle.std.specs.Bool.{OnTrue};
 ghost use Rattle.std.specs.List.{AllWithin};
 ghost use Rattle.std.specs.Str.{chars, IsUtf8};
 ghost use Rattle.html_render_layout_lines.specs.Character.{is_collapsible, width_of};
 ghost use Rattle.html_render_layout_lines.specs.TaggedText.{text_columns};
-ghost use Rattle.html_render_layout_estimates.specs.TextSize.{size_of, inner_columns, collapsed_columns, saturated};
+ghost use Rattle.html_render_layout_estimates.specs.TextSize.{size_of, inner_columns, collapsed_columns, saturated, IsPlainBetween};
 ghost use Rattle.html_render_layout_estimates.specs.Words.{word_break, joined_shapes, shape_after};
 ghost use Rattle.html_render_layout_estimates.specs.declared.words.WordShape.{WordShape};
 ghost use Rattle.html_render_layout_estimates.specs.declared.words.WordShape.TheVariants.{Part};
 
 use html_render_layout_lines::character::{is_collapsible, width_of};
+use std::simd::prelude::*;
 
 /// Returns the columns of a text with all its white space, at most `usize::MAX`.
 pub fn columns(text: &str) -> usize
@@ -40,6 +41,67 @@ pub fn size_within(text: &str, limit: usize) -> usize
             None => any_size_within(text, limit),
         },
     }
+}
+
+/// Returns a text's preferred width, at most `usize::MAX`.
+pub fn size(text: &str) -> usize
+    ensures { result ≡ saturated (size_of (chars text.now)) }
+{
+    match plain_size(text.as_bytes()) {
+        Some(size) => size,
+        None => size_within(text, usize::MAX),
+    }
+}
+
+/// Number of bytes that are tested at once.
+const LANES: usize = 8;
+
+/// Returns the preferred width of a text of more than `LANES` bytes if it is printable ASCII, begins with no space, and has no
+/// space after another space; `None` for other texts.
+#[inline]
+fn plain_size(text: &[u8]) -> Option<usize>
+    ensures { IfSome result (λ size. size ≡ size_of (chars text.now)) }
+{
+    if text.len() <= LANES || !is_letter(text[0]) || !is_plain(text) {
+        return None;
+    }
+    let last = text.len() - 1;
+    if text[last] == b' ' {
+        return Some(last);
+    }
+    Some(text.len())
+}
+
+/// Reports whether each byte after the first is printable ASCII, and no space after another space.
+///
+/// The last bytes that are tested at once may be among those before them.
+#[inline]
+fn is_plain(text: &[u8]) -> bool
+    requires { LANES < length text.now }
+    ensures { IsTrue result → IsPlainBetween text.now 1 (length text.now) }
+{
+    let mut at = 1;
+    while text.len() - at > LANES {
+        if !is_plain_block(text, at) {
+            return false;
+        }
+        at += LANES;
+    }
+    is_plain_block(text, text.len() - LANES)
+}
+
+/// Reports whether each of `LANES` bytes from `at` on is printable ASCII, and no space after another space.
+#[inline(always)]
+fn is_plain_block(text: &[u8], at: usize) -> bool
+    requires { (0 < at) × (at + LANES ≤ length text.now) }
+    ensures { IsTrue result → IsPlainBetween text.now at (at + LANES) }
+{
+    let space = u8x8::splat(b' ');
+    let block = u8x8::from_slice(&text[at..]);
+    let before = u8x8::from_slice(&text[at - 1..]);
+    let others = block.simd_lt(space) | block.simd_gt(u8x8::splat(b'~'));
+    let doubled = block.simd_eq(space) & before.simd_eq(space);
+    (others | doubled).to_bitmask() == 0
 }
 
 /// Counts of a text before its first byte that isn't printable ASCII, a space or a newline.

@@ -1,7 +1,7 @@
 use Rattle.std.proofs.Common.{sym, ap, ◌∙◌, arith}
 use Rattle.html_render_layout_nodes.specs.Preorder.{flatten, forest_of}
 use Rattle.html_render_layout_estimates.specs.Passes.{with_needs}
-use Rattle.html_render_layout_estimates.proofs.Again.{found, found_table, noted, after_all}
+use Rattle.html_render_layout_estimates.proofs.Again.{found, found_table, noted, noted_estimate, sized_table, after_all}
 use Rattle.html_render_layout_estimates.proofs.Measuring.{after, Measuring-start, Measuring-at, Measuring-done, Found-part, Found-next}
 use Rattle.html_render_layout_estimates.proofs.estimate.measure_nodes.Goals as goal
 
@@ -30,28 +30,43 @@ slice_bounds-below-end g c =
     let f = Measuring-at _ _ _ _ _ _ c.loop-at.invariant c.loop-at-test.true c.as_slice-all.ensures.value c.index-all-at.is in
     omega (arith, f.end, c.as_slice-all.ensures.len, c.loop-at.entries.ok.0)
 
-pub measure_of-requires-clause-kept : goal.measure_of-requires-clause-kept
-measure_of-requires-clause-kept g c =
+pub table_measure-requires-clause-kept : goal.table_measure-requires-clause-kept
+table_measure-requires-clause-kept g c =
     let f = Measuring-at _ _ _ _ _ _ c.loop-at.invariant c.loop-at-test.true c.as_slice-all.ensures.value c.index-all-at.is in
     (Found-part _ _ _ _ _ _ _ f c.as_slice-all.ensures.value (omega arith)).kept
 
-pub measure_of-requires-clause-sized : goal.measure_of-requires-clause-sized
-measure_of-requires-clause-sized g c table =
+pub estimate_of-requires : goal.estimate_of-requires
+estimate_of-requires g c =
     let f = Measuring-at _ _ _ _ _ _ c.loop-at.invariant c.loop-at-test.true c.as_slice-all.ensures.value c.index-all-at.is in
-    found_table g.D.TextDecorator.decoration c.args.decorator.now c.args.settings.now c.any_table-with_sizes.result _ _ _ _ f
-    (rw c.deref.ensures.value at c.any_table-with_sizes.ensures) table
+    (Found-part _ _ _ _ _ _ _ f c.as_slice-all.ensures.value (omega arith)).kept
+
+pub loop-at-preserved-then-is_table : goal.loop-at-preserved-then-is_table
+loop-at-preserved-then-is_table g c =
+    let e = c.index-all-at.result in
+    let f = Measuring-at _ _ _ _ _ _ c.loop-at.invariant c.loop-at-test.true c.as_slice-all.ensures.value c.index-all-at.is in
+    let m = c.in_ok-measure.measure in
+    let sized = c.any_table-with_sizes.result in
+    let all = found_table g.D.TextDecorator.decoration c.args.decorator.now c.args.settings.now sized _ _ _ _ f
+    (rw c.deref.ensures.value at c.any_table-with_sizes.ensures) (sym c.is_table.ensures ∙ c.if-is_table.true) in
+    rw c.note.ensures
+    (Found-next _ _ _ _ _ _ e c.index_mut.result.now (λ n. record n { kind = with_needs m.needs.items n.kind; estimate = m.estimate }) f
+    c.as_slice-all.ensures.value (omega arith)
+    (noted g.D.TextDecorator.decoration c.args.decorator.now c.args.settings.now sized e.node m.needs.items m.estimate _
+    c.in_ok-measure.ensures.needs (c.in_ok-measure.ensures.estimate ∙ sym (sized_table sized _ all)))
+    c.index-all-at.is c.index_mut.ensures.value)
 
 pub loop-at-preserved : goal.loop-at-preserved
 loop-at-preserved g c =
     let e = c.index-all-at.result in
     let f = Measuring-at _ _ _ _ _ _ c.loop-at.invariant c.loop-at-test.true c.as_slice-all.ensures.value c.index-all-at.is in
-    let m = c.in_ok-measure.measure in
-    rw c.note.ensures
-    (Found-next _ _ _ _ _ _ e c.index_mut.result.now (λ n. record n { kind = with_needs m.needs.items n.kind; estimate = m.estimate }) f
+    let estimate = c.in_ok-estimate.estimate in
+    let plain = sym c.is_table.ensures ∙ c.if-is_table.false in
+    rw c.set_estimate.ensures
+    (Found-next _ _ _ _ _ _ e c.index_mut-else-is_table.result.now (λ n. record n { estimate = estimate }) f
     c.as_slice-all.ensures.value (omega arith)
-    (noted g.D.TextDecorator.decoration c.args.decorator.now c.args.settings.now c.any_table-with_sizes.result e.node m.needs.items m.estimate _
-    c.in_ok-measure.ensures.needs c.in_ok-measure.ensures.estimate)
-    c.index-all-at.is c.index_mut.ensures.value)
+    (noted_estimate g.D.TextDecorator.decoration c.args.decorator.now c.args.settings.now c.any_table-with_sizes.result e.node estimate _
+    plain (c.in_ok-estimate.ensures.ok plain))
+    c.index-all-at.is c.index_mut-else-is_table.ensures.value)
 
 pub returns-clause-ok : goal.returns-clause-ok
 returns-clause-ok g c =
