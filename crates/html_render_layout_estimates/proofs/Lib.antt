@@ -1,6 +1,7 @@
 pub mod NeedsOfCells
 pub mod WordSpans
 pub mod Wording
+pub mod Latin
 pub mod Sizes
 pub mod Blocks
 pub mod Shapes

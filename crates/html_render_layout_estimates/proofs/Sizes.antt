@@ -9,6 +9,7 @@ use Rattle.std.specs.Str.{chars}
 use Rattle.html_render_layout_lines.specs.Character.{is_collapsible, width_of}
 use Rattle.html_render_layout_lines.specs.laws.Characters.{plain_width}
 use Rattle.std.proofs.lemmas.Bool.{cases_eq, cases_lt}
+use Rattle.html_render_layout_estimates.proofs.Latin.{latin_width, latin-collapsible, next-latin}
 use Rattle.html_render_layout_estimates.specs.TextSize.{collapsed_columns, inner_columns, size_of, IsPlainBetween}
 
 -- ---- characters
@@ -116,6 +117,29 @@ Sized-space bs at k n spaced s w within space small is_n is_s = rw (is_n, is_s) 
   size = sym (size_on-space k (get_or bs at 0) (chars (drop (at + 1) bs)) spaced space)
       ∙ ap (size_on k spaced) (sym (next-chars bs at within small)) ∙ w.size;
 })
+
+-- a letter of two bytes, from U+00C0 to U+00FF
+pub Sized-latin : (bs : List ℕ) (at k n : ℕ) (spaced s : Bool) → Sized bs at k spaced → at + 1 < length bs →
+    get_or bs at 0 ≡ 195 → get_or bs (at + 1) 0 < 192 → n ≡ k + cond spaced 2 1 → s ≡ false → Sized bs (at + 2) n s
+Sized-latin bs at k n spaced s w within lead small is_n is_s = rw (is_n, is_s) (record {
+  within = omega (arith, within);
+  few = few spaced w.few;
+  size = sym (size_on-letter k c (chars (drop (at + 2) bs)) spaced (latin-collapsible c low high) (latin_width c low high))
+      ∙ ap (size_on k spaced) (sym (next-latin bs at within lead)) ∙ w.size;
+})
+  where
+    c : ℕ
+    c = 192 + (get_or bs (at + 1) 0 - 128)
+
+    low : 192 ≤ c
+    low = omega arith
+
+    high : c < 256
+    high = omega (arith, small)
+
+    few : (spaced : Bool) → k + cond spaced 1 0 ≤ at → k + cond spaced 2 1 + cond false 1 0 ≤ at + 2
+    few true h = omega (arith, h)
+    few false h = omega (arith, h)
 
 -- at the end of the text, or if the limit is reached, the lesser of count and limit is that of preferred width and limit
 pub Sized-end : (bs : List ℕ) (at k limit : ℕ) (spaced : Bool) → Sized bs at k spaced → length bs ≤ at →

@@ -34,7 +34,7 @@ pub fn columns(text: &str) -> usize
 pub fn size_within(text: &str, limit: usize) -> usize
     ensures { result ≡ min (size_of (chars text.now)) limit }
 {
-    match ascii_size_within(text.as_bytes(), limit) {
+    match size_by_bytes(text.as_bytes(), limit) {
         Ok(size) => size,
         Err(counted) => match counted.rest_of(text) {
             Some(rest) => columns_within(rest, counted.columns, counted.spaced, limit),
@@ -104,7 +104,10 @@ fn is_plain_block(text: &[u8], at: usize) -> bool
     (others | doubled).to_bitmask() == 0
 }
 
-/// Counts of a text before its first byte that isn't printable ASCII, a space or a newline.
+/// First byte of the letters from U+00C0 to U+00FF.
+const LATIN: u8 = 0xC3;
+
+/// Counts of a text before its first byte that isn't of printable ASCII, a newline or a letter from U+00C0 to U+00FF.
 #[derive(Clone, Copy)]
 struct Counted {
     /// Index of that byte.
@@ -131,10 +134,10 @@ impl Counted {
     }
 }
 
-/// Returns the lesser of a text's preferred width and `limit` if all bytes that it reads are printable ASCII, spaces and
-/// newlines. Otherwise `Err` has the counts before the first other byte.
+/// Returns the lesser of a text's preferred width and `limit` if all characters that it reads are printable ASCII, newlines
+/// and letters from U+00C0 to U+00FF. Otherwise `Err` has the counts before the first other byte.
 #[inline]
-fn ascii_size_within(text: &[u8], limit: usize) -> Result<usize, Counted>
+fn size_by_bytes(text: &[u8], limit: usize) -> Result<usize, Counted>
     ensures ok { IfOk result (λ size. size ≡ min (size_of (chars text.now)) limit) }
     ensures counted { IfErr result (λ c. 1 ≤ c.columns →
         c.columns + collapsed_columns c.spaced (chars (drop c.at text.now)) ≡ size_of (chars text.now)) }
@@ -153,6 +156,10 @@ fn ascii_size_within(text: &[u8], limit: usize) -> Result<usize, Counted>
         } else if is_space(byte) {
             spaced = true;
             at += 1;
+        } else if byte == LATIN && at + 1 < text.len() && text[at + 1] < 192 {
+            columns += if spaced { 2 } else { 1 };
+            spaced = false;
+            at += 2;
         } else {
             return Err(Counted {
                 at,

@@ -1,8 +1,8 @@
 use Rattle.std.proofs.Common.{◌≡◌, cond, refl, ◌∙◌, arith}
-use Rattle.html_render_layout_estimates.proofs.Sizes.{Sized-start, Sized-run, Sized-space, Sized-end, Sized-reached}
-use Rattle.html_render_layout_estimates.proofs.text.ascii_size_within.Goals.{then-loop-columns-test+else-at-text, else-loop-columns-test}
-use Rattle.html_render_layout_estimates.proofs.text.ascii_size_within.Goals.{then-spaced, else-spaced}
-use Rattle.html_render_layout_estimates.proofs.text.ascii_size_within.Goals as goal
+use Rattle.html_render_layout_estimates.proofs.Sizes.{Sized-start, Sized-run, Sized-space, Sized-latin, Sized-end, Sized-reached}
+use Rattle.html_render_layout_estimates.proofs.text.size_by_bytes.Goals.{then-loop-columns-test+else-at-text, else-loop-columns-test}
+use Rattle.html_render_layout_estimates.proofs.text.size_by_bytes.Goals.{then-spaced, else-spaced, then-spaced-2, else-spaced-2}
+use Rattle.html_render_layout_estimates.proofs.text.size_by_bytes.Goals as goal
 
 pub loop-columns-init : goal.loop-columns-init
 loop-columns-init c = Sized-start c.args.text.now
@@ -18,9 +18,18 @@ loop-columns-preserved-then-is_letter c =
     Sized-run _ _ _ _ _ _ _ c.loop-columns.invariant c.if-at-text.true low high c.letters_end-end.ensures.within.0 c.letters_end-end.ensures.within.1
     c.letters_end-end.ensures.letters (omega (arith, step)) refl
 
+pub loop-columns-preserved-then-is_space : goal.loop-columns-preserved-then-is_space
+loop-columns-preserved-then-is_space c =
+    Sized-space _ _ _ _ _ _ c.loop-columns.invariant c.if-at-text.true c.if-is_space.ensures.collapsible c.if-is_space.ensures.ascii refl refl
+
 pub loop-columns-preserved : goal.loop-columns-preserved
 loop-columns-preserved c =
-    Sized-space _ _ _ _ _ _ c.loop-columns.invariant c.if-at-text.true c.if-is_space.ensures.collapsible c.if-is_space.ensures.ascii refl refl
+    let step : c.if-spaced-2.columns ≡ cond c.loop-columns.spaced 2 1 = elim c.if-spaced-2.branch [
+      | then-spaced-2 w ↦ w.columns-is ∙ rw w.if-spaced-2.true refl
+      | else-spaced-2 w ↦ w.columns-is ∙ rw w.if-spaced-2.false refl
+    ] in
+    Sized-latin _ _ _ _ _ _ c.loop-columns.invariant (omega (arith, c.if-at-text-2.true)) c.if-byte.true
+    (omega (arith, c.if-text-at-lt192.true)) (omega (arith, step)) refl
 
 pub returns-clause-ok : goal.returns-clause-ok
 returns-clause-ok c =

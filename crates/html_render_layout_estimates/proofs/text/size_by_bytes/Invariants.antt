@@ -1,6 +1,6 @@
 use Rattle.std.proofs.Common.{◌-◌, length}
 use Rattle.html_render_layout_estimates.proofs.Sizes.{Sized}
-use Rattle.html_render_layout_estimates.proofs.text.ascii_size_within.Given as goal
+use Rattle.html_render_layout_estimates.proofs.text.size_by_bytes.Given as goal
 
 abbrev pub invariant-loop-columns : goal.invariant-loop-columns
 invariant-loop-columns l = Sized l.text l.at l.columns l.spaced
