@@ -13,7 +13,7 @@ mod settings;
 
 pub use documents::RcDom;
 pub use html_render_dom_nodes::{
-    Attribute, Attributes, ElementFlags, Handle, LocalName, Namespace, NodeData, NodeOrText,
-    QualName, TextContents,
+    Attribute, Attributes, DoctypeParts, ElementFlags, Handle, LocalName, Namespace, NodeData,
+    NodeOrText, OptionalHandle, QualName, TextContents,
 };
 pub use settings::QuirksMode;

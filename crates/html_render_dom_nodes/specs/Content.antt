@@ -36,7 +36,7 @@ space_of None = no_space
 space_of Html = html
 space_of Svg = svg
 space_of MathMl = mathml
-space_of (Other address) = other (string_bytes address)
+space_of (Other address) = other (string_bytes address.value)
 
 abbrev pub is_html : Space → Bool
 is_html html = true
@@ -50,7 +50,8 @@ property_of a = record { name = name_of a.name; value = string_bytes a.value }
 
 abbrev pub content_of : NodeData → Content
 content_of Document = document
-content_of (Doctype name public_id system_id) = doctype (string_bytes name) (string_bytes public_id) (string_bytes system_id)
+content_of (Doctype parts) =
+    doctype (string_bytes parts.value.name) (string_bytes parts.value.public_id) (string_bytes parts.value.system_id)
 content_of (Text contents) = text contents
 content_of (Comment contents) = comment (string_bytes contents)
 content_of (Element integration_point name attrs template_contents) =

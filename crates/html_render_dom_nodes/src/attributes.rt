@@ -1,33 +1,34 @@
 //! Attributes of an element, with an index of names if there are many.
 
-ghost use Rattle.std.specs.Prelude.{◌≡◌, ◌+◌, ◌^◌, ◌<◌, ◌++◌, drop, if◌then◌else◌, IfOk, length, List, ℕ, map, None, OnErr, OnOk, Some, string_bytes};
+ghost use Rattle.std.specs.Prelude.{◌≡◌, ◌+◌, ◌^◌, ◌<◌, ◌++◌, [], drop, if◌then◌else◌, IfOk, length, List, ℕ, map, None, OnErr, OnOk, Some, string_bytes};
 ghost use Rattle.std.specs.BTreeMap.{get_by_text};
 ghost use Rattle.std.specs.Str.{bytes_eq};
 ghost use Rattle.html_render_dom_nodes.specs.Content.{name_of, property_of};
 ghost use Rattle.html_render_dom_nodes.specs.Elements.{has_name, with_missing};
 ghost use Rattle.html_render_dom_nodes.specs.Places.{first_of, place_of, TellsPlaces};
 
-use crate::names::{Attribute, LocalName, QualName, has_name};
+use crate::local_name::LocalName;
+use crate::names::{Attribute, QualName, has_name};
 use std::alloc::{AllocError, Global};
 use std::collections::BTreeMap;
 use std::marker::Model;
-use std::mem;
+use std::mem::{self, size_of};
 
 /// Maximum number of attributes that are searched one by one, without an index.
 const LINEAR_SCAN_MAX: usize = 16;
 
-/// The attributes of an element, in the order in which they were given.
+/// A list of attributes, in the order in which they were given.
 ///
 /// If there are many, they are indexed by local name. So the time to add `n` attributes, one by one, is about
 /// proportional to `n`.
 #[derive(Drop)]
-pub struct Attributes {
+struct AttributeList {
     list: Vec<Attribute>,
     /// Index in `list` of the first attribute with each local name; `None` while there are few.
     places: Option<Box<BTreeMap<String, usize>>>,
 }
 
-impl Model for Attributes {
+impl Model for AttributeList {
     ghost use Rattle.std.specs.Prelude.{List, IfSome};
     ghost use Rattle.html_render_dom_nodes.specs.declared.names.Attribute.{Attribute};
     ghost use Rattle.html_render_dom_nodes.specs.Places.{TellsPlaces};
@@ -89,18 +90,18 @@ fn has_name_from(attrs: &[Attribute], place: usize, name: &QualName) -> bool
     has_name(&attrs[place..], name)
 }
 
-impl Attributes {
+impl AttributeList {
     /// Creates a list of these attributes, without an index.
     #[inline]
-    pub fn of(list: Vec<Attribute>) -> Attributes
+    fn of(list: Vec<Attribute>) -> AttributeList
         ensures { result ≡ list.items }
     {
-        Attributes { list, places: None }
+        AttributeList { list, places: None }
     }
 
     /// Returns a slice of all attributes, in order.
     #[inline]
-    pub fn as_slice(&self) -> &[Attribute]
+    fn as_slice(&self) -> &[Attribute]
         ensures { result.now ≡ self.now }
     {
         self.list.as_slice()
@@ -137,7 +138,7 @@ impl Attributes {
         ensures err { OnErr result (self.new ≡ self.old) }
     {
         if self.list.is_empty() {
-            *self = Attributes::of(given);
+            *self = AttributeList::of(given);
             return Ok(());
         }
         // taken out, so that an error leaves no index with places of attributes that aren't appended
@@ -151,17 +152,101 @@ impl Attributes {
         Ok(())
     }
 
-    /// Appends, in order, the given attributes with a name that the element doesn't have yet.
-    ///
-    /// # Errors
-    ///
-    /// Returns an error if an allocation is refused. The attributes are then unchanged.
-    pub fn add_missing(&mut self, mut given: Vec<Attribute>) -> Result<(), AllocError>
+    /// Appends, in order, the given attributes with a name that the list doesn't have yet. An error leaves the list
+    /// unchanged.
+    fn add_missing(&mut self, mut given: Vec<Attribute>) -> Result<(), AllocError>
         ensures ok { OnOk result (map property_of self.new ≡ with_missing (map property_of self.old) (map property_of given.items)) }
         ensures err { OnErr result (map property_of self.new ≡ map property_of self.old) }
     {
         self.index()?;
         given.retain(|a| !self.has(&a.name));
         self.append(given)
+    }
+}
+
+/// The attributes of an element, in the order in which they were given, in 16 bytes.
+///
+/// They are in an allocation. No attributes take none.
+#[derive(Drop)]
+pub struct Attributes {
+    list: Option<Box<AttributeList>>,
+}
+
+const _: () = prove!(size_of::<Attributes>() == 16);
+
+impl Model for Attributes {
+    ghost use Rattle.std.specs.Prelude.{List};
+    ghost use Rattle.html_render_dom_nodes.specs.declared.names.Attribute.{Attribute};
+    ghost use Rattle.std.specs.Option.{option_map};
+    ghost use Rattle.html_render_dom_nodes.specs.AttributeLists.{attributes_in};
+
+    ghost Value = { List Attribute };
+
+    ghost view = { λ a. attributes_in (option_map (λ list. list.value) a.list) };
+}
+
+impl Attributes {
+    /// Creates an empty list, without an allocation.
+    #[inline]
+    pub fn new() -> Attributes
+        ensures { result ≡ [] }
+    {
+        Attributes { list: None }
+    }
+
+    /// Creates a list of these attributes.
+    ///
+    /// # Errors
+    ///
+    /// Returns an error if an allocation is refused.
+    #[inline]
+    pub fn of(alloc: Global, list: Vec<Attribute>) -> Result<Attributes, AllocError>
+        ensures { IfOk result (λ made. made ≡ list.items) }
+    {
+        if list.is_empty() {
+            return Ok(Attributes::new());
+        }
+        let list = Box::new(alloc, AttributeList::of(list))?;
+        Ok(Attributes { list: Some(list) })
+    }
+
+    /// Returns a slice of all attributes, in order.
+    #[inline]
+    pub fn as_slice(&self) -> &[Attribute]
+        ensures { result.now ≡ self.now }
+    {
+        match &self.list {
+            Some(list) => list.as_slice(),
+            None => &[],
+        }
+    }
+
+    /// Gives an element without attributes the given ones. An error leaves it without.
+    #[tactic(auto, using(crate::proofs::Mapped::missing_each))]
+    fn fill(&mut self, given: Vec<Attribute>) -> Result<(), AllocError>
+        requires { self.old ≡ [] }
+        ensures ok { OnOk result (map property_of self.new ≡ with_missing (map property_of self.old) (map property_of given.items)) }
+        ensures err { OnErr result (map property_of self.new ≡ map property_of self.old) }
+    {
+        let alloc = *given.allocator();
+        let made = Attributes::of(alloc, given)?;
+        *self = made;
+        Ok(())
+    }
+
+    /// Appends, in order, the given attributes with a name that the element doesn't have yet.
+    ///
+    /// # Errors
+    ///
+    /// Returns an error if an allocation is refused. The attributes are then unchanged.
+    pub fn add_missing(&mut self, given: Vec<Attribute>) -> Result<(), AllocError>
+        ensures ok { OnOk result (map property_of self.new ≡ with_missing (map property_of self.old) (map property_of given.items)) }
+        ensures err { OnErr result (map property_of self.new ≡ map property_of self.old) }
+    {
+        if let Some(list) = &mut self.list {
+            return list.add_missing(given);
+        }
+        self.fill(given)?;
+        Ok(())
     }
 }

@@ -1,13 +1,24 @@
 //! Data of nodes, and children that calls insert.
 
 use crate::attributes::Attributes;
-use crate::handles::Handle;
+use crate::handles::{Handle, OptionalHandle};
 use crate::names::QualName;
 use html_render_dom_values::small_text::SmallText;
 use std::alloc::{AllocError, Global};
 
 /// Text of a text node. Up to 30 bytes are stored in the node, without an allocation.
 pub type TextContents = SmallText<30>;
+
+/// Name and identifiers of a doctype.
+#[derive(Drop)]
+pub struct DoctypeParts {
+    /// Name, such as `html`.
+    pub name: String,
+    /// Public identifier.
+    pub public_id: String,
+    /// System identifier.
+    pub system_id: String,
+}
 
 /// The data of a node, without its children and its parent.
 #[derive(Drop)]
@@ -16,12 +27,8 @@ pub enum NodeData {
     Document,
     /// A doctype.
     Doctype {
-        /// Name, such as `html`.
-        name: String,
-        /// Public identifier.
-        public_id: String,
-        /// System identifier.
-        system_id: String,
+        /// Name and identifiers.
+        parts: Box<DoctypeParts>,
     },
     /// A text.
     Text {
@@ -42,8 +49,8 @@ pub enum NodeData {
         name: QualName,
         /// Attributes, in the order in which they were given.
         attrs: Attributes,
-        /// Document node with the contents of an HTML `template`; `None` for other elements.
-        template_contents: Option<Handle>,
+        /// Document node with the contents of an HTML `template`; none for other elements.
+        template_contents: OptionalHandle,
     },
     /// A processing instruction.
     ProcessingInstruction {
@@ -56,7 +63,32 @@ pub enum NodeData {
 
 impl NodeData {
     ghost use Rattle.std.specs.Prelude.{◌≡◌, IfOk, string_bytes};
-    ghost use Rattle.html_render_dom_nodes.specs.Content.{content_of, text};
+    ghost use Rattle.html_render_dom_nodes.specs.Content.{content_of, doctype, text};
+
+    /// Creates the data of a doctype.
+    ///
+    /// # Errors
+    ///
+    /// Returns an error if an allocation is refused.
+    pub fn doctype(
+        alloc: Global,
+        name: String,
+        public_id: String,
+        system_id: String,
+    ) -> Result<NodeData, AllocError>
+        ensures { IfOk result (λ made. content_of made
+            ≡ doctype (string_bytes name) (string_bytes public_id) (string_bytes system_id)) }
+    {
+        let parts = Box::new(
+            alloc,
+            DoctypeParts {
+                name,
+                public_id,
+                system_id,
+            },
+        )?;
+        Ok(NodeData::Doctype { parts })
+    }
 
     /// Creates the data of a text node.
     #[inline]

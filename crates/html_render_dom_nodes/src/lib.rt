@@ -7,11 +7,13 @@ mod flags;
 mod handles;
 mod laws;
 pub mod lists;
+mod local_name;
 mod names;
 pub mod nodes;
 
 pub use attributes::Attributes;
-pub use contents::{NodeData, NodeOrText, TextContents};
+pub use contents::{DoctypeParts, NodeData, NodeOrText, TextContents};
 pub use flags::ElementFlags;
-pub use handles::Handle;
-pub use names::{Attribute, LocalName, Namespace, QualName};
+pub use handles::{Handle, OptionalHandle};
+pub use local_name::LocalName;
+pub use names::{Attribute, Namespace, QualName};

@@ -222,7 +222,8 @@ fn push_children(nodes: &mut Vec<Node>, parent: Handle, children: &[Handle])
 
 /// Sets the parent of each of the children.
 fn set_parents(nodes: &mut Vec<Node>, children: &[Handle], parent: Handle)
-    requires { All (λ c. c < vec_len nodes.old) children.now }
+    requires children { All (λ c. c < vec_len nodes.old) children.now }
+    requires parent { parent < vec_len nodes.old }
     ensures len { vec_len nodes.new ≡ vec_len nodes.old }
     ensures parents { nodes_of nodes.new.items ≡ with_parents (nodes_of nodes.old.items) children.now parent }
 {

@@ -8,7 +8,8 @@ ghost use Rattle.std.specs.Prelude.{◌≡◌, map, string_bytes};
 ghost use Rattle.html_render_dom_nodes.specs.Elements.{has_name};
 ghost use Rattle.html_render_dom_nodes.specs.Content as content;
 
-use html_render_dom_values::small_text::SmallText;
+use crate::local_name::LocalName;
+use std::mem::size_of;
 
 /// The namespace of a name.
 #[derive(Debug, Drop)]
@@ -22,11 +23,8 @@ pub enum Namespace {
     /// MathML.
     MathMl,
     /// Any other namespace, by its address (URI). It equals none of the other variants, whatever the address.
-    Other(String),
+    Other(Box<String>),
 }
-
-/// A name within its namespace. Up to 30 bytes are stored without an allocation.
-pub type LocalName = SmallText<30>;
 
 /// A qualified name: a namespace and a local name.
 #[derive(Debug, Drop)]
@@ -45,6 +43,10 @@ pub struct Attribute {
     /// Value of the attribute.
     pub value: String,
 }
+
+const _: () = prove!(size_of::<QualName>() == 32);
+
+const _: () = prove!(size_of::<Attribute>() == 56);
 
 impl QualName {
     /// Creates a name in the HTML namespace.

@@ -1,6 +1,6 @@
 //! The vector of nodes, and single edits of it.
 
-ghost use Rattle.std.specs.Prelude.{◌≡◌, ◌+◌, ◌<◌, ◌≤◌, ◌++◌, ◌∷◌, [], None, Some, false, OnOk, OnErr, vec_len, vec_capacity, map, string_bytes};
+ghost use Rattle.std.specs.Prelude.{◌≡◌, ◌+◌, ◌^◌, ◌<◌, ◌≤◌, ◌++◌, ◌∷◌, [], None, Some, false, OnOk, OnErr, vec_len, vec_capacity, map, string_bytes};
 ghost use Rattle.std.specs.Option.{ForSome};
 ghost use Rattle.html_render_dom_nodes.specs.Content.{content_of, element, name_of, property_of};
 ghost use Rattle.html_render_dom_nodes.specs.Elements.{completed};
@@ -11,10 +11,11 @@ ghost use Rattle.html_render_dom_nodes.specs.Edits.{attached, attached_new, elem
 use crate::attributes::Attributes;
 use crate::contents::NodeData;
 use crate::flags::ElementFlags;
-use crate::handles::Handle;
+use crate::handles::{Handle, OptionalHandle};
 use crate::names::{Attribute, QualName};
 use smallvec::SmallVec;
 use std::alloc::{AllocError, Global};
+use std::mem::size_of;
 
 /// A node of the document: its data, and its place in the forest.
 #[derive(Drop)]
@@ -23,9 +24,11 @@ pub struct Node {
     pub data: NodeData,
     /// Children, in order. Up to two are stored without an allocation.
     pub children: SmallVec<Handle, 2>,
-    /// Node whose list of children has this node; `None` if it is in no list.
-    pub parent: Option<Handle>,
+    /// Node whose list of children has this node; none if it is in no list.
+    pub parent: OptionalHandle,
 }
+
+const _: () = prove!(size_of::<Node>() == 104);
 
 impl Node {
     /// Creates a node without a parent or children.
@@ -35,36 +38,38 @@ impl Node {
         Node {
             data: contents,
             children: SmallVec::new(alloc),
-            parent: None,
+            parent: OptionalHandle::none(),
         }
     }
 
     /// Creates a node with a parent and without children.
     #[inline(always)]
     fn below(alloc: Global, parent: Handle, contents: NodeData) -> Node
+        requires { parent + 1 < 2 ^ 64 }
         ensures { node_of result ≡ record { content = content_of contents; children = []; parent = Some parent } }
     {
         Node {
             data: contents,
             children: SmallVec::new(alloc),
-            parent: Some(parent),
+            parent: OptionalHandle::some(parent),
         }
     }
 
     /// Creates an element with a parent and without attributes or children.
     #[inline(always)]
     fn element_below(alloc: Global, parent: Handle, name: QualName) -> Node
+        requires { parent + 1 < 2 ^ 64 }
         ensures { node_of result ≡ record { content = element (name_of name) [] None false; children = []; parent = Some parent } }
     {
         Node {
             data: NodeData::Element {
                 name,
-                attrs: Attributes::of(Vec::new(alloc)),
-                template_contents: None,
+                attrs: Attributes::new(),
+                template_contents: OptionalHandle::none(),
                 mathml_annotation_xml_integration_point: false,
             },
             children: SmallVec::new(alloc),
-            parent: Some(parent),
+            parent: OptionalHandle::some(parent),
         }
     }
 }
@@ -202,13 +207,14 @@ pub fn put_str(
 }
 
 /// Sets the node's parent, without changing a list of children.
-pub fn set_parent(nodes: &mut Vec<Node>, node: Handle, parent: Option<Handle>)
-    requires { node < vec_len nodes.old }
+pub(crate) fn set_parent(nodes: &mut Vec<Node>, node: Handle, parent: Option<Handle>)
+    requires node { node < vec_len nodes.old }
+    requires parent { ForSome parent (λ p. p < vec_len nodes.old) }
     ensures len { vec_len nodes.new ≡ vec_len nodes.old }
     ensures parent { nodes_of nodes.new.items ≡ with_parent (nodes_of nodes.old.items) node parent }
     ensures room { KeepsRoom nodes.old.items nodes.new.items }
 {
-    nodes[node.number()].parent = parent;
+    nodes[node.number()].parent = OptionalHandle::of(parent);
 }
 
 /// Appends the child to the parent's list, and sets its parent.
@@ -245,12 +251,17 @@ pub fn push_element(
     ensures err { OnErr result (nodes_of nodes.new.items ≡ nodes_of nodes.old.items) }
 {
     nodes.reserve(if flags.template { 2 } else { 1 })?;
-    let template_contents = flags.template.then_some(Handle::new(nodes.len() + 1));
+    let attrs = Attributes::of(alloc, attrs)?;
+    let template_contents = if flags.template {
+        OptionalHandle::some(Handle::new(nodes.len() + 1))
+    } else {
+        OptionalHandle::none()
+    };
     nodes.push(Node::lone(
         alloc,
         NodeData::Element {
             name,
-            attrs: Attributes::of(attrs),
+            attrs,
             template_contents,
             mathml_annotation_xml_integration_point: flags.mathml_annotation_xml_integration_point,
         },

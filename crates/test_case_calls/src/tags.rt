@@ -19,7 +19,7 @@ fn namespace(alloc: Global, word: &str) -> Result<Namespace, AllocError> {
         "svg" => Namespace::Svg,
         "mathml" => Namespace::MathMl,
         "none" => Namespace::None,
-        _ => Namespace::Other(String::from_str(alloc, word)?),
+        _ => Namespace::Other(Box::new(alloc, String::from_str(alloc, word)?)?),
     })
 }
 
@@ -124,7 +124,7 @@ pub fn push_data(shown: &mut String, data: &NodeData) -> Result<(), AllocError> 
 pub fn push_label(shown: &mut String, data: &NodeData) -> Result<(), AllocError> {
     match data {
         NodeData::Document => shown.push_str("document"),
-        NodeData::Doctype { name, .. } => push_signed(shown, "<!", name),
+        NodeData::Doctype { parts } => push_signed(shown, "<!", &parts.name),
         NodeData::Text { contents } => push_signed(shown, "\"", contents.as_str()),
         NodeData::Comment { contents } => push_signed(shown, "!", contents),
         NodeData::ProcessingInstruction { target, .. } => push_signed(shown, "?", target),

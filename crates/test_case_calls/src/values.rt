@@ -5,7 +5,7 @@ use crate::tags::{Tag, attributes, push_attributes, push_data};
 use crate::texts::{number, printed, push_escaped, split_word};
 use crate::watch::Watch;
 use html_render_dom::Error;
-use html_render_dom::dom::{Attributes, LocalName, NodeData};
+use html_render_dom::dom::{Attributes, LocalName, NodeData, TextContents};
 use html_render_dom::text::Text;
 use std::alloc::{AllocError, Global};
 
@@ -14,9 +14,12 @@ pub fn answer(alloc: Global, asked: &str, given: &str, watch: Watch) -> Result<S
     match asked {
         "Text::from_str" => text(alloc, given, watch),
         "NodeData::text_of" => node(alloc, given, watch),
+        "NodeData::doctype" => doctype(alloc, given, watch),
+        "Attributes::of" => listed(alloc, given, watch),
         "Attributes::add_missing" => completed(alloc, given, watch),
-        "LocalName::from_str" => copied(alloc, given, watch),
-        "LocalName::with_capacity" => with_room(alloc, given, watch),
+        "LocalName::from_str" => name(alloc, given, watch),
+        "TextContents::from_str" => copied(alloc, given, watch),
+        "TextContents::with_capacity" => with_room(alloc, given, watch),
         _ => changed(alloc, asked, given, watch),
     }
 }
@@ -44,6 +47,26 @@ fn node(alloc: Global, given: &str, watch: Watch) -> Result<String, Fault> {
     printed(alloc, &shown)
 }
 
+/// Returns the line of the data of a doctype with this name, and without identifiers.
+fn doctype(alloc: Global, given: &str, watch: Watch) -> Result<String, Fault> {
+    let name = String::from_str(alloc, given)?;
+    watch.begin("NodeData::doctype");
+    let data = NodeData::doctype(alloc, name, String::new(alloc), String::new(alloc));
+    let mut shown = String::new(alloc);
+    push_data(&mut shown, &told(watch, data)?)?;
+    printed(alloc, &shown)
+}
+
+/// Returns the line of a tag's attributes.
+fn listed(alloc: Global, given: &str, watch: Watch) -> Result<String, Fault> {
+    let tag = Tag::read(alloc, given)?;
+    watch.begin("Attributes::of");
+    let all = told(watch, Attributes::of(alloc, tag.attributes))?;
+    let mut shown = String::new(alloc);
+    push_attributes(&mut shown, all.as_slice())?;
+    printed(alloc, &shown)
+}
+
 /// Returns the line of a tag's attributes after `TAG @NAME=VALUE@NAME=VALUE`: its own, then those that it lacks.
 fn completed(alloc: Global, given: &str, watch: Watch) -> Result<String, Fault> {
     let (tag, more) = split_word(given);
@@ -52,7 +75,7 @@ fn completed(alloc: Global, given: &str, watch: Watch) -> Result<String, Fault> 
         return Err(Fault::Malformed("there are no attributes"));
     };
     let more = attributes(alloc, fields)?;
-    let mut all = Attributes::of(tag.attributes);
+    let mut all = Attributes::of(alloc, tag.attributes)?;
     watch.begin("Attributes::add_missing");
     told(watch, all.add_missing(more))?;
     let mut shown = String::new(alloc);
@@ -60,51 +83,58 @@ fn completed(alloc: Global, given: &str, watch: Watch) -> Result<String, Fault> 
     printed(alloc, &shown)
 }
 
-/// Returns the line of a name: its length in bytes, and the name.
-fn name_line(alloc: Global, name: &LocalName) -> Result<String, Fault> {
-    let mut shown = format!(in alloc; "|{} ", name.len())?;
-    push_escaped(&mut shown, name.as_str())?;
+/// Returns a line of a text: its length in bytes, and the text.
+fn counted(alloc: Global, text: &str) -> Result<String, Fault> {
+    let mut shown = format!(in alloc; "|{} ", text.len())?;
+    push_escaped(&mut shown, text)?;
     shown.push('\n')?;
     Ok(shown)
 }
 
-/// Returns the line of a text copied as a name.
-fn copied(alloc: Global, given: &str, watch: Watch) -> Result<String, Fault> {
+/// Returns the line of a copied name.
+fn name(alloc: Global, given: &str, watch: Watch) -> Result<String, Fault> {
     watch.begin("LocalName::from_str");
     let name = told(watch, LocalName::from_str(alloc, given))?;
-    name_line(alloc, &name)
+    counted(alloc, name.as_str())
 }
 
-/// Returns the line of an empty name with room for a number of bytes.
+/// Returns the line of a copied text of a node.
+fn copied(alloc: Global, given: &str, watch: Watch) -> Result<String, Fault> {
+    watch.begin("TextContents::from_str");
+    let text = told(watch, TextContents::from_str(alloc, given))?;
+    counted(alloc, text.as_str())
+}
+
+/// Returns the line of an empty text with room for a number of bytes.
 fn with_room(alloc: Global, given: &str, watch: Watch) -> Result<String, Fault> {
     let bytes = number(given)?;
-    watch.begin("LocalName::with_capacity");
-    let name = told(watch, LocalName::with_capacity(alloc, bytes))?;
-    name_line(alloc, &name)
+    watch.begin("TextContents::with_capacity");
+    let text = told(watch, TextContents::with_capacity(alloc, bytes))?;
+    counted(alloc, text.as_str())
 }
 
-/// Returns the line of a name after a call that changes it: `NAME MORE`, where `MORE` is a text or a number of bytes.
+/// Returns the line of a text after a call that changes it: `TEXT MORE`, where `MORE` is a text or a number of bytes.
 ///
-/// A refused call must leave the name unchanged.
+/// A refused call must leave the text unchanged.
 fn changed(alloc: Global, asked: &str, given: &str, watch: Watch) -> Result<String, Fault> {
     let (before, more) = split_word(given);
     let bytes = more.parse().unwrap_or(0);
     let character = more.chars().next().unwrap_or(' ');
-    let mut name = LocalName::from_str(alloc, before)?;
+    let mut text = TextContents::from_str(alloc, before)?;
     watch.begin(asked);
     let came = match asked {
-        "LocalName::reserve" => name.reserve(alloc, bytes),
-        "LocalName::push_str" => name.push_str(alloc, more),
-        "LocalName::push" => name.push(alloc, character),
-        "LocalName::put_front" => name.put_front(alloc, more),
+        "TextContents::reserve" => text.reserve(alloc, bytes),
+        "TextContents::push_str" => text.push_str(alloc, more),
+        "TextContents::push" => text.push(alloc, character),
+        "TextContents::put_front" => text.put_front(alloc, more),
         _ => {
-            name.clear();
+            text.clear();
             Ok(())
         }
     };
-    if came.is_err() && name.as_str() != before {
-        return Err(Fault::Malformed("a refused call changed the name"));
+    if came.is_err() && text.as_str() != before {
+        return Err(Fault::Malformed("a refused call changed the text"));
     }
     told(watch, came)?;
-    name_line(alloc, &name)
+    counted(alloc, text.as_str())
 }

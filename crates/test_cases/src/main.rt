@@ -56,7 +56,7 @@
 //! | `table_grid`, `spans_are_valid` | the spans of rows: `3x1 2x2 / 1x1`, and `-` for a row without cells |
 //! | `column_widths`, `column_widths_metered`, `cut_fits` | minimums, shares and width: `3 3 / 9 4 / 10` |
 //! | `check_cut` | minimums, shares, width and a cut |
-//! | calls of names, attributes and texts | `LocalName::push_str a b`, .. |
+//! | calls of names, attributes and texts | `TextContents::push_str a b`, .. |
 //! | `built` | a script; the dump of its document, or its first faulty line |
 //! | `htree` | words and an input; its output, faults and status |
 //!

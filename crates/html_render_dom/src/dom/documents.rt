@@ -113,7 +113,7 @@ impl RcDom {
         }
         let mut at = node;
         while at != ancestor {
-            match self.entry(at).parent {
+            match self.entry(at).parent.get() {
                 Some(parent) => at = parent,
                 None => return false,
             }
@@ -157,7 +157,7 @@ impl RcDom {
         ensures parent { result ≡ parent_at self.now node }
         ensures is_node { IfSome result (IsNode self.now) }
     {
-        self.entry(node).parent
+        self.entry(node).parent.get()
     }
 
     /// Returns the arena's entry of the node.

@@ -225,11 +225,7 @@ impl RcDom {
         ensures err { OnlyOutOfMemory result }
         ensures grows { node_count self.old ≤ node_count self.new }
     {
-        let doctype = NodeData::Doctype {
-            name,
-            public_id,
-            system_id,
-        };
+        let doctype = NodeData::doctype(alloc, name, public_id, system_id)?;
         let document = self.get_document();
         nodes::attach_new(alloc, &mut self.nodes, document, doctype)?;
         Ok(())

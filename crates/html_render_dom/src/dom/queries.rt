@@ -39,7 +39,7 @@ impl RcDom {
             NodeData::Element {
                 template_contents,
                 ..
-            } => template_contents.is_some(),
+            } => template_contents.get().is_some(),
             _ => false,
         }
     }
@@ -52,9 +52,12 @@ impl RcDom {
     {
         match &self.entry(node).data {
             NodeData::Element {
-                template_contents: Some(contents),
+                template_contents,
                 ..
-            } => *contents,
+            } => match template_contents.get() {
+                Some(contents) => contents,
+                None => unreachable!(),
+            },
             _ => unreachable!(),
         }
     }

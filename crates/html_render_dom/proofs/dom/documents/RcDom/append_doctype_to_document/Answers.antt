@@ -10,4 +10,4 @@ invariant_of-self-2 c =
     IsForest-attach_new dom dom (λ i. dom) c.self.invariant 0
     (doctype (string_bytes c.args.name) (string_bytes c.args.public_id)
     (string_bytes c.args.system_id)) refl c.self.invariant.has_document _
-    (rw c.get_document-document.ensures.document at c.in_ok-attach_new.ensures.ok)
+    (rw (c.in_ok-doctype.ensures, c.get_document-document.ensures.document) at c.in_ok-attach_new.ensures.ok)

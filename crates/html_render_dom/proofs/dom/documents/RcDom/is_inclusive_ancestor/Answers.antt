@@ -14,7 +14,7 @@ loop-ancestor-smaller c =
     let f = c.entry.ensures.forest in
     let at = c.loop-ancestor.at in
     let p = c.in-Some.parent in
-    let e : parent_at dom at ≡ Some p = sym (ap (λ n. n.parent) c.entry.ensures.node) ∙ c.in-Some.is in
+    let e : parent_at dom at ≡ Some p = sym (ap (λ n. n.parent) c.entry.ensures.node) ∙ sym c.get.ensures ∙ c.in-Some.is in
     let in_p : IsNode dom p = IfSome-parent dom f at (Some p) (sym e) in
     omega (arith, depth-child dom f at p e in_p, depth-le dom f (tree_of dom p) (p ∷ []) (HaveTrees-tree_of dom f p in_p))
 
@@ -24,7 +24,7 @@ loop-ancestor-preserved c =
     let f = c.entry.ensures.forest in
     let at = c.loop-ancestor.at in
     let p = c.in-Some.parent in
-    let e : parent_at dom at ≡ Some p = sym (ap (λ n. n.parent) c.entry.ensures.node) ∙ c.in-Some.is in
+    let e : parent_at dom at ≡ Some p = sym (ap (λ n. n.parent) c.entry.ensures.node) ∙ sym c.get.ensures ∙ c.in-Some.is in
     let in_p : IsNode dom p = IfSome-parent dom f at (Some p) (sym e) in
     let other : at ≢ c.args.ancestor = search rules in
     let kept = c.loop-ancestor.invariant.1 in (

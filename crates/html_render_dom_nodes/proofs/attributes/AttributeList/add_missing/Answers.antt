@@ -5,7 +5,7 @@ use Rattle.html_render_dom_nodes.specs.declared.names.Attribute.{Attribute}
 use Rattle.html_render_dom_nodes.specs.Content.{name_of, property_of}
 use Rattle.html_render_dom_nodes.specs.Elements.{has_name, with_missing}
 use Rattle.html_render_dom_nodes.proofs.Mapped.{map-filter}
-use Rattle.html_render_dom_nodes.proofs.attributes.Attributes.add_missing.Goals as goal
+use Rattle.html_render_dom_nodes.proofs.attributes.AttributeList.add_missing.Goals as goal
 
 -- the attributes after those of the given ones whose names are new are appended
 added : {T E : Type 0} (r : Result T E) (old given left new : List Attribute) →

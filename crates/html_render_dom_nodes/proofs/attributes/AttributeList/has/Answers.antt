@@ -4,8 +4,8 @@ use Rattle.html_render_dom_nodes.specs.Content.{name_of, property_of}
 use Rattle.html_render_dom_nodes.specs.Elements.{has_name}
 use Rattle.html_render_dom_nodes.specs.Places.{TellsPlaces, place_of}
 use Rattle.html_render_dom_nodes.proofs.Places.{named_from, none_named, place_within}
-use Rattle.html_render_dom_nodes.proofs.attributes.Attributes.has.Goals as goal
-use Rattle.html_render_dom_nodes.proofs.attributes.Attributes.has.Goals.{After-get}
+use Rattle.html_render_dom_nodes.proofs.attributes.AttributeList.has.Goals as goal
+use Rattle.html_render_dom_nodes.proofs.attributes.AttributeList.has.Goals.{After-get}
 
 -- the index has the place of the first attribute with the name's local name
 told : (c : After-get) (found : Option ℕ) →

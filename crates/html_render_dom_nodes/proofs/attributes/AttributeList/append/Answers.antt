@@ -2,8 +2,8 @@ use Rattle.std.proofs.Common.{◌≡◌, ◌+◌, IfSome, length, sym, ap, subst
 use Rattle.std.specs.BTreeMap.{get_by_text}
 use Rattle.html_render_dom_nodes.specs.Places.{TellsPlaces, first_of, place_of}
 use Rattle.html_render_dom_nodes.proofs.Places.{place_of-append}
-use Rattle.html_render_dom_nodes.proofs.attributes.Attributes.append.Goals as goal
-use Rattle.html_render_dom_nodes.proofs.attributes.Attributes.append.Goals.{in-Some+in_ok-note_all, in_default}
+use Rattle.html_render_dom_nodes.proofs.attributes.AttributeList.append.Goals as goal
+use Rattle.html_render_dom_nodes.proofs.attributes.AttributeList.append.Goals.{in-Some+in_ok-note_all, in_default}
 
 pub invariant_of-self-2 : goal.invariant_of-self-2
 invariant_of-self-2 c =
