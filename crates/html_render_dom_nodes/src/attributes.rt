@@ -166,7 +166,7 @@ impl AttributeList {
 
 /// The attributes of an element, in the order in which they were given, in 16 bytes.
 ///
-/// They are in an allocation. No attributes take none.
+/// The list is in an allocation, and an empty list needs none.
 #[derive(Drop)]
 pub struct Attributes {
     list: Option<Box<AttributeList>>,

@@ -1,6 +1,6 @@
 //! Local names of elements and attributes, in 16 bytes.
 
-ghost use Rattle.std.specs.Prelude.{◌≡◌, IfOk, IfSome};
+ghost use Rattle.std.specs.Prelude.{◌≡◌, ◌≤◌, ◌↔◌, IfOk, IfSome, IsSome, length};
 ghost use Rattle.std.specs.Str.{bytes_eq};
 ghost use Rattle.std.specs.Cmp.{partial_equiv_from_equiv};
 ghost use Rattle.std.specs.Cmp.Lexicographic.{nat_list_eq_equiv};
@@ -38,7 +38,8 @@ impl InlineName {
     /// Returns a copy of the name, or `None` if it is longer than `INLINE_MAX` bytes.
     #[inline]
     fn try_from_str(name: &str) -> Option<InlineName>
-        ensures { IfSome result (λ copy. copy ≡ name.now) }
+        ensures variant { IsSome result ↔ (length name.now ≤ 14) }
+        ensures some { IfSome result (λ copy. copy ≡ name.now) }
     {
         let len = name.len();
         if len > INLINE_MAX {
