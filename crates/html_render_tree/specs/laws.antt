@@ -1,9 +1,8 @@
 -- the lines of a configuration, their strings and their texts
 pub mod Rendering
--- what results are, and which elements become parts of tables
+-- what results are
 pub mod Roles
-pub mod Mappings
--- good trees: their places, the kinds of nodes without children, results over good trees, and the render tree of a document
+-- good trees: their places, the kinds of nodes that elements become, results over good trees, and the render tree of a document
 pub mod GoodPlaces
 pub mod GoodKinds
 pub mod GoodResults

@@ -1,193 +1,107 @@
--- An element that closes gives its parent what it is defined to become: nodes, cells and captions, rows and their parts.
-use Rattle.std.proofs.Common.{◌≡◌, ℕ, Bool, true, false, not, ◌&&◌, ◌||◌, ◌==◌, if◌then◌else◌, List, [], ◌∷◌, ◌++◌, Option, Some, None, option_map, is_some, refl, sym, ap, ◌∙◌, append_assoc, append-nil}
+-- An element that closes over the results of its children gives its parent what it is defined to become.
+use Rattle.std.proofs.Common.{◌≡◌, ℕ, Bool, true, false, not, ◌||◌, if◌then◌else◌, List, [], ◌∷◌, ◌++◌, map, Option, Some, None, option_map, refl, sym, ap, ◌∙◌, append_assoc, append-nil}
 use Rattle.std.specs.Prelude.{filter, flat_map}
 use Rattle.std.specs.List.{list_any}
-use Rattle.std.specs.Option.{option_map_or}
 use Rattle.html_render_dom_values.specs.Forest.{none, node, followed_by}
+use Rattle.html_render_dom_values.specs.Outcome.{◌>>=◌}
 use Rattle.html_render_dom_styles.specs.Selectors.{is_filled}
 use Rattle.html_render_layout_nodes.specs.Kinds.{holds_insertions}
 use Rattle.html_render_layout_nodes.specs.Preorder.{flatten}
 use Rattle.html_render_layout_nodes.specs.laws.Preorder.{flatten-followed_by}
-use Rattle.html_render_layout_nodes.specs.RenderNodes.{without_style}
+use Rattle.html_render_layout_nodes.specs.RenderNodes.{no_style, without_style}
+use Rattle.html_render_layout_nodes.specs.Tables.{TableParts, unmeasured_table}
 use Rattle.html_render_layout_nodes.specs.declared.tree.NodeKind.{NodeKind}
-use Rattle.html_render_layout_nodes.specs.declared.tree.NodeKind.TheVariants.{Container, FragmentStart, Table, TableCell, TableRow, Text}
-use Rattle.html_render_layout_nodes.specs.declared.tree.NodeStyle.{NodeStyle}
+use Rattle.html_render_layout_nodes.specs.declared.tree.NodeKind.TheVariants.{Container, FragmentStart, Table, TableRow}
 use Rattle.html_render_layout_nodes.specs.declared.tree.RenderNode.{RenderNode}
+use Rattle.html_render_parts.specs.TableCells.{cell_grid_of}
 use Rattle.html_render_tree_mapping.specs.Conversion.{vanishes}
-use Rattle.html_render_tree_mapping.specs.Results.{Nodes, Result, completed, in_first, inserted, leaf, level_in, over, row_over, rows_over, trees_of, beside}
+use Rattle.html_render_tree_mapping.specs.Results.{Nodes, Result, Role, alone, beside, captioned, cell_of, inserted, left_of, level_in, made, over, row_of, row_over, rows_over, spans_of, table_of, table_over, trees, trees_of}
 use Rattle.html_render_tree_mapping.specs.Results as role
+use Rattle.html_render_tree_mapping.specs.declared.mapping.ElementKind.{ElementKind}
 use Rattle.html_render_tree_mapping.specs.declared.mapping.ElementKind.TheVariants as element
 use Rattle.html_render_tree_mapping.specs.declared.mapping.IfEmpty.{IfEmpty}
 use Rattle.html_render_tree_mapping.specs.declared.mapping.IfEmpty.TheVariants.{Stands, Vanishes}
+use Rattle.html_render_tree_mapping.specs.declared.plans.Element.{Element}
 use Rattle.html_render_tree_mapping.specs.declared.tables.CellSpan.{CellSpan}
 use Rattle.html_render_tree_mapping.specs.declared.tables.Part.TheVariants as part
-use Rattle.html_render_tree_convert.specs.OpenElements.{OpenKind, OpenElement, Insertion, nothing, within, inserts, insertion_of, text_nodes, leaves, over_entries, node_in, holder, carrier}
+use Rattle.html_render_tree_convert.specs.OpenElements.{OpenKind, OpenElement, Insertion, nothing, within, inserts, insertion_of, leaves, over_entries, node_in, holder, carrier}
 use Rattle.html_render_tree_convert.specs.OpenElements as open_kind
-use Rattle.html_render_tree_mapping.specs.declared.plans.Element.{Element}
-use Rattle.html_render_tree_convert.specs.Steps.{Closed, appended, caption_kind, closed, closed_node, is_row, is_rows, is_table, mark_left, received, received_any}
-use Rattle.html_render_tree_convert.proofs.Entries.{Entries, trees, filled, filled-nothing, filled-within, flatten-filled, flatten-one, flatten-node, flatten-trees}
-use Rattle.html_render_tree_convert.proofs.Coming.{Step, all-come, all_come, all_entries, comes, comes_any, comes_as, closed_result, filled_result, without_due, due_after, given_after, opens}
-use Rattle.html_render_tree_convert.proofs.Keeping.{step-node, step-cell, step-caption, step-row, step-rows, never, always, no_spans, keeps_node, counts_node, alone_entries, entries-alone, entries-filled, filled_entries, row_kept, cell_kept, row_cells, cell_spans}
-use Rattle.html_render_tree_convert.proofs.Mappings.{may_vanish, stands_as_is}
-use Rattle.html_render_tree_convert.proofs.Planning.{made_as, left_of, filter-all}
+use Rattle.html_render_tree_convert.specs.Steps.{Closed, with_given, all_parted, appended, begun, begun_cell, begun_node, begun_row, begun_rows, caption_kind, closed, closed_node, closed_once, is_row, is_rows, is_table, mark_left, received, received_any, row_carrier, table_in_container}
+use Rattle.html_render_tree_convert.proofs.Entries.{Entries, or-true, appended-nil, appended_assoc, entries-over, entries-within, filled, filled-nothing, filled-twice, flatten-trees, nil-appended, nodes-leaves}
+use Rattle.html_render_tree_convert.proofs.Coming.{all_come, as_block, as_caption, closed_result, comes, comes_any, counted, if-same, is_plain, kept, map-map, members, members-come, node-entries, one_more, part_trees, parts, parts-come, plain-come, row-one, rows-one, take_due, without_due}
 
--- ---- small facts
+-- the results of its children come into the first of these open elements, and that closes
+abbrev pub closed_over : List Result → List OpenElement → Option (List OpenElement)
+closed_over rs [] = Some []
+closed_over rs (q ∷ qs) = closed (all_come rs q ∷ qs)
 
-pub any-never : (xs : List Result) → list_any never xs ≡ false
-any-never [] = refl
-any-never (x ∷ xs) = any-never xs
+-- the parent once an element of this result has closed
+abbrev pub after_result : OpenElement → List OpenElement → Option (Option Result) → Option (List OpenElement)
+after_result p ps made = option_map (λ r. comes_any r p ∷ ps) made
 
-any-always : (xs : List Result) → list_any always xs ≡ is_filled xs
-any-always [] = refl
-any-always (x ∷ xs) = refl
+-- an element as one of a kind
+abbrev pub of_kind : Element → ElementKind → Element
+of_kind e k = record e { kind = k }
 
-pub given-none : (b : Bool) → given_after b None ≡ None
-given-none true = refl
-given-none false = refl
+-- an element that becomes nothing leaves its mark
+left-comes : (e : Element) (v has_captions : Bool) (c : Closed) (r : Result) (p q : OpenElement) → (v ≡ true → q ≡ p) →
+    received c q ≡ comes (inserted (level_in e.kind (inserts e) has_captions) e r) p →
+    received_any (if v then mark_left e.texts.mark else Some c) q ≡ comes_any (left_of e v has_captions r) p
+left-comes e true has_captions c r p q h k = ap (received_any (mark_left e.texts.mark)) (h refl) ∙ by e.texts.mark
+  where
+    by : (mark : Option (List ℕ)) → received_any (mark_left mark) p ≡ comes_any (option_map (λ name. alone (without_style (FragmentStart name))) mark) p
+    by None = refl
+    by (Some name) = refl
+left-comes e false has_captions c r p q h k = k
 
-and-true : (b : Bool) → (b && true) ≡ b
-and-true true = refl
-and-true false = refl
+pub filter-all : {X : Type 0} (xs : List X) → filter (λ (x : X). true) xs ≡ xs
+filter-all [] = refl
+filter-all (x ∷ xs) = ap (λ l. x ∷ l) (filter-all xs)
 
-pub and-false : (b : Bool) → (b && false) ≡ false
-and-false true = refl
-and-false false = refl
+any-all : {X : Type 0} (xs : List X) → list_any (λ (x : X). true) xs ≡ is_filled xs
+any-all [] = refl
+any-all (x ∷ xs) = refl
 
-never-vanishes : (e : IfEmpty) (b : Bool) → not (may_vanish e) ≡ true → vanishes e b ≡ false
-never-vanishes Stands b h = refl
-never-vanishes Vanishes b h = cc
+abbrev pub is_table_kind : ElementKind → Bool
+is_table_kind (element.Part part.Table) = true
+is_table_kind _ = false
 
--- ---- what an element inserts
+-- ---- nodes, cells and captions
 
--- a result with the insertion of an element, so many levels down
-abbrev pub with_insertion : Element → (level : ℕ) → Result → Result
-with_insertion e level r = record r {
-  has_children = (inserts e && (level == 0)) || r.has_children;
-  below = option_map (filled level (insertion_of e)) r.below;
+abbrev role_in : OpenKind → Role
+role_in (open_kind.Cell span) = role.Cell span
+role_in open_kind.Caption = role.Caption
+role_in _ = role.Contents
+
+-- a holder as a result, with what it inserts
+abbrev held : OpenKind → RenderNode → Insertion → (has_children : Bool) → List Result → Result
+held k n i c rs = record {
+  role = role_in k;
+  node = n;
+  has_children = c || is_filled (kept k rs);
+  below = option_map (filled 0 i) (trees_of (kept k rs));
 }
 
-filled-none : (level : ℕ) (o : Option Nodes) → option_map (filled level nothing) o ≡ o
-filled-none level None = refl
-filled-none level (Some t) = ap Some (filled-nothing level t)
+holder-left : (k : OpenKind) → is_plain k ≡ true → (rs : List Result) (n : RenderNode) (f : IfEmpty) (m : Option (List ℕ)) (i : Insertion) (c : Bool)
+    (q : OpenElement) (ps : List OpenElement) → closed (all_come rs (holder k n f m i c) ∷ (q ∷ ps))
+    ≡ Some (received_any (if vanishes f (list_any (counted k) rs) then mark_left m else Some (closed_result (held k n i c rs))) q ∷ ps)
+holder-left (open_kind.Node kind) h rs n f m i c q ps =
+    ap (λ x. closed (x ∷ (q ∷ ps))) (plain-come (open_kind.Node kind) h rs (holder (open_kind.Node kind) n f m i c))
+    ∙ simp (entries-within n i (trees_of (kept (open_kind.Node kind) rs)))
+holder-left (open_kind.Cell span) h rs n f m i c q ps =
+    ap (λ x. closed (x ∷ (q ∷ ps))) (plain-come (open_kind.Cell span) h rs (holder (open_kind.Cell span) n f m i c))
+    ∙ simp (entries-within n i (trees_of (kept (open_kind.Cell span) rs)))
+holder-left open_kind.Caption h rs n f m i c q ps =
+    ap (λ x. closed (x ∷ (q ∷ ps))) (plain-come open_kind.Caption h rs (holder open_kind.Caption n f m i c))
+    ∙ simp (entries-within n i (trees_of (kept open_kind.Caption rs)))
+holder-left k h rs n f m i c q ps = cc
 
-abbrev with_texts : (mark before after : Option (List ℕ)) → (level : ℕ) → Result → Result
-with_texts mark before after level r = record r {
-  has_children = ((is_some mark || (is_some before || is_some after)) && (level == 0)) || r.has_children;
-  below = option_map (in_first level (trees (text_nodes FragmentStart mark ++ text_nodes Text before)) (trees (text_nodes Text after))) r.below;
-}
-
-leaf-trees : (kind : List ℕ → NodeKind) (text : Option (List ℕ)) → leaf kind text ≡ trees (text_nodes kind text)
-leaf-trees kind None = refl
-leaf-trees kind (Some t) = refl
-
-leaves-trees : (mark before : Option (List ℕ)) →
-    followed_by (leaf FragmentStart mark) (leaf Text before) ≡ trees (text_nodes FragmentStart mark ++ text_nodes Text before)
-leaves-trees None before = leaf-trees Text before
-leaves-trees (Some name) before = ap (node (without_style (FragmentStart name)) none) (leaf-trees Text before)
-
--- nodes inserted as trees of texts
-inserted-trees : (level : Option ℕ) (mark before after : Option (List ℕ)) (r : Result) →
-    inserted level (followed_by (leaf FragmentStart mark) (leaf Text before)) (leaf Text after) r
-    ≡ inserted level (trees (text_nodes FragmentStart mark ++ text_nodes Text before)) (trees (text_nodes Text after)) r
-inserted-trees level mark before after r =
-    ap (λ f. inserted level f (leaf Text after) r) (leaves-trees mark before)
-    ∙ ap (λ b. inserted level (trees (text_nodes FragmentStart mark ++ text_nodes Text before)) b r) (leaf-trees Text after)
-
-completed-texts : (mark before after : Option (List ℕ)) (r : Result) (level : ℕ) →
-    ((is_some mark || (is_some before || is_some after)) ≡ true → level_in r.role r.node.kind ≡ Some level) →
-    completed mark before after (Some r) ≡ Some (with_texts mark before after level r)
-completed-texts None None None r level h = ap (λ (o : Option Nodes). Some (record r { below = o })) (sym (filled-none level r.below))
-completed-texts mark before after r level h =
-    ap Some (inserted-trees (level_in r.role r.node.kind) mark before after r)
-    ∙ ap (λ l. Some (inserted l (trees (text_nodes FragmentStart mark ++ text_nodes Text before)) (trees (text_nodes Text after)) r)) (h refl)
-
-pub completed-inside : (e : Element) (r : Result) (level : ℕ) → (inserts e ≡ true → level_in r.role r.node.kind ≡ Some level) →
-    completed e.texts.mark e.texts.before e.texts.after (Some r) ≡ Some (with_insertion e level r)
-completed-inside e r level h = completed-texts e.texts.mark e.texts.before e.texts.after r level h
-
--- an element beside which its insertion is
-pub completed-beside : (mark before after : Option (List ℕ)) (r : Result) → (is_some mark || (is_some before || is_some after)) ≡ true →
-    level_in r.role r.node.kind ≡ None →
-    completed mark before after (Some r)
-    ≡ Some (inserted None (trees (text_nodes FragmentStart mark ++ text_nodes Text before)) (trees (text_nodes Text after)) r)
-completed-beside None None None r h k = cc
-completed-beside mark before after r h k =
-    ap Some (inserted-trees (level_in r.role r.node.kind) mark before after r)
-    ∙ ap (λ l. Some (inserted l (trees (text_nodes FragmentStart mark ++ text_nodes Text before)) (trees (text_nodes Text after)) r)) k
-
--- the mark of an element that vanishes
-pub mark-comes : (mark before after : Option (List ℕ)) (p : OpenElement) → received_any (mark_left mark) p ≡ comes_any (completed mark before after None) p
-mark-comes None before after p = refl
-mark-comes (Some name) before after p = refl
-
--- an element that vanishes or doesn't
-pub left-comes : (e : Element) (v : Bool) (c : Closed) (r : Result) (p q : OpenElement) →
-    (v ≡ true → received_any (mark_left e.texts.mark) q ≡ comes_any (completed e.texts.mark e.texts.before e.texts.after None) p) →
-    received c q ≡ comes_any (completed e.texts.mark e.texts.before e.texts.after (Some r)) p →
-    received_any (if v then mark_left e.texts.mark else Some c) q ≡ comes_any (left_of e v r) p
-left-comes e true c r p q h k = h refl
-left-comes e false c r p q h k = k
-
--- ---- holders
-
--- what a holder writes, with what it inserts
-pub holder-entries : (n : RenderNode) (i : Insertion) (o : Option Nodes) →
-    option_map (over_entries n) (option_map (λ es. es ++ leaves i.back) (appended (Some (leaves i.front)) (option_map flatten o)))
-    ≡ option_map (λ t. flatten (node n t none)) (option_map (filled 0 i) o)
-holder-entries n i None = refl
-holder-entries n i (Some t) = ap Some (ap (over_entries n) (sym (flatten-filled i t)) ∙ sym (flatten-one n (filled 0 i t)))
-
--- a holder once results have come
-pub plain-came : (k : OpenKind) (keep count : Result → Bool) → Step (λ (s : List ℕ). k) no_spans keep count never never alone_entries →
-    (rs : List Result) (n : RenderNode) (e : IfEmpty) (m : Option (List ℕ)) (d : Insertion) (c w : Bool) (es : Option Entries) →
-    all_come rs (opens k n e m d None false c w es)
-    ≡ opens k n e m d None (list_any count rs) (c || is_filled (filter keep rs)) w (appended es (option_map flatten (trees_of (filter keep rs))))
-plain-came k keep count step rs n e m d c w es =
-    let kept = filter keep rs in
-    let x = appended es (all_entries (λ (s : List ℕ). k) no_spans keep count never never alone_entries d kept) in
-    all-come (λ (s : List ℕ). k) no_spans keep count never never alone_entries step rs [] n e m d None false c w es
-    ∙ ap (λ b. opens k n e m (due_after b d) (given_after b None) (list_any count rs) (c || is_filled kept) w x) (any-never kept)
-    ∙ ap (λ y. opens k n e m d None (list_any count rs) (c || is_filled kept) w (appended es y)) (entries-alone (λ s. k) keep count d kept)
-
-into-holds : (k : NodeKind) → stands_as_is k ≡ true → level_in role.Contents k ≡ (if holds_insertions k then Some 0 else None)
-into-holds (Table grid) h = cc
-into-holds k h = refl
-
-level-inside : (k : NodeKind) → stands_as_is k ≡ true → (i : Bool) → (not i || holds_insertions k) ≡ true → i ≡ true →
-    level_in role.Contents k ≡ Some 0
-level-inside k h true e same = into-holds k h ∙ ap (λ b. if b then Some 0 else None) e
-level-inside k h false e same = cc
-
--- what closes as a result with the insertion that it holds
-closed-holder : (r : role.Role) (n : RenderNode) (e : Element) (i : Insertion) (h : Bool) (o : Option Nodes) →
-    closed_node r n (inserts e || h) (option_map (λ es. es ++ leaves i.back) (appended (Some (leaves i.front)) (option_map flatten o)))
-    ≡ record { role = r; kind = n.kind; has_children = (inserts e && true) || h; entries = option_map (λ t. flatten (node n t none)) (option_map (filled 0 i) o) }
-closed-holder r n e i h o =
-    ap (λ (x : Option Entries). let c : Closed = record { role = r; kind = n.kind; has_children = inserts e || h; entries = x } in c) (holder-entries n i o)
-    ∙ ap (λ b. let c : Closed = record { role = r; kind = n.kind; has_children = b || h; entries = option_map (λ t. flatten (node n t none)) (option_map (filled 0 i) o) } in c)
-    (sym (and-true (inserts e)))
-
--- ---- nodes
-
-module _ (kind : NodeKind) (e : Element) (p : OpenElement) (ps : List OpenElement) (rs : List Result) where
-  pub closed-inside : stands_as_is kind ≡ true → (not (inserts e) || holds_insertions kind) ≡ true →
-      closed (all_come rs (holder (open_kind.Node kind) (node_in e.style kind) e.if_empty e.texts.mark (insertion_of e) (inserts e)) ∷ (p ∷ ps))
-      ≡ option_map (λ r. comes_any r p ∷ ps) (made_as (element.Node kind) e rs)
-  closed-inside h inside =
-      let n = node_in e.style kind in
-      let i = insertion_of e in
-      let kept = filter (keeps_node kind) rs in
-      let r = over e.style kind kept in
-      ap (λ q. closed (q ∷ (p ∷ ps)))
-      (plain-came (open_kind.Node kind) (keeps_node kind) (counts_node kind) (step-node kind) rs n e.if_empty e.texts.mark (record { front = []; back = i.back })
-      (inserts e) false (Some (leaves i.front)))
-      ∙ ap (λ q. Some (q ∷ ps))
-      (left-comes e (vanishes e.if_empty (list_any (counts_node kind) rs))
-      (closed_node role.Contents n (inserts e || is_filled kept)
-      (option_map (λ es. es ++ leaves i.back) (appended (Some (leaves i.front)) (option_map flatten (trees_of kept))))) r p p
-      (λ v. mark-comes e.texts.mark e.texts.before e.texts.after p)
-      (ap (λ c. received c p) (closed-holder role.Contents n e i (is_filled kept) (trees_of kept))
-      ∙ ap (λ x. comes_any x p) (sym (completed-inside e r 0 (level-inside kind h (inserts e) inside)))))
+module _ (e : Element) (p : OpenElement) (ps : List OpenElement) (rs : List Result) where
+  node-inside : (kind : NodeKind) → (not (inserts e) || holds_insertions kind) ≡ true →
+      closed_over rs ((begun_node true kind (of_kind e (element.Node kind)) ++ p ∷ []) ++ ps) ≡ after_result p ps (made (of_kind e (element.Node kind)) [] rs)
+  node-inside kind h =
+      holder-left (open_kind.Node kind) refl rs (node_in e.style kind) e.if_empty e.texts.mark (insertion_of e) (inserts e) p ps
+      ∙ ap (λ x. Some (x ∷ ps)) (left-comes (of_kind e (element.Node kind)) _ false _ (over e.style kind (kept (open_kind.Node kind) rs)) p p (λ v. refl) (rw h))
 
   -- a node in a container
   wrapped-entries : (n : RenderNode) (i : Insertion) (o : Option Nodes) →
@@ -196,364 +110,225 @@ module _ (kind : NodeKind) (e : Element) (p : OpenElement) (ps : List OpenElemen
       (option_map (over_entries n) (option_map (λ es. es ++ []) (appended (Some []) (option_map flatten o))))))
       ≡ option_map (λ t. flatten (node (without_style Container) t none)) (option_map (λ t. followed_by (trees i.front) (node n t (trees i.back))) o)
   wrapped-entries n i None = refl
-  wrapped-entries n i (Some t) =
-      ap (λ es. Some (over_entries (without_style Container) es))
-      (ap (λ es. (leaves i.front ++ es) ++ leaves i.back) (over-same t) ∙ joined-entries)
-      ∙ ap Some (sym (flatten-one (without_style Container) (followed_by (trees i.front) (node n t (trees i.back)))))
+  wrapped-entries n i (Some t) = ap Some (simp (flatten-followed_by, flatten-trees, append_assoc, append-nil))
+
+  module _ (kind : NodeKind) where
+    abbrev wrapped : IfEmpty → OpenElement
+    wrapped f = record (holder (open_kind.Node kind) (node_in e.style kind) f None nothing false) { is_wrapped = true }
+
+    abbrev wrapper : IfEmpty → OpenElement
+    wrapper f = holder (open_kind.Node Container) (without_style Container) f e.texts.mark (insertion_of e) true
+
+    abbrev trees_in : Option Nodes
+    trees_in = trees_of (kept (open_kind.Node kind) rs)
+
+    wrapped-left : (f : IfEmpty) (has_results has_children : Bool) →
+        closed (record (wrapped f) { has_results = has_results; has_children = has_children; written = appended (Some []) (option_map flatten trees_in) }
+        ∷ (wrapper f ∷ (p ∷ ps)))
+        ≡ Some (received_any (if vanishes f has_results then mark_left e.texts.mark else Some (closed_node role.Contents (without_style Container) true
+        (option_map (λ es. es ++ leaves (insertion_of e).back) (appended (Some (leaves (insertion_of e).front))
+        (option_map (over_entries (node_in e.style kind)) (option_map (λ es. es ++ []) (appended (Some []) (option_map flatten trees_in)))))))) p ∷ ps)
+    wrapped-left Stands b c = refl
+    wrapped-left Vanishes true c = refl
+    wrapped-left Vanishes false c = refl
+
+    node-beside : (not (inserts e) || holds_insertions kind) ≡ false →
+        closed_over rs ((begun_node false kind (of_kind e (element.Node kind)) ++ p ∷ []) ++ ps) ≡ after_result p ps (made (of_kind e (element.Node kind)) [] rs)
+    node-beside h =
+        ap (λ x. closed (x ∷ (wrapper e.if_empty ∷ (p ∷ ps)))) (plain-come (open_kind.Node kind) refl rs (wrapped e.if_empty))
+        ∙ wrapped-left e.if_empty (list_any (counted (open_kind.Node kind)) rs) (is_filled (kept (open_kind.Node kind) rs))
+        ∙ ap (λ x. Some (x ∷ ps)) (left-comes (of_kind e (element.Node kind)) _ false _ (over e.style kind (kept (open_kind.Node kind) rs)) p p (λ v. refl)
+        (rw h (simp (wrapped-entries (node_in e.style kind) (insertion_of e) trees_in))))
+
+  caption-closes : closed_over rs (begun (element.Part part.Caption) (of_kind e (element.Part part.Caption)) p ++ ps)
+      ≡ after_result p ps (made (of_kind e (element.Part part.Caption)) [] rs)
+  caption-closes =
+      holder-left open_kind.Caption refl rs (node_in e.style (caption_kind p.kind)) e.if_empty e.texts.mark (insertion_of e) (inserts e) p ps
+      ∙ simp (filter-all, any-all)
+      (ap (λ x. Some (x ∷ ps)) (left-comes (of_kind e (element.Part part.Caption)) _ false _ (record (over e.style Container rs) { role = role.Caption }) p p (λ v. refl)
+      (by p.kind (inserts e || is_filled rs) (option_map (filled 0 (insertion_of e)) (trees_of rs)))))
     where
-      over-same : (t : Nodes) → over_entries n (flatten t ++ []) ≡ flatten (node n t none)
-      over-same t = ap (over_entries n) (append-nil (flatten t)) ∙ sym (flatten-one n t)
+      by : (k : OpenKind) (h : Bool) (o : Option Nodes) →
+          received (closed_result (record { role = role.Caption; node = node_in e.style (caption_kind k); has_children = h; below = o })) p
+          ≡ received (closed_result (as_caption k (record { role = role.Caption; node = node_in e.style Container; has_children = h; below = o }))) p
+      by open_kind.Captions h o = refl
+      by k h o = refl
 
-      joined-entries : (leaves i.front ++ flatten (node n t none)) ++ leaves i.back ≡ flatten (followed_by (trees i.front) (node n t (trees i.back)))
-      joined-entries =
-          append_assoc (leaves i.front) (flatten (node n t none)) (leaves i.back)
-          ∙ ap (λ es. leaves i.front ++ (flatten (node n t none) ++ es)) (sym (flatten-trees i.back))
-          ∙ ap (λ es. leaves i.front ++ es) (sym (flatten-node n t (trees i.back)))
-          ∙ ap (λ es. es ++ flatten (node n t (trees i.back))) (sym (flatten-trees i.front))
-          ∙ sym (flatten-followed_by (trees i.front) (node n t (trees i.back)))
+  cell-closes : (span : CellSpan) (b : Bool) → is_row p.kind ≡ b →
+      closed_over rs (begun_cell span b (of_kind e (element.Part (part.Cell span))) p ++ ps)
+      ≡ after_result p ps (made (of_kind e (element.Part (part.Cell span))) [] rs)
+  cell-closes span true k =
+      holder-left (open_kind.Cell span) refl rs _ Stands e.texts.mark (within p.due (insertion_of e)) (inserts e) (without_due p) ps
+      ∙ rw k (simp (filter-all, filled-twice))
+  cell-closes span false k =
+      holder-left (open_kind.Cell span) refl rs _ Stands e.texts.mark (insertion_of e) (inserts e) p ps ∙ rw k (simp filter-all)
 
-  abbrev wrapper : IfEmpty → OpenElement
-  wrapper f = holder (open_kind.Node Container) (without_style Container) f e.texts.mark (insertion_of e) true
+  -- ---- rows
 
-  abbrev wrapped : IfEmpty → (has_results : Bool) → OpenElement
-  wrapped f b =
-      opens (open_kind.Node kind) (node_in e.style kind) f None nothing None b (is_filled (filter (keeps_node kind) rs)) true
-      (appended (Some []) (option_map flatten (trees_of (filter (keeps_node kind) rs))))
+  row-left : (i : Insertion) (q : OpenElement) → closed (all_come rs (row_carrier e i) ∷ (q ∷ ps))
+      ≡ Some (received (closed_result (record (row_over e.style (members cell_of rs)) { below = option_map (filled 1 i) (beside (members cell_of rs)) })) q ∷ ps)
+  row-left i q =
+      ap (λ x. closed (x ∷ (q ∷ ps))) (members-come open_kind.Row cell_of 0 (λ g. g) (λ s x r. row-one s x.role x r) (λ g. refl) rs [] (row_carrier e i))
+      ∙ simp (if-same, entries-over (node_in e.style TableRow) (filled 1 i) (beside (members cell_of rs)))
 
-  pub closed-wrapped : stands_as_is kind ≡ true → inserts e ≡ true → holds_insertions kind ≡ false →
-      closed (all_come rs (record (holder (open_kind.Node kind) (node_in e.style kind) e.if_empty None nothing false) { is_wrapped = true })
-      ∷ (wrapper e.if_empty ∷ (p ∷ ps)))
-      ≡ option_map (λ r. comes_any r p ∷ ps) (made_as (element.Node kind) e rs)
-  closed-wrapped h some beside =
-      ap (λ q. closed (q ∷ (wrapper e.if_empty ∷ (p ∷ ps))))
-      (plain-came (open_kind.Node kind) (keeps_node kind) (counts_node kind) (step-node kind) rs (node_in e.style kind) e.if_empty None nothing false true
-      (Some []))
-      ∙ by e.if_empty (list_any (counts_node kind) rs)
+  row-closes : (b : Bool) → is_rows p.kind ≡ b →
+      closed_over rs (begun_row b (of_kind e (element.Part part.Row)) p ++ ps) ≡ after_result p ps (made (of_kind e (element.Part part.Row)) [] rs)
+  row-closes true k = row-left (within p.due (insertion_of e)) (record p { due = nothing; given = None }) ∙ rw k (simp filled-twice)
+  row-closes false k = row-left (insertion_of e) p ∙ rw k
+
+  -- ---- parts of a table
+
+  -- rows that become nothing have none
+  vanish-empty : (f : IfEmpty) (l : List Result) → vanishes f (is_filled l) ≡ true → members row_of l ≡ []
+  vanish-empty f [] v = refl
+  vanish-empty Stands (x ∷ xs) v = cc
+  vanish-empty Vanishes (x ∷ xs) v = cc
+
+  -- rows take what is due where there is one
+  take-filled : (i : Insertion) (l : List Result) → take_due (option_map (filled 2 i) (beside l)) ≡ is_filled l
+  take-filled i [] = refl
+  take-filled i (x ∷ xs) = by x.below (beside xs)
     where
-      same :
-          received (closed_node role.Contents (without_style Container) true
-          (option_map (λ es. es ++ leaves (insertion_of e).back) (appended (Some (leaves (insertion_of e).front))
-          (option_map (over_entries (node_in e.style kind)) (option_map (λ es. es ++ [])
-          (appended (Some []) (option_map flatten (trees_of (filter (keeps_node kind) rs))))))))) p
-          ≡ comes_any (completed e.texts.mark e.texts.before e.texts.after (Some (over e.style kind (filter (keeps_node kind) rs)))) p
-      same =
-          ap (λ (x : Option Entries). received (record { role = role.Contents; kind = Container; has_children = true; entries = x }) p)
-          (wrapped-entries (node_in e.style kind) (insertion_of e) (trees_of (filter (keeps_node kind) rs)))
-          ∙ ap (λ x. comes_any x p)
-          (sym (completed-beside e.texts.mark e.texts.before e.texts.after (over e.style kind (filter (keeps_node kind) rs)) some
-          (into-holds kind h ∙ ap (λ b. if b then Some 0 else None) beside)))
+      by : (o u : Option Nodes) → take_due (option_map (filled 2 i) (one_more x.node o u)) ≡ true
+      by None u = refl
+      by (Some t) None = refl
+      by (Some t) (Some u) = refl
 
-      by : (f : IfEmpty) (b : Bool) → closed (wrapped f b ∷ (wrapper f ∷ (p ∷ ps)))
-          ≡ Some (comes_any (left_of e (vanishes f b) (over e.style kind (filter (keeps_node kind) rs))) p ∷ ps)
-      by Stands b = ap (λ q. Some (q ∷ ps)) same
-      by Vanishes true = ap (λ q. Some (q ∷ ps)) same
-      by Vanishes false = ap (λ q. Some (q ∷ ps)) (mark-comes e.texts.mark e.texts.before e.texts.after p)
-
--- ---- captions and cells
-
-comes-caption : (k : OpenKind) (style : NodeStyle) (h : Bool) (o : Option Nodes) (p : OpenElement) →
-    comes_as role.Caption k (record { role = role.Caption; node = node_in style Container; has_children = h; below = o }) p
-    ≡ received (closed_result (record { role = role.Caption; node = node_in style (caption_kind k); has_children = h; below = o })) p
-comes-caption (open_kind.Node kind) style h o p = refl
-comes-caption open_kind.Captions style h o p = refl
-comes-caption (open_kind.Parts spans) style h o p = refl
-comes-caption (open_kind.Rows behind rows) style h o p = refl
-comes-caption (open_kind.Row cells) style h o p = refl
-comes-caption (open_kind.Cell span) style h o p = refl
-comes-caption open_kind.Caption style h o p = refl
-
-abbrev pub caption_result : Element → List Result → Result
-caption_result e rs = record (over e.style Container rs) { role = role.Caption }
-
-pub closed-caption : (e : Element) (p : OpenElement) (ps : List OpenElement) (rs : List Result) →
-    closed (all_come rs (holder open_kind.Caption (node_in e.style (caption_kind p.kind)) e.if_empty e.texts.mark (insertion_of e) (inserts e)) ∷ (p ∷ ps))
-    ≡ option_map (λ r. comes_any r p ∷ ps) (made_as (element.Part part.Caption) e rs)
-closed-caption e p ps rs =
-    let n = node_in e.style (caption_kind p.kind) in
-    let i = insertion_of e in
-    ap (λ q. closed (q ∷ (p ∷ ps)))
-    (plain-came open_kind.Caption always always step-caption rs n e.if_empty e.texts.mark (record { front = []; back = i.back }) (inserts e) false
-    (Some (leaves i.front))
-    ∙ ap (λ l. opens open_kind.Caption n e.if_empty e.texts.mark (record { front = []; back = i.back }) None (list_any always rs) (inserts e || is_filled l) false
-    (appended (Some (leaves i.front)) (option_map flatten (trees_of l)))) (filter-all rs))
-    ∙ ap (λ q. Some (q ∷ ps))
-    (left-comes e (vanishes e.if_empty (list_any always rs))
-    (closed_node role.Caption n (inserts e || is_filled rs)
-    (option_map (λ es. es ++ leaves i.back) (appended (Some (leaves i.front)) (option_map flatten (trees_of rs))))) (caption_result e rs) p p
-    (λ v. mark-comes e.texts.mark e.texts.before e.texts.after p)
-    (ap (λ c. received c p) (closed-holder role.Caption n e i (is_filled rs) (trees_of rs))
-    ∙ sym (comes-caption p.kind e.style ((inserts e && true) || is_filled rs) (option_map (filled 0 i) (trees_of rs)) p)
-    ∙ ap (λ x. comes_any x p) (sym (completed-inside e (caption_result e rs) 0 (λ s. refl)))))
-
-comes-cell : (k : OpenKind) (span : CellSpan) (r : Result) (p : OpenElement) →
-    comes_as (role.Cell span) k r p
-    ≡ (if is_row k then received (closed_result (filled_result 0 p.due r)) (without_due p) else received (closed_result r) p)
-comes-cell (open_kind.Node kind) span r p = refl
-comes-cell open_kind.Captions span r p = refl
-comes-cell (open_kind.Parts spans) span r p = refl
-comes-cell (open_kind.Rows behind rows) span r p = refl
-comes-cell (open_kind.Row cells) span r p = refl
-comes-cell (open_kind.Cell s) span r p = refl
-comes-cell open_kind.Caption span r p = refl
-
-abbrev pub cell_result : CellSpan → Element → List Result → Result
-cell_result span e rs = record (over e.style TableCell rs) { role = role.Cell span }
-
--- insertions round each other
-filled-twice : (level : ℕ) (outer inner : Insertion) (o : Option Nodes) →
-    option_map (filled level (within outer inner)) o ≡ option_map (filled level outer) (option_map (filled level inner) o)
-filled-twice level outer inner None = refl
-filled-twice level outer inner (Some t) = ap Some (sym (filled-within level outer inner t))
-
-module _ (span : CellSpan) (e : Element) (p : OpenElement) (ps : List OpenElement) (rs : List Result) (stands : not (may_vanish e.if_empty) ≡ true) where
-  -- a cell with this insertion as a result
-  abbrev cell_with : Insertion → Result
-  cell_with i = record {
-    role = role.Cell span;
-    node = node_in e.style TableCell;
-    has_children = (inserts e && true) || is_filled rs;
-    below = option_map (filled 0 i) (trees_of rs);
-  }
-
-  cell-closed : (i : Insertion) (q : OpenElement) →
-      received (closed_result (cell_with i)) q ≡ comes (with_insertion e 0 (cell_result span e rs)) p →
-      closed (all_come rs (holder (open_kind.Cell span) (node_in e.style TableCell) e.if_empty e.texts.mark i (inserts e)) ∷ (q ∷ ps))
-      ≡ option_map (λ r. comes_any r p ∷ ps) (made_as (element.Part (part.Cell span)) e rs)
-  cell-closed i q same =
-      let n = node_in e.style TableCell in
-      ap (λ x. closed (x ∷ (q ∷ ps)))
-      (plain-came (open_kind.Cell span) always always (step-cell span) rs n e.if_empty e.texts.mark (record { front = []; back = i.back }) (inserts e) false
-      (Some (leaves i.front))
-      ∙ ap (λ l. opens (open_kind.Cell span) n e.if_empty e.texts.mark (record { front = []; back = i.back }) None (list_any always rs) (inserts e || is_filled l)
-      false (appended (Some (leaves i.front)) (option_map flatten (trees_of l)))) (filter-all rs))
-      ∙ ap (λ x. Some (x ∷ ps))
-      (left-comes e (vanishes e.if_empty (list_any always rs))
-      (closed_node (role.Cell span) n (inserts e || is_filled rs)
-      (option_map (λ es. es ++ leaves i.back) (appended (Some (leaves i.front)) (option_map flatten (trees_of rs))))) (cell_result span e rs) p q
-      (λ v. absurd (let f : vanishes e.if_empty (list_any always rs) ≡ false = never-vanishes e.if_empty (list_any always rs) stands in cc))
-      (ap (λ c. received c q) (closed-holder (role.Cell span) n e i (is_filled rs) (trees_of rs))
-      ∙ same
-      ∙ ap (λ x. comes_any x p) (sym (completed-inside e (cell_result span e rs) 0 (λ s. refl)))))
-
-  pub closed-cell : (b : Bool) → is_row p.kind ≡ b → (i : Insertion) (q : OpenElement) →
-      i ≡ (if b then within p.due (insertion_of e) else insertion_of e) → q ≡ (if b then without_due p else p) →
-      closed (all_come rs (holder (open_kind.Cell span) (node_in e.style TableCell) e.if_empty e.texts.mark i (inserts e)) ∷ (q ∷ ps))
-      ≡ option_map (λ r. comes_any r p ∷ ps) (made_as (element.Part (part.Cell span)) e rs)
-  closed-cell true k i q is qs =
-      cell-closed i q
-      (ap (λ x. received (closed_result (cell_with x)) q) is
-      ∙ ap (λ x. received (closed_result (cell_with (within p.due (insertion_of e)))) x) qs
-      ∙ ap (λ (o : Option Nodes). received (closed_result (record (cell_with nothing) { below = o })) (without_due p))
-      (filled-twice 0 p.due (insertion_of e) (trees_of rs))
-      ∙ sym (comes-cell p.kind span (with_insertion e 0 (cell_result span e rs)) p
-      ∙ ap (λ b. if b then received (closed_result (filled_result 0 p.due (with_insertion e 0 (cell_result span e rs)))) (without_due p)
-      else received (closed_result (with_insertion e 0 (cell_result span e rs))) p) k))
-  closed-cell false k i q is qs =
-      cell-closed i q
-      (ap (λ x. received (closed_result (cell_with x)) q) is
-      ∙ ap (λ x. received (closed_result (cell_with (insertion_of e))) x) qs
-      ∙ sym (comes-cell p.kind span (with_insertion e 0 (cell_result span e rs)) p
-      ∙ ap (λ b. if b then received (closed_result (filled_result 0 p.due (with_insertion e 0 (cell_result span e rs)))) (without_due p)
-      else received (closed_result (with_insertion e 0 (cell_result span e rs))) p) k))
-
--- ---- rows
-
-comes-row : (k : OpenKind) (cells : List CellSpan) (r : Result) (p : OpenElement) →
-    comes_as (role.Row cells) k r p
-    ≡ (if is_rows k then received (closed_result (filled_result 1 p.due r)) (record p { due = nothing; given = None }) else received (closed_result r) p)
-comes-row (open_kind.Node kind) cells r p = refl
-comes-row open_kind.Captions cells r p = refl
-comes-row (open_kind.Parts spans) cells r p = refl
-comes-row (open_kind.Rows behind rows) cells r p = refl
-comes-row (open_kind.Row cs) cells r p = refl
-comes-row (open_kind.Cell span) cells r p = refl
-comes-row open_kind.Caption cells r p = refl
-
-row-entries : (n : RenderNode) (i : Insertion) (o : Option Nodes) →
-    option_map (over_entries n) (appended (Some []) (option_map (λ t. flatten (filled 1 i t)) o))
-    ≡ option_map (λ t. flatten (node n t none)) (option_map (filled 1 i) o)
-row-entries n i None = refl
-row-entries n i (Some t) = ap Some (sym (flatten-one n (filled 1 i t)))
-
-abbrev pub row_result : Element → List Result → Result
-row_result e rs = row_over e.style (filter cell_kept rs)
-
-module _ (e : Element) (p : OpenElement) (ps : List OpenElement) (rs : List Result) (stands : not (may_vanish e.if_empty) ≡ true) where
-  -- a row with this insertion as a result
-  abbrev row_with : Insertion → Result
-  row_with i = record (row_result e rs) { below = option_map (filled 1 i) (beside (filter cell_kept rs)) }
-
-  row-came : (i : Insertion) →
-      all_come rs (carrier (open_kind.Row []) (node_in e.style TableRow) e i None)
-      ≡ opens (open_kind.Row (flat_map cell_spans (filter cell_kept rs))) (node_in e.style TableRow) e.if_empty e.texts.mark
-      (due_after (list_any always (filter cell_kept rs)) i) None (list_any always rs) (is_filled (filter cell_kept rs)) false
-      (appended (Some []) (option_map (λ t. flatten (filled 1 i t)) (beside (filter cell_kept rs))))
-  row-came i =
-      let kept = filter cell_kept rs in
-      let n = node_in e.style TableRow in
-      let d = due_after (list_any always kept) i in
-      all-come open_kind.Row cell_spans cell_kept always always never (filled_entries 0) step-row rs [] n e.if_empty e.texts.mark i None false false false (Some [])
-      ∙ ap (λ g. opens (open_kind.Row (flat_map cell_spans kept)) n e.if_empty e.texts.mark d g (list_any always rs) (is_filled kept) false
-      (appended (Some []) (all_entries open_kind.Row cell_spans cell_kept always always never (filled_entries 0) i kept)))
-      (given-none (list_any never kept))
-      ∙ ap (λ y. opens (open_kind.Row (flat_map cell_spans kept)) n e.if_empty e.texts.mark d None (list_any always rs) (is_filled kept) false
-      (appended (Some []) y)) (entries-filled open_kind.Row cell_spans cell_kept always never 0 i kept)
-
-  row-closed : (i : Insertion) (q : OpenElement) → received (closed_result (row_with i)) q ≡ comes (with_insertion e 1 (row_result e rs)) p →
-      closed (all_come rs (carrier (open_kind.Row []) (node_in e.style TableRow) e i None) ∷ (q ∷ ps))
-      ≡ option_map (λ r. comes_any r p ∷ ps) (made_as (element.Part part.Row) e rs)
-  row-closed i q same =
-      let kept = filter cell_kept rs in
-      let n = node_in e.style TableRow in
-      ap (λ x. closed (x ∷ (q ∷ ps))) (row-came i)
-      ∙ ap (λ x. Some (x ∷ ps))
-      (left-comes e (vanishes e.if_empty (list_any always rs))
-      (closed_node (role.Row (flat_map cell_spans kept)) n (is_filled kept)
-      (appended (Some []) (option_map (λ t. flatten (filled 1 i t)) (beside kept)))) (row_result e rs) p q
-      (λ v. absurd (let f : vanishes e.if_empty (list_any always rs) ≡ false = never-vanishes e.if_empty (list_any always rs) stands in cc))
-      (ap (λ (x : Option Entries). received (record { role = role.Row (flat_map cell_spans kept); kind = TableRow; has_children = is_filled kept; entries = x }) q)
-      (row-entries n i (beside kept))
-      ∙ same
-      ∙ ap (λ x. comes_any x p) (sym (completed-inside e (row_result e rs) 1 (λ s. refl)))))
-
-  inserted-row : with_insertion e 1 (row_result e rs) ≡ row_with (insertion_of e)
-  inserted-row = ap (λ b. let r : Result = record (row_with (insertion_of e)) { has_children = b || is_filled (filter cell_kept rs) } in r) (and-false (inserts e))
-
-  pub closed-row : (b : Bool) → is_rows p.kind ≡ b → (i : Insertion) (q : OpenElement) →
-      i ≡ (if b then within p.due (insertion_of e) else insertion_of e) →
-      q ≡ (if b then (let x : OpenElement = record p { due = nothing; given = None } in x) else p) →
-      closed (all_come rs (carrier (open_kind.Row []) (node_in e.style TableRow) e i None) ∷ (q ∷ ps))
-      ≡ option_map (λ r. comes_any r p ∷ ps) (made_as (element.Part part.Row) e rs)
-  closed-row true k i q is qs =
-      row-closed i q
-      (ap (λ x. received (closed_result (row_with x)) q) is
-      ∙ ap (λ x. received (closed_result (row_with (within p.due (insertion_of e)))) x) qs
-      ∙ ap (λ (o : Option Nodes). received (closed_result (record (row_result e rs) { below = o })) (record p { due = nothing; given = None }))
-      (filled-twice 1 p.due (insertion_of e) (beside (filter cell_kept rs)))
-      ∙ sym (ap (λ r. comes r p) inserted-row ∙ comes-row p.kind (flat_map cell_spans (filter cell_kept rs)) (row_with (insertion_of e)) p
-      ∙ ap (λ b. if b then received (closed_result (filled_result 1 p.due (row_with (insertion_of e)))) (record p { due = nothing; given = None })
-      else received (closed_result (row_with (insertion_of e))) p) k))
-  closed-row false k i q is qs =
-      row-closed i q
-      (ap (λ x. received (closed_result (row_with x)) q) is
-      ∙ ap (λ x. received (closed_result (row_with (insertion_of e))) x) qs
-      ∙ sym (ap (λ r. comes r p) inserted-row ∙ comes-row p.kind (flat_map cell_spans (filter cell_kept rs)) (row_with (insertion_of e)) p
-      ∙ ap (λ b. if b then received (closed_result (filled_result 1 p.due (row_with (insertion_of e)))) (record p { due = nothing; given = None })
-      else received (closed_result (row_with (insertion_of e))) p) k))
-
--- ---- parts of a table
-
-comes-rows : (k : OpenKind) (behind : Bool) (rows : List (List CellSpan)) (r : Result) (p : OpenElement) →
-    comes_as (role.Rows behind rows) k r p
-    ≡ (if is_table k then received (closed_result (filled_result 2 p.due r)) (if r.has_children then without_due p else p)
-    else received (closed_result r) p)
-comes-rows (open_kind.Node kind) behind rows r p = refl
-comes-rows open_kind.Captions behind rows r p = refl
-comes-rows (open_kind.Parts spans) behind rows r p = refl
-comes-rows (open_kind.Rows b rs) behind rows r p = refl
-comes-rows (open_kind.Row cs) behind rows r p = refl
-comes-rows (open_kind.Cell span) behind rows r p = refl
-comes-rows open_kind.Caption behind rows r p = refl
-
-part-entries : (i : Insertion) (o : Option Nodes) →
-    appended (Some []) (option_map (λ t. flatten (filled 2 i t)) o) ≡ option_map (λ t. flatten t) (option_map (filled 2 i) o)
-part-entries i None = refl
-part-entries i (Some t) = refl
-
--- rows that vanish have none
-vanish-empty : (f : IfEmpty) (rs : List Result) → vanishes f (list_any always rs) ≡ true → filter row_kept rs ≡ []
-vanish-empty f [] v = refl
-vanish-empty Stands (x ∷ xs) v = cc
-vanish-empty Vanishes (x ∷ xs) v = cc
-
-module _ (behind : Bool) (e : Element) (p : OpenElement) (ps : List OpenElement) (rs : List Result) where
-  abbrev rows_result : Result
-  rows_result = rows_over behind (filter row_kept rs)
-
-  abbrev rows_with : Insertion → Result
-  rows_with i = record rows_result { below = option_map (filled 2 i) (beside (filter row_kept rs)) }
-
-  -- the parent once rows have closed
-  abbrev parent_after : (given : Option Insertion) → OpenElement → OpenElement
-  parent_after given q = option_map_or (λ due. record q { due = due }) (given_after (list_any always (filter row_kept rs)) given) q
-
-  rows-came : (i : Insertion) (g : Option Insertion) →
-      all_come rs (carrier (open_kind.Rows behind []) (without_style Container) e i g)
-      ≡ opens (open_kind.Rows behind (flat_map row_cells (filter row_kept rs))) (without_style Container) e.if_empty e.texts.mark
-      (due_after (list_any always (filter row_kept rs)) i) (given_after (list_any always (filter row_kept rs)) g) (list_any always rs)
-      (is_filled (filter row_kept rs)) false (appended (Some []) (option_map (λ t. flatten (filled 2 i t)) (beside (filter row_kept rs))))
-  rows-came i g =
-      let kept = filter row_kept rs in
-      let n = without_style Container in
-      let d = due_after (list_any always kept) i in
-      all-come (open_kind.Rows behind) row_cells row_kept always always always (filled_entries 1) (step-rows behind) rs [] n e.if_empty e.texts.mark i g false false
-      false (Some [])
-      ∙ ap (λ y. opens (open_kind.Rows behind (flat_map row_cells kept)) n e.if_empty e.texts.mark d (given_after (list_any always kept) g) (list_any always rs)
-      (is_filled kept) false (appended (Some []) y)) (entries-filled (open_kind.Rows behind) row_cells row_kept always always 1 i kept)
-
-  rows-closed : (i : Insertion) (g : Option Insertion) (q : OpenElement) →
-      (filter row_kept rs ≡ [] → parent_after g q ≡ p) →
-      received (closed_result (rows_with i)) (parent_after g q) ≡ comes (with_insertion e 2 rows_result) p →
+  rows-left : (behind : Bool) (i : Insertion) (g : Option Insertion) (q : OpenElement) →
       closed (all_come rs (carrier (open_kind.Rows behind []) (without_style Container) e i g) ∷ (q ∷ ps))
-      ≡ option_map (λ r. comes_any r p ∷ ps) (option_map (left_of e (vanishes e.if_empty (list_any always rs))) (Some rows_result))
-  rows-closed i g q back same =
-      let kept = filter row_kept rs in
-      ap (λ x. closed (x ∷ (q ∷ ps))) (rows-came i g)
-      ∙ ap (λ x. Some (x ∷ ps))
-      (left-comes e (vanishes e.if_empty (list_any always rs)) (record {
-        role = role.Rows behind (flat_map row_cells kept);
-        kind = Container;
-        has_children = is_filled kept;
-        entries = appended (Some []) (option_map (λ t. flatten (filled 2 i t)) (beside kept));
-      }) rows_result p (parent_after g q)
-      (λ v. ap (received_any (mark_left e.texts.mark)) (back (vanish-empty e.if_empty rs v)) ∙ mark-comes e.texts.mark e.texts.before e.texts.after p)
-      (ap (λ (x : Option Entries). received (record {
-        role = role.Rows behind (flat_map row_cells kept);
-        kind = Container;
-        has_children = is_filled kept;
-        entries = x;
-      }) (parent_after g q)) (part-entries i (beside kept))
-      ∙ same
-      ∙ ap (λ x. comes_any x p) (sym (completed-inside e rows_result 2 (λ s. refl)))))
+      ≡ Some (received_any (if vanishes e.if_empty (is_filled rs) then mark_left e.texts.mark
+      else Some (closed_result (record (rows_over behind (members row_of rs)) { below = option_map (filled 2 i) (beside (members row_of rs)) })))
+      (with_given (if is_filled (members row_of rs) then None else g) q) ∷ ps)
+  rows-left behind i g q =
+      ap (λ x. closed (x ∷ (q ∷ ps)))
+      (members-come (open_kind.Rows behind) row_of 1 (λ g. None) (λ s x r. rows-one behind s x.role x r) (λ g. refl) rs []
+      (carrier (open_kind.Rows behind []) (without_style Container) e i g))
+      ∙ simp (nil-appended, map-map)
 
-  inserted-rows : with_insertion e 2 rows_result ≡ rows_with (insertion_of e)
-  inserted-rows =
-      ap (λ b. let r : Result = record (rows_with (insertion_of e)) { has_children = b || is_filled (filter row_kept rs) } in r) (and-false (inserts e))
-
-  given-back : (b : Bool) → option_map_or (λ due. record (without_due p) { due = due }) (given_after b (Some p.due)) (without_due p)
-      ≡ (if b then without_due p else p)
+  given-back : (b : Bool) → with_given (if b then None else Some p.due) (without_due p) ≡ record p { due = if b then nothing else p.due }
   given-back true = refl
   given-back false = refl
 
-  not-given : (b : Bool) → option_map_or (λ due. record p { due = due }) (given_after b None) p ≡ p
-  not-given true = refl
-  not-given false = refl
+  rows-close : (behind b : Bool) → is_table p.kind ≡ b → (k : ElementKind) → level_in k (inserts e) false ≡ Some 2 →
+      closed_over rs (begun_rows behind b (of_kind e k) p ++ ps)
+      ≡ Some (comes_any (left_of (of_kind e k) (vanishes e.if_empty (is_filled rs)) false (rows_over behind (members row_of rs))) p ∷ ps)
+  rows-close behind true h k two =
+      rows-left behind (within p.due (insertion_of e)) (Some p.due) (without_due p)
+      ∙ ap (λ x. Some (x ∷ ps)) (left-comes (of_kind e k) _ false _ (rows_over behind (members row_of rs)) p
+      (with_given (if is_filled (members row_of rs) then None else Some p.due) (without_due p)) (λ v. rw (vanish-empty e.if_empty rs v)) (rw (two, h) (simp (filled-twice, take-filled (insertion_of e) (members row_of rs), given-back))))
+  rows-close behind false h k two =
+      rows-left behind (insertion_of e) None p
+      ∙ ap (λ x. Some (x ∷ ps)) (left-comes (of_kind e k) _ false _ (rows_over behind (members row_of rs)) p
+      (with_given (if is_filled (members row_of rs) then None else None) p) (λ v. simp if-same) (rw (two, h) (simp if-same)))
 
-  pub closed-rows : (b : Bool) → is_table p.kind ≡ b → (i : Insertion) (g : Option Insertion) (q : OpenElement) →
-      i ≡ (if b then within p.due (insertion_of e) else insertion_of e) → g ≡ (if b then Some p.due else None) → q ≡ (if b then without_due p else p) →
-      closed (all_come rs (carrier (open_kind.Rows behind []) (without_style Container) e i g) ∷ (q ∷ ps))
-      ≡ option_map (λ r. comes_any r p ∷ ps) (option_map (left_of e (vanishes e.if_empty (list_any always rs))) (Some rows_result))
-  closed-rows true k i g q is gs qs =
-      rows-closed i g q
-      (λ z. ap (λ x. parent_after x q) gs ∙ ap (parent_after (Some p.due)) qs ∙ given-back (list_any always (filter row_kept rs))
-      ∙ ap (λ (l : List Result). if list_any always l then without_due p else p) z)
-      (ap (λ x. received (closed_result (rows_with x)) (parent_after g q)) is
-      ∙ ap (λ x. received (closed_result (rows_with (within p.due (insertion_of e)))) (parent_after x q)) gs
-      ∙ ap (λ x. received (closed_result (rows_with (within p.due (insertion_of e)))) (parent_after (Some p.due) x)) qs
-      ∙ ap (λ x. received (closed_result (rows_with (within p.due (insertion_of e)))) x)
-      (given-back (list_any always (filter row_kept rs)) ∙ ap (λ b. if b then without_due p else p) (any-always (filter row_kept rs)))
-      ∙ ap (λ (o : Option Nodes). received (closed_result (record rows_result { below = o })) (if is_filled (filter row_kept rs) then without_due p else p))
-      (filled-twice 2 p.due (insertion_of e) (beside (filter row_kept rs)))
-      ∙ sym (ap (λ r. comes r p) inserted-rows ∙ comes-rows p.kind behind (flat_map row_cells (filter row_kept rs)) (rows_with (insertion_of e)) p
-      ∙ ap (λ b. if b then received (closed_result (filled_result 2 p.due (rows_with (insertion_of e)))) (if is_filled (filter row_kept rs) then without_due p else p)
-      else received (closed_result (rows_with (insertion_of e))) p) k))
-  closed-rows false k i g q is gs qs =
-      rows-closed i g q
-      (λ z. ap (λ x. parent_after x q) gs ∙ ap (parent_after None) qs ∙ not-given (list_any always (filter row_kept rs)))
-      (ap (λ x. received (closed_result (rows_with x)) (parent_after g q)) is
-      ∙ ap (λ x. received (closed_result (rows_with (insertion_of e))) (parent_after x q)) gs
-      ∙ ap (λ x. received (closed_result (rows_with (insertion_of e))) (parent_after None x)) qs
-      ∙ ap (λ x. received (closed_result (rows_with (insertion_of e))) x) (not-given (list_any always (filter row_kept rs)))
-      ∙ sym (ap (λ r. comes r p) inserted-rows ∙ comes-rows p.kind behind (flat_map row_cells (filter row_kept rs)) (rows_with (insertion_of e)) p
-      ∙ ap (λ b. if b then received (closed_result (filled_result 2 p.due (rows_with (insertion_of e)))) (if is_filled (filter row_kept rs) then without_due p else p)
-      else received (closed_result (rows_with (insertion_of e))) p) k))
+  -- ---- an element of any kind but a table
+
+  node-closes : (kind : NodeKind) (b : Bool) → (not (inserts e) || holds_insertions kind) ≡ b →
+      closed_over rs ((begun_node b kind (of_kind e (element.Node kind)) ++ p ∷ []) ++ ps) ≡ after_result p ps (made (of_kind e (element.Node kind)) [] rs)
+  node-closes kind true h = node-inside kind h
+  node-closes kind false h = node-beside kind h
+
+  pub closes : (k : ElementKind) → is_table_kind k ≡ false → closed_over rs (begun k (of_kind e k) p ++ ps) ≡ after_result p ps (made (of_kind e k) [] rs)
+  closes (element.Node kind) h = node-closes kind (not (inserts e) || holds_insertions kind) refl
+  closes (element.Part part.Table) h = cc
+  closes (element.Part part.Body) h = rows-close false (is_table p.kind) refl (element.Part part.Body) refl
+  closes (element.Part part.Foot) h = rows-close true (is_table p.kind) refl (element.Part part.Foot) refl
+  closes (element.Part part.Row) h = row-closes (is_rows p.kind) refl
+  closes (element.Part (part.Cell span)) h = cell-closes span (is_row p.kind) refl
+  closes (element.Part part.Caption) h = caption-closes
+
+-- ---- tables
+
+beside-append : (xs ys : List Result) →
+    option_map flatten (beside (xs ++ ys)) ≡ appended (option_map flatten (beside xs)) (option_map flatten (beside ys))
+beside-append [] ys = sym (nil-appended (option_map flatten (beside ys)))
+beside-append (x ∷ xs) ys =
+    sym (node-entries x.node x.below (beside (xs ++ ys)))
+    ∙ ap (appended (option_map (λ t. flatten (node x.node t none)) x.below)) (beside-append xs ys)
+    ∙ sym (appended_assoc (option_map (λ t. flatten (node x.node t none)) x.below) (option_map flatten (beside xs)) (option_map flatten (beside ys)))
+    ∙ ap (λ o. appended o (option_map flatten (beside ys))) (node-entries x.node x.below (beside xs))
+
+module _ (e : Element) (p : OpenElement) (ps : List OpenElement) where
+  abbrev pub table : Element
+  table = of_kind e (element.Part part.Table)
+
+  -- what a table becomes over its captions and its parts
+  abbrev made_over : (captions parts : List Result) → Option TableParts → Option (Option Result)
+  made_over c l grid =
+      option_map (left_of table (vanishes e.if_empty (is_filled c || list_any (λ r. r.has_children) l)) (is_filled c)) (do
+        g ← grid
+        Some (if is_filled c then captioned e.style g c l else table_over e.style g l))
+
+  -- once captions have come
+  abbrev pub captions_open : List Result → OpenElement
+  captions_open c = record (holder open_kind.Captions (node_in e.style Container) e.if_empty e.texts.mark (insertion_of e) true) {
+    has_results = is_filled c;
+    written = appended (Some (leaves (insertion_of e).front)) (option_map flatten (beside (map as_block c)));
+  }
+
+  -- a table without captions, whose parts come
+  abbrev table_open : OpenElement
+  table_open = record (holder (open_kind.Parts []) (node_in e.style Container) e.if_empty e.texts.mark nothing true) { due = insertion_of e }
+
+  abbrev container_open : List Result → OpenElement
+  container_open c = record (captions_open c) { kind = open_kind.Node Container }
+
+  alone-closes : (l : List Result) (grid : Option TableParts) →
+      option_map (λ left. received_any left p ∷ ps) (option_map (λ g. if vanishes e.if_empty (list_any (λ r. r.has_children) (parts l)) then mark_left e.texts.mark
+      else Some (closed_node role.Contents (node_in e.style (Table g)) true (appended (Some []) (option_map (λ t. flatten (filled 2 (insertion_of e) t)) (part_trees (parts l)))))) grid)
+      ≡ after_result p ps (made_over [] (parts l) grid)
+  alone-closes l None = refl
+  alone-closes l (Some g) =
+      ap (λ x. Some (x ∷ ps)) (left-comes table _ false _ (table_over e.style g (parts l)) p p (λ v. refl)
+      (simp (entries-over (node_in e.style (Table g)) (filled 2 (insertion_of e)) (part_trees (parts l)))))
+
+  -- captions as blocks, and what else is in their container
+  abbrev captioned_with : (captions inner : List Result) → Result
+  captioned_with c inner = record (over e.style Container c) { has_children = true; below = beside (map as_block c ++ inner) }
+
+  -- the container closes over its captions and what else is in it
+  container-closed : (c inner : List Result) (es : Option Entries) → es ≡ option_map flatten (beside inner) →
+      received (closed_node role.Contents (node_in e.style Container) true
+      (option_map (λ l. l ++ leaves (insertion_of e).back) (appended (captions_open c).written es))) p
+      ≡ comes (inserted (Some 0) table (captioned_with c inner)) p
+  container-closed c inner es same =
+      let front = Some (leaves (insertion_of e).front) in
+      let blocks = option_map flatten (beside (map as_block c)) in
+      ap (λ x. received (closed_node role.Contents (node_in e.style Container) true (option_map (λ l. l ++ leaves (insertion_of e).back) x)) p)
+      (ap (appended (appended front blocks)) same ∙ appended_assoc front blocks (option_map flatten (beside inner))
+      ∙ ap (appended front) (sym (beside-append (map as_block c) inner)))
+      ∙ simp (or-true, entries-within (node_in e.style Container) (insertion_of e) (beside (map as_block c ++ inner)))
+
+  inner-same : (g : TableParts) (o : Option Nodes) →
+      option_map (over_entries (without_style (Table g))) (appended (Some []) (option_map (λ t. flatten (filled 2 nothing t)) o))
+      ≡ option_map flatten (one_more (without_style (Table g)) o (Some none))
+  inner-same g None = refl
+  inner-same g (Some t) = ap (λ (u : Nodes). Some (over_entries (without_style (Table g)) (flatten u))) (filled-nothing 2 t) ∙ ap Some (sym (append-nil _))
+
+  -- the table in the container closes, and the container with it
+  captioned-closes : (c l : List Result) → is_filled c ≡ true → (grid : Option TableParts) (b : Bool) →
+      (option_map (λ left. received_any left (container_open c) ∷ (p ∷ ps)) (option_map (λ g. if vanishes Vanishes b then mark_left None
+      else Some (closed_node role.Contents (without_style (Table g)) true (appended (Some []) (option_map (λ t. flatten (filled 2 nothing t)) (part_trees l))))) grid)
+      >>= closed_once)
+      ≡ after_result p ps (option_map (left_of table (vanishes e.if_empty true) true) (do
+        g ← grid
+        Some (captioned_with c (if b then table_over no_style g l ∷ [] else []))))
+  captioned-closes c l h None b = refl
+  captioned-closes c l h (Some g) true =
+      rw h (ap (λ x. Some (x ∷ ps)) (left-comes table (vanishes e.if_empty true) true _ (captioned_with c (table_over no_style g l ∷ [])) p p (λ v. refl)
+      (container-closed c (table_over no_style g l ∷ []) _ (inner-same g (part_trees l)))))
+  captioned-closes c l h (Some g) false =
+      rw h (ap (λ x. Some (x ∷ ps)) (left-comes table (vanishes e.if_empty true) true _ (captioned_with c []) p p (λ v. refl)
+      (ap (λ es. received (closed_node role.Contents (node_in e.style Container) true (option_map (λ l. l ++ leaves (insertion_of e).back) es)) p)
+      (sym (appended-nil (captions_open c).written)) ∙ container-closed c [] (Some []) refl)))
+
+  pub table-closes : (c l : List Result) → closed_over l (all_parted (captions_open c ∷ (p ∷ ps)))
+      ≡ after_result p ps (made_over c (parts l) (option_map unmeasured_table (cell_grid_of (flat_map (λ r. spans_of r.role) (parts l)))))
+  table-closes [] l =
+      ap (λ x. closed (all_come l x ∷ (p ∷ ps))) (simp (append-nil, nodes-leaves))
+      ∙ ap (λ x. closed (x ∷ (p ∷ ps))) (parts-come l [] table_open)
+      ∙ alone-closes l (option_map unmeasured_table (cell_grid_of (flat_map (λ r. spans_of r.role) (parts l))))
+  table-closes (x ∷ xs) l =
+      ap (λ q. closed (q ∷ (container_open (x ∷ xs) ∷ (p ∷ ps)))) (parts-come l [] table_in_container)
+      ∙ captioned-closes (x ∷ xs) (parts l) refl (option_map unmeasured_table (cell_grid_of (flat_map (λ r. spans_of r.role) (parts l))))
+      (list_any (λ r. r.has_children) (parts l))

@@ -6,13 +6,14 @@ use Rattle.html_render_layout_nodes.specs.declared.tree.NodeStyle.{NodeStyle}
 use Rattle.html_render_layout_nodes.specs.declared.tree.RenderNode.{RenderNode}
 use Rattle.html_render_tree_mapping.specs.declared.mapping.ElementKind.TheVariants as element
 use Rattle.html_render_tree_mapping.specs.declared.mapping.IfEmpty.{IfEmpty}
+use Rattle.html_render_tree_mapping.specs.declared.mapping.IfEmpty.TheVariants.{Stands}
 use Rattle.html_render_tree_mapping.specs.declared.plans.Element.{Element}
 use Rattle.html_render_tree_mapping.specs.declared.plans.ElementTexts.{ElementTexts}
 use Rattle.html_render_tree_mapping.specs.declared.tables.CellSpan.{CellSpan}
 use Rattle.html_render_tree_mapping.specs.declared.tables.Part.{Part}
 use Rattle.html_render_tree_mapping.specs.declared.tables.Part.TheVariants as part
 use Rattle.html_render_tree_mapping.specs.ElementTexts.{no_texts}
-use Rattle.html_render_tree_convert.specs.Held.{nothing_held}
+use Rattle.html_render_tree_convert.specs.Held.{Held, nothing_held}
 use Rattle.html_render_tree_convert.specs.Levels.{leaf}
 use Rattle.html_render_tree_convert.specs.OpenElements.{Insertion, OpenElement, insertion_of, leaves, node_in, nothing, text_nodes}
 use Rattle.html_render_tree_convert.specs.OpenElements.{OpenKind as OpenElementKind}
@@ -21,6 +22,7 @@ use Rattle.html_render_tree_convert.specs.Opening.{AllMayGive, GivesBack, IsOpen
 use Rattle.html_render_tree_convert.specs.Seen.{element_seen}
 use Rattle.html_render_tree_convert.specs.Steps.{begun_cell, is_row, opened}
 use Rattle.html_render_tree_convert.specs.declared.elements.Open.{Open}
+use Rattle.html_render_tree_convert.specs.declared.elements.OpenKind.TheVariants as kind_in
 
 pub OnOk-both : {A E : Type 0} (r : Result A E) (P Q R : Type 0) → OnOk r P → OnOk r Q → (P → Q → R) → OnOk r R
 OnOk-both (Ok a) P Q R p q f = f p q
@@ -47,7 +49,7 @@ opened-foot style if_empty texts (p ∷ ps) = refl
 module _ (span : CellSpan) (style : NodeStyle) (if_empty : IfEmpty) (texts : ElementTexts) where
   abbrev pub begun_within : Insertion → List OpenElement → List OpenElement
   begun_within outer ps =
-      wrote (leaves (outer.front ++ own_front texts)) (element_seen (cell_as_open span if_empty texts outer.back) (leaf (node_in style TableCell) ∷ []) ∷ ps)
+      wrote (leaves (outer.front ++ own_front texts)) (element_seen (cell_as_open span Stands texts outer.back) (leaf (node_in style TableCell) ∷ []) ∷ ps)
 
   within-row : (p : OpenElement) (ps : List OpenElement) → p.given ≡ None →
       begun_within p.due (left_once true (p ∷ ps)) ≡ begun_cell span true (part_element (part.Cell span) style if_empty texts) p ++ ps
@@ -58,7 +60,7 @@ module _ (span : CellSpan) (style : NodeStyle) (if_empty : IfEmpty) (texts : Ele
       begun_within nothing (p ∷ ps) ≡ begun_cell span false (part_element (part.Cell span) style if_empty texts) p ++ ps
   within-none p ps =
       ap (λ (back : List RenderNode). let due : Insertion = record { front = []; back = back } in
-      let q : OpenElement = record (element_seen (cell_as_open span if_empty texts []) (leaf (node_in style TableCell) ∷ [])) { due = due } in
+      let q : OpenElement = record (element_seen (cell_as_open span Stands texts []) (leaf (node_in style TableCell) ∷ [])) { due = due } in
       wrote (leaves ([] ++ own_front texts)) (q ∷ (p ∷ ps))) (append-nil (text_nodes Text texts.after))
 
   pub opened-cell : (outer : Insertion) (ps : List OpenElement) → IsOpen ps → AllMayGive ps → outer ≡ taken (in_row ps) ps →
@@ -76,21 +78,34 @@ module _ (span : CellSpan) (style : NodeStyle) (if_empty : IfEmpty) (texts : Ele
       by (elements.Cell s) g e = ap (λ o. begun_within o (p ∷ ps)) e ∙ within-none p ps
       by elements.Caption g e = ap (λ o. begun_within o (p ∷ ps)) e ∙ within-none p ps
 
--- a cell that inserts nothing, in an element that has nothing to write
-abbrev pub plain_cell : CellSpan → IfEmpty → Open
-plain_cell span if_empty = record (cell_as_open span if_empty no_texts []) { due = nothing_held }
+-- a cell that inserts nothing
+abbrev pub plain_cell : CellSpan → (due : Held) → Open
+plain_cell span due = record {
+  kind = kind_in.Cell span;
+  due = due;
+  if_empty = Stands;
+  is_given = false;
+  has_results = false;
+  has_children = false;
+  is_wrapped = false;
+  is_stray = false;
+}
 
-pub plain_cell_opens : (span : CellSpan) (style : NodeStyle) (if_empty : IfEmpty) (ps : List OpenElement) → due_in ps ≡ nothing → IsOpen ps →
-    element_seen (plain_cell span if_empty) (leaf (node_in style TableCell) ∷ []) ∷ ps ≡ opened (part_element (part.Cell span) style if_empty no_texts) ps
-plain_cell_opens span style if_empty [] e some = absurd some
-plain_cell_opens span style if_empty (p ∷ ps) e some = by p.kind
+-- which opens in an element that has nothing to write
+pub plain-cell-opens : (span : CellSpan) (style : NodeStyle) (if_empty : IfEmpty) (ps new : List OpenElement) (cell : Open) (due : Held)
+    (n : RenderNode) → cell ≡ plain_cell span due → due ≡ nothing_held → n ≡ node_in style TableCell → due_in ps ≡ nothing → IsOpen ps →
+    new ≡ element_seen cell (leaf n ∷ []) ∷ ps → new ≡ opened (part_element (part.Cell span) style if_empty no_texts) ps
+plain-cell-opens span style if_empty [] new cell due n cell_is held is e some made = absurd some
+plain-cell-opens span style if_empty (p ∷ ps) new cell due n cell_is held is e some made =
+    made ∙ ap (λ (o : Open). element_seen o (leaf n ∷ []) ∷ (p ∷ ps)) cell_is ∙ ap (λ d. element_seen (plain_cell span d) (leaf n ∷ []) ∷ (p ∷ ps)) held
+    ∙ ap (λ m. element_seen (plain_cell span nothing_held) (leaf m ∷ []) ∷ (p ∷ ps)) is ∙ by p.kind
   where
-    made : OpenElement
-    made = element_seen (plain_cell span if_empty) (leaf (node_in style TableCell) ∷ [])
+    own : OpenElement
+    own = element_seen (plain_cell span nothing_held) (leaf (node_in style TableCell) ∷ [])
 
-    by : (k : OpenElementKind) → made ∷ (p ∷ ps) ≡ begun_cell span (is_row k) (part_element (part.Cell span) style if_empty no_texts) p ++ ps
+    by : (k : OpenElementKind) → own ∷ (p ∷ ps) ≡ begun_cell span (is_row k) (part_element (part.Cell span) style if_empty no_texts) p ++ ps
     by (elements.Row cells) =
-        ap (λ (d : Insertion). let q : OpenElement = record p { due = d } in made ∷ (q ∷ ps)) e
+        ap (λ (d : Insertion). let q : OpenElement = record p { due = d } in own ∷ (q ∷ ps)) e
         ∙ ap (λ (d : Insertion). begun_cell span true (part_element (part.Cell span) style if_empty no_texts) (record p { due = d }) ++ ps) (sym e)
     by (elements.Node kind) = refl
     by elements.Captions = refl
@@ -108,7 +123,7 @@ IsOpen-left false ps h = h
 pub cell-opens : (span : CellSpan) (style : NodeStyle) (if_empty : IfEmpty) (texts : ElementTexts) (ps left new : List OpenElement) (b : Bool)
     (outer : Insertion) (front : List RenderNode) (cell : Open) (n : RenderNode) →
     b ≡ in_row ps → outer ≡ taken b ps → left ≡ left_once b ps → AllMayGive ps → IsOpen left →
-    cell ≡ cell_as_open span if_empty texts outer.back → front ≡ own_front texts → n ≡ node_in style TableCell →
+    cell ≡ cell_as_open span Stands texts outer.back → front ≡ own_front texts → n ≡ node_in style TableCell →
     new ≡ wrote (leaves (outer.front ++ front)) (element_seen cell (leaf n ∷ []) ∷ left) →
     new ≡ opened (part_element (part.Cell span) style if_empty texts) ps
 cell-opens span style if_empty texts ps left new b outer front cell n row due rest gives some made own is e =
@@ -118,6 +133,6 @@ cell-opens span style if_empty texts ps left new b outer front cell n row due re
     e ∙ ap (λ (l : List RenderNode). wrote (leaves (outer.front ++ l)) (element_seen cell (leaf n ∷ []) ∷ left)) own
     ∙ ap (λ (o : Open). wrote (leaves (outer.front ++ own_front texts)) (element_seen o (leaf n ∷ []) ∷ left)) made
     ∙ ap (λ (m : RenderNode). wrote (leaves (outer.front ++ own_front texts))
-    (element_seen (cell_as_open span if_empty texts outer.back) (leaf m ∷ []) ∷ left)) is
+    (element_seen (cell_as_open span Stands texts outer.back) (leaf m ∷ []) ∷ left)) is
     ∙ ap (begun_within span style if_empty texts outer) left_is
     ∙ opened-cell span style if_empty texts outer ps some_open gives taken_is

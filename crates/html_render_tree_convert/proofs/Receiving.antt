@@ -4,7 +4,6 @@ use Rattle.html_render_layout_nodes.specs.declared.tree.NodeKind.{NodeKind}
 use Rattle.html_render_layout_nodes.specs.declared.tree.NodeKind.TheVariants.{Ol, Dl, Link}
 use Rattle.html_render_layout_nodes.specs.declared.tree.RenderNode.{RenderNode}
 use Rattle.html_render_tree_mapping.specs.Results.{Role, keeps, counts}
-use Rattle.html_render_tree_mapping.specs.declared.mapping.ElementKind.TheVariants as element
 use Rattle.html_render_tree_convert.specs.Keeping.{keeping_of, keeps_by, counts_by}
 use Rattle.html_render_tree_convert.specs.OpenElements as elements
 use Rattle.html_render_tree_convert.specs.Receiving.{keeps_in, counts_for, places, Gathers}
@@ -25,7 +24,7 @@ keeps-by (Link target) child = refl
 keeps-by _ child = refl
 
 counts-by : (parent : NodeKind) (r : Role) (child : NodeKind) (has_children : Bool) →
-    counts (element.Node parent) r child has_children ≡ counts_by (keeping_of parent) r child has_children
+    counts parent r child has_children ≡ counts_by (keeping_of parent) r child has_children
 counts-by (Link target) r child has_children = refl
 counts-by _ r child has_children = refl
 

@@ -1,33 +1,67 @@
--- What a visit of the walk does to the run of the events that come.
-use Rattle.std.proofs.Common.{◌≡◌, ℕ, true, false, List, [], ◌∷◌, ◌++◌, All, Option, Some, None, Result as Outcome, Ok, Err, IfErr, refl, sym, ap, subst, ◌∙◌, append-nil}
+-- What comes on a walk, as events; what a visit does to the run of those that come; and the render tree from the nodes in pre-order.
+use Rattle.std.proofs.Common.{◌≡◌, ℕ, Bool, true, false, if◌then◌else◌, List, [], ◌∷◌, ◌++◌, All, refl, sym, ap, ◌∙◌, append_assoc, Option, Some, None, option_map, Result as Outcome, Ok, Err, IfErr, subst, append-nil}
+use Rattle.std.proofs.lemmas.Grind.{flat_map-append}
+use Rattle.html_render_dom_styles.specs.Rules.{Rule as StyleRule}
+use Rattle.html_render_dom.specs.Dom.{Dom, IsForest, IsNode, children_at, content_at, trees_of, tree_of}
+use Rattle.html_render_dom.specs.laws.Trees.{trees_of-cons, below-children}
+use Rattle.html_render_tree_mapping.specs.declared.mapping.ElementKind.{ElementKind}
+use Rattle.html_render_tree_mapping.specs.declared.mapping.ElementKind.TheVariants as element
+use Rattle.html_render_tree_mapping.specs.declared.tables.Part.TheVariants as part
+use Rattle.html_render_tree_convert.specs.Events.{children_events, events, node_events, picks, Event, element_events, nothing_inside}
+use Rattle.html_render_tree_convert.specs.Events as event
+use Rattle.html_render_tree_mapping.specs.Plans.{plan_of, plan_at}
+use Rattle.html_render_tree_convert.specs.Walk.{coming, entered, first_pick, nodes, picked, visit_events, visits_events, done_at_once, followed}
+use Rattle.html_render_tree_convert.specs.declared.cursor.Pick.{Pick}
+use Rattle.html_render_tree_convert.specs.declared.cursor.Pick.TheVariants.{All as all_children, Captions, Others, Feet}
+use Rattle.html_render_tree_convert.specs.declared.cursor.Position.{Position}
+use Rattle.html_render_tree_convert.specs.declared.cursor.Visit.TheVariants.{Node, Close}
+use Rattle.std.proofs.lemmas.List.Elements.{All-head, All-tail, All-cons}
 use Rattle.std.specs.Result.{IsErrAnd}
-use Rattle.std.proofs.lemmas.List.Elements.{All-cons}
 use Rattle.html_render_dom_values.specs.Forest.{Forest, none, node}
 use Rattle.html_render_dom_values.specs.Outcome.{◌>>=◌}
 use Rattle.html_render_dom_values.specs.declared.errors.Error.{Error}
 use Rattle.html_render_dom_values.specs.declared.errors.Error.TheVariants.{TooNarrow, Fail, OutOfMemory}
 use Rattle.html_render_dom_nodes.specs.Content.{Content}
-use Rattle.html_render_dom_styles.specs.Rules.{Rule as StyleRule}
-use Rattle.html_render_dom.specs.Dom.{Dom, IsForest, IsNode, children_at, content_at, tree_of, trees_of}
 use Rattle.html_render_dom.specs.laws.Forests.{All-children}
-use Rattle.html_render_dom.specs.laws.Trees.{below-children}
+use Rattle.html_render_layout_nodes.specs.Preorder.{flatten, forest_of}
+use Rattle.html_render_layout_nodes.specs.declared.tree.Entry.{Entry}
+use Rattle.html_render_layout_nodes.specs.laws.Preorder.{forest_of-flatten}
 use Rattle.html_render_parts.specs.Refusal.{Fails}
-use Rattle.html_render_tree_mapping.specs.Plans.{plan_at}
-use Rattle.html_render_tree_mapping.specs.Results.{Result}
+use Rattle.html_render_parts.specs.laws.Refusal.{Fails-same, Fails-then}
+use Rattle.html_render_tree_mapping.specs.Results.{Result, results}
 use Rattle.html_render_tree_mapping.specs.declared.plans.Plan.{Plan}
 use Rattle.html_render_tree_mapping.specs.declared.plans.Plan.TheVariants.{Nothing, Alone, Over}
-use Rattle.html_render_tree_convert.specs.Events.{Event, element_events, events, node_events, nothing_inside}
-use Rattle.html_render_tree_convert.specs.Following.{done_at_once, followed}
 use Rattle.html_render_tree_convert.specs.OpenElements.{OpenElement, root}
 use Rattle.html_render_tree_convert.specs.Steps.{after, all_written, closed, converted, opened, run}
-use Rattle.html_render_tree_convert.specs.Walk.{coming, entered, first_pick, visits_events}
-use Rattle.html_render_tree_convert.specs.declared.cursor.Pick.TheVariants.{All as all_children}
-use Rattle.html_render_tree_convert.specs.declared.cursor.Position.{Position}
-use Rattle.html_render_tree_convert.specs.declared.cursor.Visit.TheVariants.{Node, Close}
 use Rattle.html_render_tree_convert.proofs.Coming.{all_come}
-use Rattle.html_render_tree_convert.proofs.Parting.{picked_results}
 use Rattle.html_render_tree_convert.proofs.Running.{trees-run}
-use Rattle.html_render_tree_convert.proofs.Walking.{comes-entered}
+
+module _ (rules : List StyleRule) (dom : Dom) (forest : IsForest dom) where
+  -- children that are picked come as the events of their trees
+  nodes-events : (pick : Pick) (hs : List ℕ) → All (IsNode dom) hs →
+      visits_events rules dom (nodes (picked pick dom hs)) ≡ events rules (trees_of dom hs) pick
+  nodes-events pick [] h = refl
+  nodes-events pick (x ∷ xs) h =
+      by (picks pick (content_at dom x)) (nodes-events pick xs (All-tail (IsNode dom) x xs h))
+      ∙ ap (λ t. events rules t pick) (sym (trees_of-cons dom forest x xs (All-head (IsNode dom) x xs h)))
+    where
+      by : (b : Bool) → visits_events rules dom (nodes (picked pick dom xs)) ≡ events rules (trees_of dom xs) pick →
+          visits_events rules dom (nodes (if b then x ∷ picked pick dom xs else picked pick dom xs))
+          ≡ (if b then node_events (plan_of rules (content_at dom x) (trees_of dom (children_at dom x)))
+          (λ k. events rules (trees_of dom (children_at dom x)) k) else [])
+          ++ events rules (trees_of dom xs) pick
+      by true same = ap (λ l. visit_events rules dom (Node x) ++ l) same
+      by false same = same
+
+  -- children come before others as the events of their trees
+  pub comes-entered : (h : ℕ) → All (IsNode dom) (children_at dom h) → (ps : List Position) (kind : ElementKind) →
+      visits_events rules dom (coming dom (entered h (first_pick kind) ∷ ps))
+      ≡ (children_events kind (λ pick. events rules (trees_of dom (children_at dom h)) pick) ++ event.Close ∷ [])
+      ++ visits_events rules dom (coming dom ps)
+  comes-entered h all ps (element.Part part.Table) =
+      let of = λ (pick : Pick). nodes-events pick (children_at dom h) all in
+      simp (append_assoc, flat_map-append, of Captions, of Others, of Feet)
+  comes-entered h all ps kind = simp (append_assoc, flat_map-append, nodes-events all_children (children_at dom h) all)
 
 -- open elements
 abbrev pub Stack : Type 0
@@ -42,16 +76,8 @@ run-append : (xs ys : List Event) (cs : Stack) → run (xs ++ ys) cs ≡ (run xs
 run-append [] ys cs = refl
 run-append (x ∷ xs) ys cs = then-then (run xs) (run ys) (run (xs ++ ys)) (run-append xs ys) (after x cs)
 
--- where a part refuses, the whole does
-pub fails-then : {X Y : Type 0} (e : Error) (o : Option X) (f : X → Option Y) → Fails e o → Fails e (o >>= f)
-fails-then TooNarrow o f h = absurd h
-fails-then Fail o f h = ap (λ x. x >>= f) h
-fails-then OutOfMemory o f h = tt
-
 pub fails-same : {X : Type 0} (e : Error) (o wanted : Option X) → o ≡ wanted → Fails e o → Fails e wanted
-fails-same TooNarrow o wanted same h = absurd h
-fails-same Fail o wanted same h = sym same ∙ h
-fails-same OutOfMemory o wanted same h = tt
+fails-same e o wanted same h = Fails-same e wanted o (sym same) h
 
 -- an error that is handed on
 pub fails-handed : {X Y : Type 0} (r : Outcome X Error) (e : Error) (wanted : Option Y) → IsErrAnd r (λ f. f ≡ e) → Fails e wanted →
@@ -67,6 +93,17 @@ module _ (rules : List StyleRule) (dom : Dom) where
   -- run of the events that come, after open elements
   abbrev pub rest_run : List Position → Stack → Option Stack
   rest_run ps cs = run (visits_events rules dom (coming dom ps)) cs
+
+  -- a visit is done, and the events that come end as all events do
+  goes-on : (plan : Plan) (h : ℕ) (ps qs : List Position) (cs ds : Stack) → (run (done_at_once plan) cs >>= rest_run (followed plan h ps)) ≡ whole_run →
+      qs ≡ followed plan h ps → run (done_at_once plan) cs ≡ Some ds → rest_run qs ds ≡ whole_run
+  goes-on plan h ps qs cs ds all qs_is done =
+      ap (λ l. rest_run l ds) qs_is ∙ sym (ap (λ o. o >>= rest_run (followed plan h ps)) done) ∙ all
+
+  -- where a step of the run fails, the document can't be converted
+  fails-whole : (e : Error) (step : Option Stack) (rest : Stack → Option Stack) → (step >>= rest) ≡ whole_run → Fails e step →
+      Fails e (converted rules (tree_of dom 0))
+  fails-whole e step rest all fails = Fails-then e whole_run all_written (fails-same e _ whole_run all (Fails-then e step rest fails))
 
   module _ (forest : IsForest dom) where
     -- a visit of a node: what is done at once, and then what comes
@@ -94,31 +131,25 @@ module _ (rules : List StyleRule) (dom : Dom) where
     -- the document's own node is done
     pub started : (plan : Plan) (h : ℕ) (ps qs : List Position) (cs ds : Stack) → plan ≡ plan_at rules dom h → h ≡ 0 → ps ≡ [] → cs ≡ root ∷ [] →
         qs ≡ followed plan h ps → run (done_at_once plan) cs ≡ Some ds → rest_run qs ds ≡ whole_run
-    started plan h ps qs cs ds plan_is h_is ps_is cs_is qs_is done =
-        let all : (run (done_at_once plan) cs >>= rest_run (followed plan h ps)) ≡ whole_run = rw (plan_is, h_is, ps_is, cs_is) starts in
-        ap (λ l. rest_run l ds) qs_is ∙ sym (ap (λ o. o >>= rest_run (followed plan h ps)) done) ∙ all
+    started plan h ps qs cs ds plan_is h_is ps_is cs_is = goes-on plan h ps qs cs ds (rw (plan_is, h_is, ps_is, cs_is) starts)
 
     -- where it can't be done, the document can't be converted
     pub start-fails : (e : Error) (plan : Plan) (h : ℕ) (cs : Stack) → plan ≡ plan_at rules dom h → h ≡ 0 → cs ≡ root ∷ [] →
         Fails e (run (done_at_once plan) cs) → Fails e (converted rules (tree_of dom 0))
-    start-fails e plan h cs plan_is h_is cs_is fails =
-        let all : (run (done_at_once plan) cs >>= rest_run (followed plan h [])) ≡ whole_run = rw (plan_is, h_is, cs_is) starts in
-        fails-then e whole_run all_written (fails-same e _ whole_run all (fails-then e _ (rest_run (followed plan h [])) fails))
+    start-fails e plan h cs plan_is h_is cs_is = fails-whole e _ (rest_run (followed plan h [])) (rw (plan_is, h_is, cs_is) starts)
 
     -- a node that comes is done
     pub went_on : (plan : Plan) (h : ℕ) (old ps qs : List Position) (cs ds : Stack) → plan ≡ plan_at rules dom h →
         coming dom old ≡ Node h ∷ coming dom ps → qs ≡ followed plan h ps → run (done_at_once plan) cs ≡ Some ds → rest_run old cs ≡ whole_run →
         rest_run qs ds ≡ whole_run
     went_on plan h old ps qs cs ds plan_is comes qs_is done so_far =
-        let all : (run (done_at_once plan) cs >>= rest_run (followed plan h ps)) ≡ whole_run = rw plan_is (visits-node h old ps cs comes so_far) in
-        ap (λ l. rest_run l ds) qs_is ∙ sym (ap (λ o. o >>= rest_run (followed plan h ps)) done) ∙ all
+        goes-on plan h ps qs cs ds (rw plan_is (visits-node h old ps cs comes so_far)) qs_is done
 
     pub node-fails : (e : Error) (plan : Plan) (h : ℕ) (old ps : List Position) (cs : Stack) → plan ≡ plan_at rules dom h →
         coming dom old ≡ Node h ∷ coming dom ps → rest_run old cs ≡ whole_run → Fails e (run (done_at_once plan) cs) →
         Fails e (converted rules (tree_of dom 0))
-    node-fails e plan h old ps cs plan_is comes so_far fails =
-        let all : (run (done_at_once plan) cs >>= rest_run (followed plan h ps)) ≡ whole_run = rw plan_is (visits-node h old ps cs comes so_far) in
-        fails-then e whole_run all_written (fails-same e _ whole_run all (fails-then e _ (rest_run (followed plan h ps)) fails))
+    node-fails e plan h old ps cs plan_is comes so_far =
+        fails-whole e _ (rest_run (followed plan h ps)) (rw plan_is (visits-node h old ps cs comes so_far))
 
   -- positions stay at nodes
   pub followed-nodes : (plan : Plan) (h : ℕ) (ps : List Position) → IsNode dom h → All (λ p. IsNode dom p.element) ps →
@@ -134,9 +165,7 @@ module _ (rules : List StyleRule) (dom : Dom) where
 
   pub close-fails : (e : Error) (old ps : List Position) (cs : Stack) → coming dom old ≡ Close ∷ coming dom ps → rest_run old cs ≡ whole_run →
       Fails e (closed cs) → Fails e (converted rules (tree_of dom 0))
-  close-fails e old ps cs comes so_far fails =
-      fails-then e whole_run all_written
-      (fails-same e _ whole_run (visits-close old ps cs comes so_far) (fails-then e (closed cs) (rest_run ps) fails))
+  close-fails e old ps cs comes so_far = fails-whole e (closed cs) (rest_run ps) (visits-close old ps cs comes so_far)
 
   -- nothing comes
   pub ended : (ps : List Position) (cs : Stack) → coming dom ps ≡ [] → rest_run ps cs ≡ whole_run → whole_run ≡ Some cs
@@ -147,9 +176,9 @@ module _ (rules : List StyleRule) (dom : Dom) where
 -- after the events of a document one element is open
 pub one_left : (rules : List StyleRule) (t : Forest Content) (cs : Stack) → run (events rules t all_children) (root ∷ []) ≡ Some cs →
     (p : OpenElement) × (cs ≡ p ∷ []) × (converted rules t ≡ p.written)
-one_left rules t cs is = by (picked_results rules t all_children) (sym all ∙ is)
+one_left rules t cs is = by (results rules t (λ c. true)) (sym all ∙ is)
   where
-    all : run (events rules t all_children) (root ∷ []) ≡ (picked_results rules t all_children >>= λ rs. Some (all_come rs root ∷ []))
+    all : run (events rules t all_children) (root ∷ []) ≡ (results rules t (λ c. true) >>= λ rs. Some (all_come rs root ∷ []))
     all = ap (λ l. run l (root ∷ [])) (sym (append-nil (events rules t all_children))) ∙ trees-run rules t all_children [] root []
 
     by : (o : Option (List Result)) → (o >>= λ rs. Some (all_come rs root ∷ [])) ≡ Some cs →
@@ -158,3 +187,21 @@ one_left rules t cs is = by (picked_results rules t all_children) (sym all ∙ i
     by (Some rs) e =
         let same : cs ≡ all_come rs root ∷ [] = cc in
         (all_come rs root, same, ap (λ o. o >>= all_written) is ∙ ap all_written same)
+
+-- nodes that are those of a tree
+pub record Written {K : Type 0} (tree : Option (Forest K)) (es : List (Entry K)) : Type 0 where
+  pub preorder : flatten (forest_of es) ≡ es
+  pub is : tree ≡ Some (forest_of es)
+
+pub written : {K : Type 0} (tree : Option (Forest K)) (es : List (Entry K)) → option_map flatten tree ≡ Some es → Written tree es
+written None es e = absurd (cc)
+written (Some t) es e =
+    let same : es ≡ flatten t = cc in
+    let back : forest_of es ≡ t = ap forest_of same ∙ forest_of-flatten t in
+    record { preorder = ap flatten back ∙ sym same; is = ap Some (sym back) }
+
+pub fails-tree : {K : Type 0} (e : Error) (tree : Option (Forest K)) → Fails e (option_map flatten tree) → Fails e tree
+fails-tree TooNarrow tree h = absurd h
+fails-tree Fail None h = refl
+fails-tree Fail (Some t) h = absurd (cc)
+fails-tree OutOfMemory tree h = tt

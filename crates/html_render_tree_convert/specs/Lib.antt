@@ -1,10 +1,7 @@
--- the order in which a table's children are converted
-pub mod Order
--- the walk over a document's lists of children, and the nodes that it visits
-pub mod Walk
-pub mod VisitedNodes
 -- the events of a walk over a document
 pub mod Events
+-- the walk over a document's lists of children, and the nodes that it visits
+pub mod Walk
 -- elements that are open during the walk
 pub mod OpenElements
 -- what each event does to them
@@ -18,6 +15,5 @@ pub mod Keeping
 pub mod Seen
 -- what code does with a result, a node, an element that opens and one that closes
 pub mod Receiving
-pub mod Following
 pub mod Opening
 pub mod Closing

@@ -1,14 +1,13 @@
 -- Elements that are open during a walk, with what is written of them.
-use Rattle.std.specs.Prelude.{ℕ, ◌+◌, Bool, false, List, [], ◌∷◌, ◌++◌, length, map, Option, Some, None, option_map}
-use Rattle.std.specs.Prelude.{option_to_list}
+use Rattle.std.specs.Prelude.{ℕ, ◌+◌, Bool, false, List, [], ◌∷◌, ◌++◌, length, map, Option, Some, None}
 use Rattle.html_render_layout_nodes.specs.RenderNodes.{unmeasured, without_style}
 use Rattle.html_render_layout_nodes.specs.declared.tree.Entry.{Entry}
 use Rattle.html_render_layout_nodes.specs.declared.tree.NodeKind.{NodeKind}
-use Rattle.html_render_layout_nodes.specs.declared.tree.NodeKind.TheVariants.{Text, Container, FragmentStart}
+use Rattle.html_render_layout_nodes.specs.declared.tree.NodeKind.TheVariants.{Container}
 use Rattle.html_render_layout_nodes.specs.declared.tree.NodeStyle.{NodeStyle}
 use Rattle.html_render_layout_nodes.specs.declared.tree.RenderNode.{RenderNode}
 use Rattle.html_render_parts.specs.declared.table.Span.{Span}
-use Rattle.html_render_tree_mapping.specs.ElementTexts.{has_any}
+pub use Rattle.html_render_tree_mapping.specs.Plans.{Insertion, text_nodes, inserts, insertion_of}
 use Rattle.html_render_tree_mapping.specs.declared.mapping.IfEmpty.{IfEmpty}
 use Rattle.html_render_tree_mapping.specs.declared.mapping.IfEmpty.TheVariants.{Stands}
 use Rattle.html_render_tree_mapping.specs.declared.tables.CellSpan.{CellSpan}
@@ -16,28 +15,12 @@ use Rattle.html_render_tree_mapping.specs.declared.plans.Element.{Element}
 
 -- ---- insertions
 
--- nodes without children that are inserted in front of an element's children and after them
-pub record Insertion : Type 0 where
-  pub front : List RenderNode
-  pub back : List RenderNode
-
 abbrev pub nothing : Insertion
 nothing = record { front = []; back = [] }
 
 -- an inner insertion within an outer one
 abbrev pub within : (outer inner : Insertion) → Insertion
 within outer inner = record { front = outer.front ++ inner.front; back = inner.back ++ outer.back }
-
--- a text as a node of a kind, if there is one
-abbrev pub text_nodes : (kind : List ℕ → NodeKind) → Option (List ℕ) → List RenderNode
-text_nodes kind contents = option_to_list (option_map (λ c. without_style (kind c)) contents)
-
-abbrev pub inserts : Element → Bool
-inserts e = has_any e.texts
-
--- what an element inserts: its mark and the content before its children, and the content after them
-abbrev pub insertion_of : Element → Insertion
-insertion_of e = record { front = text_nodes FragmentStart e.texts.mark ++ text_nodes Text e.texts.before; back = text_nodes Text e.texts.after }
 
 -- ---- entries
 

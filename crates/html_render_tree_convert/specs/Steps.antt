@@ -16,11 +16,12 @@ use Rattle.html_render_layout_nodes.specs.declared.tree.RenderNode.{RenderNode}
 use Rattle.html_render_parts.specs.TableCells.{cell_grid_of}
 use Rattle.html_render_tree_mapping.specs.Conversion.{vanishes}
 use Rattle.html_render_tree_mapping.specs.Results.{Role, is_caption, cell_of, row_of, stands_alone, keeps, counts}
+pub use Rattle.html_render_tree_mapping.specs.Results.{are_rows}
 use Rattle.html_render_tree_mapping.specs.Results as role
 use Rattle.html_render_tree_mapping.specs.Tables.{greatest_width, spanned_in}
 use Rattle.html_render_tree_mapping.specs.declared.mapping.ElementKind.{ElementKind}
 use Rattle.html_render_tree_mapping.specs.declared.mapping.ElementKind.TheVariants as element
-use Rattle.html_render_tree_mapping.specs.declared.mapping.IfEmpty.TheVariants.{Vanishes}
+use Rattle.html_render_tree_mapping.specs.declared.mapping.IfEmpty.TheVariants.{Stands, Vanishes}
 use Rattle.html_render_tree_mapping.specs.declared.tables.CellSpan.{CellSpan}
 use Rattle.html_render_tree_mapping.specs.declared.tables.Part.TheVariants as part
 use Rattle.html_render_tree_convert.specs.Events.{Event, Put, Open, Parts, Close, events}
@@ -46,19 +47,21 @@ begun_rows behind true e p =
     carrier (open_kind.Rows behind []) (without_style Container) e (within p.due (insertion_of e)) (Some p.due) ∷ record p { due = nothing } ∷ []
 begun_rows behind false e p = carrier (open_kind.Rows behind []) (without_style Container) e (insertion_of e) None ∷ p ∷ []
 
+abbrev pub row_carrier : Element → (due : Insertion) → OpenElement
+row_carrier e due = record (carrier (open_kind.Row []) (node_in e.style TableRow) e due None) { if_empty = Stands }
+
+abbrev pub cell_holder : CellSpan → Element → (due : Insertion) → OpenElement
+cell_holder span e due = holder (open_kind.Cell span) (node_in e.style TableCell) Stands e.texts.mark due (inserts e)
+
 -- A row in rows takes what is due there, for good.
 abbrev pub begun_row : (in_rows : Bool) → Element → (parent : OpenElement) → List OpenElement
-begun_row true e p =
-    carrier (open_kind.Row []) (node_in e.style TableRow) e (within p.due (insertion_of e)) None ∷ record p { due = nothing; given = None } ∷ []
-begun_row false e p = carrier (open_kind.Row []) (node_in e.style TableRow) e (insertion_of e) None ∷ p ∷ []
+begun_row true e p = row_carrier e (within p.due (insertion_of e)) ∷ record p { due = nothing; given = None } ∷ []
+begun_row false e p = row_carrier e (insertion_of e) ∷ p ∷ []
 
 -- A cell in a row holds what is due there.
 abbrev pub begun_cell : CellSpan → (in_row : Bool) → Element → (parent : OpenElement) → List OpenElement
-begun_cell span true e p =
-    holder (open_kind.Cell span) (node_in e.style TableCell) e.if_empty e.texts.mark (within p.due (insertion_of e)) (inserts e)
-    ∷ record p { due = nothing }
-    ∷ []
-begun_cell span false e p = holder (open_kind.Cell span) (node_in e.style TableCell) e.if_empty e.texts.mark (insertion_of e) (inserts e) ∷ p ∷ []
+begun_cell span true e p = cell_holder span e (within p.due (insertion_of e)) ∷ record p { due = nothing } ∷ []
+begun_cell span false e p = cell_holder span e (insertion_of e) ∷ p ∷ []
 
 abbrev pub is_table : OpenKind → Bool
 is_table (open_kind.Parts spans) = true
@@ -158,10 +161,6 @@ left_by kind p = Some (unless_vanished p (closed_as kind p))
 
 -- ---- an open element receives a result
 
-abbrev pub are_rows : Role → Bool
-are_rows (role.Rows behind rows) = true
-are_rows _ = false
-
 -- whether a result is kept
 abbrev pub accepts : OpenKind → Role → NodeKind → Bool
 accepts (open_kind.Node parent) r kind = keeps parent kind
@@ -173,7 +172,7 @@ accepts _ r kind = true
 
 -- whether a result counts
 abbrev pub counts_in : OpenKind → Role → NodeKind → (has_children : Bool) → Bool
-counts_in (open_kind.Node parent) r kind has_children = counts (element.Node parent) r kind has_children
+counts_in (open_kind.Node parent) r kind has_children = counts parent r kind has_children
 counts_in open_kind.Captions r kind has_children = is_caption r
 counts_in (open_kind.Parts spans) r kind has_children = has_children && are_rows r
 counts_in _ r kind has_children = true

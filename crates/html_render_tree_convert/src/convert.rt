@@ -9,9 +9,8 @@ ghost use Rattle.html_render_dom.specs.RuleIndex.{Finds};
 ghost use Rattle.html_render_tree_mapping.specs.Plans.{plain_element, plan_at};
 ghost use Rattle.html_render_tree_mapping.specs.Results.{render_tree_of};
 ghost use Rattle.html_render_tree_convert.specs.Events.{element_events, nothing_inside};
-ghost use Rattle.html_render_tree_convert.specs.Following.{done_at_once, followed};
 ghost use Rattle.html_render_tree_convert.specs.Steps.{converted, run};
-ghost use Rattle.html_render_tree_convert.specs.Walk.{first_pick};
+ghost use Rattle.html_render_tree_convert.specs.Walk.{done_at_once, first_pick, followed};
 
 use crate::conversion::Conversion;
 use crate::cursor::{Cursor, Pick, Visit};

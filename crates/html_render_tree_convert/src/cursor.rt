@@ -3,7 +3,8 @@
 ghost use Rattle.std.specs.Prelude.{◌≡◌, ◌∷◌, [], All, IfNone, IfSome, MatchOption, OnErr, OnOk};
 ghost use Rattle.html_render_dom_nodes.specs.Content.{content_of};
 ghost use Rattle.html_render_dom.specs.Dom.{IsNode};
-ghost use Rattle.html_render_tree_convert.specs.Order.{is_named, picks};
+ghost use Rattle.html_render_tree_convert.specs.Events.{picks};
+ghost use Rattle.html_render_tree_mapping.specs.Results.{is_named};
 ghost use Rattle.html_render_tree_convert.specs.Walk.{IsVisited, ahead, coming, coming_at, entered};
 
 use html_render_dom::dom::{Handle, Namespace, NodeData, RcDom};

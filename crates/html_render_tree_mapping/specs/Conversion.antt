@@ -107,11 +107,15 @@ last_white_space = record { important = false; origin = Agent; specificity = no_
 abbrev pub preformatted_style : ElementStyle → ElementStyle
 preformatted_style style = record style { white_space = winner (option_to_list style.white_space ++ last_white_space ∷ []); internal_pre = true }
 
+-- whether an element is a `pre` of HTML, whose text is preformatted
+abbrev pub is_preformatted : Name → Bool
+is_preformatted name = is_html name.space && bytes_eq name.local (codes "pre")
+
 -- the style of an element: what the rules give it, and what `pre` of HTML gives itself
 abbrev pub own_style : List StyleRule → Name → List Property → ElementStyle
 own_style rules name properties =
     let style = element_style rules name.local properties in
-    if is_html name.space && bytes_eq name.local (codes "pre") then preformatted_style style else style
+    if is_preformatted name then preformatted_style style else style
 
 -- what an element's style gives the node that it becomes; white space is Normal where nothing else is declared
 abbrev pub node_style : ElementStyle → NodeStyle

@@ -3,11 +3,9 @@ pub mod Images
 pub mod Marks
 pub mod Tables
 pub mod Conversion
--- THE DEFINITION of the conversion
-pub mod Results
--- elements whose text is preformatted
-pub mod Preformatted
 -- texts that an element inserts
 pub mod ElementTexts
 -- what becomes of a node, its children aside
 pub mod Plans
+-- THE DEFINITION of the conversion
+pub mod Results

@@ -1,5 +1,5 @@
--- What becomes of a node of a document, its children aside.
-use Rattle.std.specs.Prelude.{ℕ, true, false, List, Option, Some, None, is_some, if◌then◌else◌}
+-- What becomes of a node of a document, its children aside, and the nodes that an element inserts.
+use Rattle.std.specs.Prelude.{ℕ, Bool, true, false, List, ◌++◌, Option, Some, None, is_some, option_map, option_to_list, if◌then◌else◌}
 use Rattle.html_render_dom_values.specs.Forest.{Forest}
 use Rattle.html_render_dom_styles.specs.Cascade.{value_of}
 use Rattle.html_render_dom_styles.specs.Rules.{Rule as StyleRule}
@@ -7,7 +7,9 @@ use Rattle.html_render_dom_nodes.specs.Content.{Content, document, doctype, text
 use Rattle.html_render_dom.specs.Dom.{Dom, content_at, children_at, trees_of}
 use Rattle.html_render_dom.specs.ElementStyle.{ElementStyle}
 use Rattle.html_render_layout_nodes.specs.RenderNodes.{no_style, without_style}
+use Rattle.html_render_layout_nodes.specs.declared.tree.NodeKind.{NodeKind}
 use Rattle.html_render_layout_nodes.specs.declared.tree.NodeKind.TheVariants.{Text, Container, FragmentStart}
+use Rattle.html_render_layout_nodes.specs.declared.tree.RenderNode.{RenderNode}
 use Rattle.html_render_tree_mapping.specs.Conversion.{element_mapping, own_style, node_style}
 use Rattle.html_render_tree_mapping.specs.Marks.{mark_of}
 use Rattle.html_render_tree_mapping.specs.declared.mapping.ElementKind.{ElementKind}
@@ -20,7 +22,7 @@ use Rattle.html_render_tree_mapping.specs.declared.plans.Element.{Element}
 use Rattle.html_render_tree_mapping.specs.declared.plans.ElementTexts.{ElementTexts}
 use Rattle.html_render_tree_mapping.specs.declared.plans.Plan.{Plan}
 use Rattle.html_render_tree_mapping.specs.declared.plans.Plan.TheVariants.{Nothing, Alone, Over}
-use Rattle.html_render_tree_mapping.specs.ElementTexts.{no_texts}
+use Rattle.html_render_tree_mapping.specs.ElementTexts.{has_any, no_texts}
 
 -- mark of an element whose children aren't converted
 abbrev pub mark_plan : (mark : Option (List ℕ)) → Plan
@@ -65,3 +67,21 @@ plan_of rules (instruction target contents) children = Nothing
 -- plan of a node of a DOM
 abbrev pub plan_at : List StyleRule → Dom → (node : ℕ) → Plan
 plan_at rules dom h = plan_of rules (content_at dom h) (trees_of dom (children_at dom h))
+
+-- ---- what an element inserts
+
+-- nodes without children that are inserted in front of an element's children and after them
+pub record Insertion : Type 0 where
+  pub front : List RenderNode
+  pub back : List RenderNode
+
+-- a text as a node of a kind, if there is one
+abbrev pub text_nodes : (kind : List ℕ → NodeKind) → Option (List ℕ) → List RenderNode
+text_nodes kind contents = option_to_list (option_map (λ c. without_style (kind c)) contents)
+
+abbrev pub inserts : Element → Bool
+inserts e = has_any e.texts
+
+-- what an element inserts: its mark and the content before its children, and the content after them
+abbrev pub insertion_of : Element → Insertion
+insertion_of e = record { front = text_nodes FragmentStart e.texts.mark ++ text_nodes Text e.texts.before; back = text_nodes Text e.texts.after }

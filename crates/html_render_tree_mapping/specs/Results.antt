@@ -1,34 +1,34 @@
 -- THE DEFINITION of the conversion: what the nodes of a document become, by recursion on the document.
-use Rattle.std.specs.Prelude.{ℕ, zero, suc, ◌==◌, Bool, true, false, not, ◌&&◌, ◌||◌, List, [], ◌∷◌, ◌++◌, filter, flat_map, map, Option, Some, None, is_some}
-use Rattle.std.specs.Prelude.{option_map, option_to_list, if◌then◌else◌}
+use Rattle.std.specs.Prelude.{ℕ, zero, suc, ◌==◌, Bool, true, false, not, ◌&&◌, ◌||◌, List, [], ◌∷◌, ◌++◌, codes, filter, flat_map, map, Option, Some}
+use Rattle.std.specs.Prelude.{None, is_some, option_map, option_to_list, if◌then◌else◌}
 use Rattle.std.specs.List.{list_all, list_any}
-use Rattle.std.specs.Option.{option_map_or}
+use Rattle.std.specs.Str.{bytes_eq}
 use Rattle.html_render_dom_values.specs.Forest.{Forest, none, node, followed_by}
 use Rattle.html_render_dom_values.specs.Outcome.{◌>>=◌}
-use Rattle.html_render_dom_styles.specs.Cascade.{value_of}
-use Rattle.html_render_dom_nodes.specs.Content.{Content, document, text, element}
+use Rattle.html_render_dom_nodes.specs.Content.{Content, element, is_html}
 use Rattle.html_render_dom.specs.Dom.{Dom, tree_of}
-use Rattle.html_render_dom.specs.ElementStyle.{ElementStyle}
 use Rattle.html_render_dom_styles.specs.Rules.{Rule as StyleRule}
 use Rattle.html_render_dom_styles.specs.Selectors.{is_filled}
 use Rattle.html_render_parts.specs.TableCells.{cell_grid_of}
 use Rattle.html_render_parts.specs.declared.table.Span.{Span}
-use Rattle.html_render_tree_mapping.specs.declared.tables.CellSpan.{CellSpan}
 use Rattle.html_render_layout_nodes.specs.declared.tree.NodeKind.{NodeKind}
 use Rattle.html_render_layout_nodes.specs.declared.tree.NodeKind.TheVariants.{Text, Container, Break, Block, Ol, ListItem, Dl, Dt, Dd, Link}
 use Rattle.html_render_layout_nodes.specs.declared.tree.NodeKind.TheVariants.{Image, Svg, FragmentStart, Table, TableRow, TableCell}
 use Rattle.html_render_layout_nodes.specs.declared.tree.NodeStyle.{NodeStyle}
-use Rattle.html_render_tree_mapping.specs.declared.tables.Part.TheVariants as part
 use Rattle.html_render_layout_nodes.specs.declared.tree.RenderNode.{RenderNode}
 use Rattle.html_render_layout_nodes.specs.Kinds.{holds_insertions}
 use Rattle.html_render_layout_nodes.specs.RenderNodes.{unmeasured, no_style, without_style}
 use Rattle.html_render_layout_nodes.specs.Tables.{TableParts, unmeasured_table}
 use Rattle.html_render_tree_mapping.specs.declared.mapping.ElementKind.{ElementKind}
 use Rattle.html_render_tree_mapping.specs.declared.mapping.ElementKind.TheVariants.{Node, Part}
-use Rattle.html_render_tree_mapping.specs.declared.mapping.Mapping.{Mapping}
-use Rattle.html_render_tree_mapping.specs.declared.mapping.Mapping.TheVariants.{Nothing, Leaf, Parent}
-use Rattle.html_render_tree_mapping.specs.Marks.{mark_of}
-use Rattle.html_render_tree_mapping.specs.Conversion.{element_mapping, own_style, node_style, is_blank, vanishes}
+use Rattle.html_render_tree_mapping.specs.declared.mapping.IfEmpty.{IfEmpty}
+use Rattle.html_render_tree_mapping.specs.declared.plans.Element.{Element}
+use Rattle.html_render_tree_mapping.specs.declared.plans.Plan.{Plan}
+use Rattle.html_render_tree_mapping.specs.declared.plans.Plan.TheVariants as plan
+use Rattle.html_render_tree_mapping.specs.declared.tables.CellSpan.{CellSpan}
+use Rattle.html_render_tree_mapping.specs.declared.tables.Part.TheVariants as part
+use Rattle.html_render_tree_mapping.specs.Conversion.{is_blank, vanishes}
+use Rattle.html_render_tree_mapping.specs.Plans.{inserts, insertion_of, plan_of}
 use Rattle.html_render_tree_mapping.specs.Tables.{greatest_width, spanned_in}
 
 abbrev pub Nodes : Type 0
@@ -77,10 +77,10 @@ abbrev pub row_of : Role → Option (List CellSpan)
 row_of (Row cells) = Some cells
 row_of _ = None
 
-abbrev pub are_rows : (behind : Bool) → Role → Bool
-are_rows false (Rows false rows) = true
-are_rows true (Rows true rows) = true
-are_rows _ _ = false
+-- whether a result is that of rows
+abbrev pub are_rows : Role → Bool
+are_rows (Rows behind rows) = true
+are_rows _ = false
 
 -- whether a result may stand in no table: a caption is a container there
 abbrev pub stands_alone : Role → Bool
@@ -156,44 +156,49 @@ shows_nothing (FragmentStart name) has_children = true
 shows_nothing (Table grid) has_children = false
 shows_nothing _ has_children = not has_children
 
--- a link counts what shows something; a table its captions, and rows where there are any
-abbrev pub counts : (parent : ElementKind) → Role → NodeKind → (has_children : Bool) → Bool
-counts (Node (Link target)) role kind has_children = not (stands_alone role && shows_nothing kind has_children)
-counts (Part part.Table) role kind has_children = is_caption role || (has_children && (are_rows false role || are_rows true role))
+-- a link counts what shows something, and any other node all
+abbrev pub counts : (parent : NodeKind) → Role → NodeKind → (has_children : Bool) → Bool
+counts (Link target) role kind has_children = not (stands_alone role && shows_nothing kind has_children)
 counts _ role kind has_children = true
 
--- ---- what an element becomes
+-- ---- what an element becomes, over its captions, which only a table has, and the results of its other children
 
--- a node of a kind, or a part of a table, over its children's results
-abbrev pub built : ElementKind → NodeStyle → List Result → Option Result
-built (Part part.Table) style results =
-    table_of style (of_role is_caption results) (of_role (are_rows false) results ++ of_role (are_rows true) results)
-built (Part part.Body) style results = Some (rows_over false (of_role (λ x. is_some (row_of x)) results))
-built (Part part.Foot) style results = Some (rows_over true (of_role (λ x. is_some (row_of x)) results))
-built (Part part.Row) style results = Some (row_over style (of_role (λ x. is_some (cell_of x)) results))
-built (Part (part.Cell span)) style results = Some (record (over style TableCell results) { role = Cell span })
-built (Part part.Caption) style results = Some (record (over style Container results) { role = Caption })
-built (Node kind) style results = Some (over style kind (filter (λ r. keeps kind r.node.kind) results))
+-- its node, or its part of a table; none where a table has no grid
+abbrev pub built : ElementKind → NodeStyle → (captions others : List Result) → Option Result
+built (Part part.Table) style captions others = table_of style captions (of_role are_rows others)
+built (Part part.Body) style captions others = Some (rows_over false (of_role (λ x. is_some (row_of x)) others))
+built (Part part.Foot) style captions others = Some (rows_over true (of_role (λ x. is_some (row_of x)) others))
+built (Part part.Row) style captions others = Some (row_over style (of_role (λ x. is_some (cell_of x)) others))
+built (Part (part.Cell span)) style captions others = Some (record (over style TableCell others) { role = Cell span })
+built (Part part.Caption) style captions others = Some (record (over style Container others) { role = Caption })
+built (Node kind) style captions others = Some (over style kind (filter (λ r. keeps kind r.node.kind) others))
 
--- under its mapping; what stands in an element that has no children isn't converted
-abbrev pub mapped : Mapping → NodeStyle → (inside : Option (List Result)) → Option (Option Result)
-mapped Nothing style inside = Some None
-mapped (Leaf kind) style inside = Some (Some (over style kind []))
-mapped (Parent kind if_empty) style inside = do
-  results ← inside
-  r ← built kind style results
-  Some (if vanishes if_empty (list_any (λ r. counts kind r.role r.node.kind r.has_children) results) then None else Some r)
+-- whether it becomes nothing, where it has no results that count: a table counts its captions, and rows where there are any; a row
+-- and a cell always stand
+abbrev pub is_nothing : ElementKind → IfEmpty → (captions others : List Result) → Bool
+is_nothing (Part part.Table) if_empty captions others =
+    vanishes if_empty (is_filled captions || list_any (λ r. r.has_children) (of_role are_rows others))
+is_nothing (Part part.Row) if_empty captions others = false
+is_nothing (Part (part.Cell span)) if_empty captions others = false
+is_nothing (Node kind) if_empty captions others = vanishes if_empty (list_any (λ r. counts kind r.role r.node.kind r.has_children) others)
+is_nothing _ if_empty captions others = vanishes if_empty (is_filled others)
 
 -- ---- what is inserted
 
--- how many levels down something is inserted, at the first of each: inside a result, in its first cell, in the first cell of its
--- first row; none where it is inserted beside its node
-abbrev pub level_in : Role → NodeKind → Option ℕ
-level_in Contents (Table grid) = Some 2
-level_in Contents kind = if holds_insertions kind then Some 0 else None
-level_in (Rows behind rows) kind = Some 2
-level_in (Row cells) kind = Some 1
-level_in _ kind = Some 0
+-- how many levels down an element inserts, at the first of each: in its node, in its first cell, in the first cell of its first
+-- row; none where it inserts beside its node
+abbrev pub level_in : ElementKind → (has_texts has_captions : Bool) → Option ℕ
+level_in (Node kind) has_texts has_captions = if not has_texts || holds_insertions kind then Some 0 else None
+level_in (Part part.Table) has_texts has_captions = Some (if has_captions then 0 else 2)
+level_in (Part part.Body) has_texts has_captions = Some 2
+level_in (Part part.Foot) has_texts has_captions = Some 2
+level_in (Part part.Row) has_texts has_captions = Some 1
+level_in (Part _) has_texts has_captions = Some 0
+
+-- nodes without children beside each other
+abbrev pub trees : List RenderNode → Nodes
+trees [] = none
+trees (n ∷ ns) = node n none (trees ns)
 
 -- nodes before and behind what stands so many levels down in the first of some trees; where there is no such tree they are lost
 abbrev pub in_first : (level : ℕ) → (front back : Nodes) → Nodes → Nodes
@@ -201,46 +206,70 @@ in_first zero front back t = followed_by front (followed_by t back)
 in_first (suc level) front back none = none
 in_first (suc level) front back (node n children others) = node n (in_first level front back children) others
 
-abbrev pub inserted : (level : Option ℕ) → (front back : Nodes) → Result → Result
-inserted (Some level) front back r = record r { has_children = level == 0 || r.has_children; below = option_map (in_first level front back) r.below }
-inserted None front back r =
-    record (over no_style Container []) { has_children = true; below = option_map (λ t. followed_by front (node r.node t back)) r.below }
+-- a node without children
+abbrev pub alone : RenderNode → Result
+alone n = record { role = Contents; node = n; has_children = false; below = Some none }
 
--- a text as a node of a kind, where there is one
-abbrev pub leaf : (kind : List ℕ → NodeKind) → Option (List ℕ) → Nodes
-leaf kind contents = option_map_or (λ c. node (without_style (kind c)) none none) contents none
+-- a result with what an element inserts
+abbrev pub inserted : (level : Option ℕ) → Element → Result → Result
+inserted (Some level) e r =
+    let i = insertion_of e in
+    record r { has_children = (level == 0 && inserts e) || r.has_children; below = option_map (in_first level (trees i.front) (trees i.back)) r.below }
+inserted None e r =
+    let around : Nodes → Nodes = λ t. followed_by (trees (insertion_of e).front) (node r.node t (trees (insertion_of e).back)) in
+    record (alone (without_style Container)) { has_children = true; below = option_map around r.below }
 
--- a result with its mark and its contents; of nothing the mark alone is left
-abbrev pub completed : (mark before after : Option (List ℕ)) → Option Result → Option Result
-completed mark before after None = option_map (λ name. over no_style (FragmentStart name) []) mark
-completed mark before after (Some r) =
-    let front = followed_by (leaf FragmentStart mark) (leaf Text before) in
-    Some (if is_some mark || (is_some before || is_some after) then inserted (level_in r.role r.node.kind) front (leaf Text after) r else r)
+-- what is left of an element: its result with what it inserts, or its mark where it becomes nothing
+abbrev pub left_of : Element → (is_nothing has_captions : Bool) → Result → Option Result
+left_of e true has_captions r = option_map (λ name. alone (without_style (FragmentStart name))) e.texts.mark
+left_of e false has_captions r = Some (inserted (level_in e.kind (inserts e) has_captions) e r)
 
 -- ---- documents
 
--- what an element becomes under its style: nothing where it isn't displayed
-abbrev pub styled : Mapping → (mark : Option (List ℕ)) → ElementStyle → (inside : Option (List Result)) → Option (Option Result)
-styled mapping mark style inside =
-    if is_some style.display then Some None
-    else option_map (completed mark (value_of style.content_before) (value_of style.content_after)) (mapped mapping (node_style style) inside)
+-- WHAT AN ELEMENT BECOMES
+abbrev pub made : Element → (captions others : List Result) → Option (Option Result)
+made e captions others =
+    option_map (left_of e (is_nothing e.kind e.if_empty captions others) (is_filled captions)) (built e.kind e.style captions others)
 
--- what a node becomes, over what stands below it and the results of that
-abbrev pub result_of : List StyleRule → Content → (below : Forest Content) → (inside : Option (List Result)) → Option (Option Result)
-result_of rules document below inside = option_map (λ results. Some (over no_style Container results)) inside
-result_of rules (text contents) below inside = Some (Some (over no_style (Text contents) []))
-result_of rules (element name properties template_contents integration_point) below inside =
-    styled (element_mapping name.space name.local properties below) (mark_of name properties) (own_style rules name properties) inside
-result_of rules _ below inside = Some None
+-- whether a node is an element of HTML of this name
+abbrev pub is_named : (name : List ℕ) → Content → Bool
+is_named wanted (element name properties template_contents integration_point) = is_html name.space && bytes_eq name.local wanted
+is_named wanted _ = false
 
--- WHAT THE NODES of a document BECOME, in order; none where a table has no grid
-abbrev pub results : List StyleRule → Forest Content → Option (List Result)
-results rules none = Some []
-results rules (node content children others) = do
-  r ← result_of rules content children (results rules children)
-  rest ← results rules others
+-- an element's captions, and the results of its other children, of which a table's feet come last; `inside` has the results of
+-- children that pass a test
+abbrev pub captions_in : ElementKind → (inside : (Content → Bool) → Option (List Result)) → Option (List Result)
+captions_in (Part part.Table) inside = option_map (of_role is_caption) (inside (is_named (codes "caption")))
+captions_in _ inside = Some []
+
+abbrev pub others_in : ElementKind → (inside : (Content → Bool) → Option (List Result)) → Option (List Result)
+others_in (Part part.Table) inside = do
+  others ← inside (λ c. not (is_named (codes "caption") c) && not (is_named (codes "tfoot") c))
+  feet ← inside (is_named (codes "tfoot"))
+  Some (others ++ feet)
+others_in _ inside = inside (λ c. true)
+
+abbrev pub over_children : Element → (inside : (Content → Bool) → Option (List Result)) → Option (Option Result)
+over_children e inside = do
+  captions ← captions_in e.kind inside
+  others ← others_in e.kind inside
+  made e captions others
+
+-- what a node becomes, by its plan
+abbrev pub result_of : Plan → (inside : (Content → Bool) → Option (List Result)) → Option (Option Result)
+result_of plan.Nothing inside = Some None
+result_of (plan.Alone n) inside = Some (Some (alone n))
+result_of (plan.Over e false) inside = over_children e (λ test. Some [])
+result_of (plan.Over e true) inside = over_children e inside
+
+-- WHAT THE NODES of a document BECOME that pass a test, in order; none where a table has no grid
+abbrev pub results : List StyleRule → Forest Content → (picked : Content → Bool) → Option (List Result)
+results rules none picked = Some []
+results rules (node content children others) picked = do
+  r ← if picked content then result_of (plan_of rules content children) (λ test. results rules children test) else Some None
+  rest ← results rules others picked
   Some (option_to_list r ++ rest)
 
 -- THE RENDER TREE of a document; none where a table has no grid, or a part of a table stands in none
 abbrev pub render_tree_of : List StyleRule → Dom → Option Nodes
-render_tree_of rules dom = results rules (tree_of dom 0) >>= trees_of
+render_tree_of rules dom = results rules (tree_of dom 0) (λ c. true) >>= trees_of

@@ -10,8 +10,7 @@ ghost use Rattle.html_render_dom.specs.Attributes.{first_value};
 ghost use Rattle.html_render_dom_styles.specs.Selectors.{is_filled};
 ghost use Rattle.html_render_tree_mapping.specs.Images.{image_parts};
 ghost use Rattle.html_render_tree_mapping.specs.Conversion.{html_mapping, html_element_mapping, element_mapping, link_mapping};
-ghost use Rattle.html_render_tree_mapping.specs.Conversion.{preformatted_style, node_style};
-ghost use Rattle.html_render_tree_mapping.specs.Preformatted.{is_preformatted};
+ghost use Rattle.html_render_tree_mapping.specs.Conversion.{is_preformatted, preformatted_style, node_style};
 
 use crate::attributes::{first_value, span_of, start_of};
 use crate::images::{drawing_title, image_parts};

@@ -10,10 +10,9 @@ ghost use Rattle.html_render_dom.specs.ElementStyle.{style_by, style_of};
 ghost use Rattle.html_render_dom.specs.RuleIndex.{Finds};
 ghost use Rattle.html_render_dom_styles.specs.Rules.{Rule, rule_of};
 ghost use Rattle.html_render_layout_nodes.specs.RenderNodes.{without_style};
-ghost use Rattle.html_render_tree_mapping.specs.Conversion.{element_mapping, own_style};
+ghost use Rattle.html_render_tree_mapping.specs.Conversion.{element_mapping, is_preformatted, own_style};
 ghost use Rattle.html_render_tree_mapping.specs.ElementTexts.{has_any, no_texts};
 ghost use Rattle.html_render_tree_mapping.specs.Marks.{mark_of};
-ghost use Rattle.html_render_tree_mapping.specs.Preformatted.{is_preformatted};
 ghost use Rattle.html_render_tree_mapping.specs.Plans.{document_element, element_plan, mark_plan, plain_element, plan_at};
 
 use crate::attributes::mark_of;

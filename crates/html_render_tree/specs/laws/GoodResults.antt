@@ -1,6 +1,6 @@
 -- The trees below a result are good in its place, and stay good with insertions.
-use Rattle.std.proofs.Common.{◌≡◌, ℕ, Bool, true, false, ◌||◌, List, [], ◌∷◌, ◌++◌, filter, flat_map}
-use Rattle.std.proofs.Common.{Option, Some, None, option_map, IfSome, refl, sym, ap, ◌∙◌}
+use Rattle.std.proofs.Common.{◌≡◌, ℕ, Bool, true, false, not, ◌||◌, List, [], ◌∷◌, ◌++◌, filter, flat_map}
+use Rattle.std.proofs.Common.{Option, Some, None, option_map, IfSome, refl, sym, ap, ◌∙◌, subst}
 use Rattle.std.specs.Prelude.{option_and_then, is_some, if◌then◌else◌}
 use Rattle.std.specs.List.{list_all, AllByRecursion}
 use Rattle.std.proofs.lemmas.Bool.{and_from, and_parts, cond_both}
@@ -12,10 +12,13 @@ use Rattle.html_render_layout_nodes.specs.declared.tree.NodeKind.{NodeKind}
 use Rattle.html_render_layout_nodes.specs.declared.tree.NodeKind.TheVariants.{Break, Container, FragmentStart, Image, Svg, Table, TableCell, TableRow, Text}
 use Rattle.html_render_layout_nodes.specs.declared.tree.NodeStyle.{NodeStyle}
 use Rattle.html_render_layout_nodes.specs.declared.tree.RenderNode.{RenderNode}
+use Rattle.html_render_layout_nodes.specs.laws.Splits.{followed_by-none}
 use Rattle.html_render_layout_nodes.specs.Kinds.{holds_insertions}
 use Rattle.html_render_layout_nodes.specs.RenderNodes.{without_style}
 use Rattle.html_render_tree_mapping.specs.Results.{Nodes, Result, Role, Contents, Caption, Rows, Row, Cell, beside, stands_alone}
-use Rattle.html_render_tree_mapping.specs.Results.{level_in, in_first, of_role, trees_of, over, spans_of, inserted, leaf, completed}
+use Rattle.html_render_tree_mapping.specs.Results.{alone, level_in, in_first, left_of, of_role, trees, trees_of, over, spans_of, inserted}
+use Rattle.html_render_tree_mapping.specs.Plans.{inserts, insertion_of, text_nodes}
+use Rattle.html_render_tree_mapping.specs.declared.plans.Element.{Element}
 use Rattle.html_render_tree.specs.laws.Roles.{cell_spans, in_style, is_cell, is_row, joined, row_spans}
 use Rattle.html_render_tree_mapping.specs.Tables.{greatest_width, spanned_in}
 use Rattle.html_render_tree.specs.GoodTrees.{TreePlace, Anywhere, InTable, InRow, places_around, is_over, are_good_below, are_good}
@@ -86,6 +89,10 @@ AllGoodOf-more is are more =
 pub AllGoodOf-append : (is : Role → Bool) (rs others : List Result) → AllGoodOf is rs → AllGoodOf is others → AllGoodOf is (rs ++ others)
 AllGoodOf-append is [] others g h = h
 AllGoodOf-append is (r ∷ rs) others g h = (g.0, AllGoodOf-append is rs others g.1 h)
+
+pub append-good : (rs others : List Result) → AllGood rs → AllGood others → AllGood (rs ++ others)
+append-good [] others g h = h
+append-good (r ∷ rs) others g h = (g.0, append-good rs others g.1 h)
 
 all-good : (is : Role → Bool) (rs : List Result) → AllGood rs → list_all (λ r. is r.role) rs ≡ true → AllGoodOf is rs
 all-good is [] g h = tt
@@ -205,72 +212,105 @@ plain-holds (Svg title) h = cc
 plain-holds (FragmentStart name) h = cc
 plain-holds kind h = refl
 
-module _ (front back : Nodes) (f : are_good Anywhere front ≡ true) (b : are_good Anywhere back ≡ true) where
-  changed-good : (role role' : Role) (n n' : RenderNode) (change : Nodes → Nodes) → ((t : Nodes) → IsGood role n t → IsGood role' n' (change t)) →
-      (o : Option Nodes) → IsGoodIn role n o → IsGoodIn role' n' (option_map change o)
-  changed-good role role' n n' change is None h = tt
-  changed-good role role' n n' change is (Some t) h = is t h
+-- how many levels down in a result an element inserts
+abbrev pub level_of : Role → NodeKind → (has_texts : Bool) → Option ℕ
+level_of Contents (Table grid) has_texts = Some 2
+level_of Contents kind has_texts = if not has_texts || holds_insertions kind then Some 0 else None
+level_of (Rows behind rows) kind has_texts = Some 2
+level_of (Row cells) kind has_texts = Some 1
+level_of _ kind has_texts = Some 0
+
+changed-good : (role role' : Role) (n n' : RenderNode) (change : Nodes → Nodes) → ((t : Nodes) → IsGood role n t → IsGood role' n' (change t)) →
+    (o : Option Nodes) → IsGoodIn role n o → IsGoodIn role' n' (option_map change o)
+changed-good role role' n n' change is None h = tt
+changed-good role role' n n' change is (Some t) h = is t h
+
+front-good : (mark before : Option (List ℕ)) → are_good Anywhere (trees (text_nodes FragmentStart mark ++ text_nodes Text before)) ≡ true
+front-good None None = refl
+front-good None (Some content) = refl
+front-good (Some name) None = refl
+front-good (Some name) (Some content) = refl
+
+back-good : (after : Option (List ℕ)) → are_good Anywhere (trees (text_nodes Text after)) ≡ true
+back-good None = refl
+back-good (Some content) = refl
+
+no-texts : (mark before after : Option (List ℕ)) → (is_some mark || (is_some before || is_some after)) ≡ false → (t : Nodes) →
+    followed_by (trees (text_nodes FragmentStart mark ++ text_nodes Text before)) (followed_by t (trees (text_nodes Text after))) ≡ t
+no-texts None None None h t = followed_by-none t
+no-texts mark before after h t = cc
+
+module _ (e : Element) where
+  abbrev front : Nodes
+  front = trees (insertion_of e).front
+
+  abbrev back : Nodes
+  back = trees (insertion_of e).back
+
+  f : are_good Anywhere front ≡ true
+  f = front-good e.texts.mark e.texts.before
+
+  b : are_good Anywhere back ≡ true
+  b = back-good e.texts.after
 
   inside-good : (kind : NodeKind) (style : NodeStyle) (estimate : Estimate) → IsPlain kind → (o : Option Nodes) →
       IsGoodIn Contents (a_node kind style estimate) o →
-      IsGoodIn Contents (a_node kind style estimate) (option_map (λ t. followed_by front (followed_by t back)) o)
+      IsGoodIn Contents (a_node kind style estimate) (option_map (in_first 0 front back) o)
   inside-good kind style estimate plain =
       let n = a_node kind style estimate in
-      changed-good Contents Contents n n (λ t. followed_by front (followed_by t back))
+      changed-good Contents Contents n n (in_first 0 front back)
       (λ t h. plain-good n (followed_by front (followed_by t back)) none plain
       (between-good front back f b t
       (and_parts (are_good Anywhere t) true (ap (are_good_below (λ p. are_good p t) (λ p. are_good p none)) (sym plain) ∙ h)).0) refl)
 
   into_contents-good : (kind : NodeKind) (style : NodeStyle) (estimate : Estimate) (has : Bool) (o : Option Nodes) →
       IsGoodIn Contents (a_node kind style estimate) o →
-      IsGoodResult (inserted (level_in Contents kind) front back (a_result Contents (a_node kind style estimate) has o))
+      IsGoodResult (inserted (level_of Contents kind (inserts e)) e (a_result Contents (a_node kind style estimate) has o))
   into_contents-good (Table grid) style estimate has o h =
       let n = a_node (Table grid) style estimate in
       let rows = grid.cells.rows in
       changed-good Contents Contents n n (in_first 2 front back)
       (λ t k. and_from _ _ (into_row-good front back f b rows t (and_parts (are_good (InTable rows) t) true k).0) refl) o h
-  into_contents-good kind style estimate has o h = by (holds_insertions kind) refl
+  into_contents-good kind style estimate has o h = by (inserts e) (holds_insertions kind) refl refl
     where
       n : RenderNode
       n = a_node kind style estimate
 
-      by : (inside : Bool) → holds_insertions kind ≡ inside →
-          IsGoodResult (inserted (if inside then Some 0 else None) front back (a_result Contents n has o))
-      by true e = inside-good kind style estimate (plain-holds kind e) o h
-      by false e =
-          changed-good Contents Contents n (without_style Container) (λ t. followed_by front (node n t back))
-          (λ t k. and_from _ _ (followed-anywhere front (node n t back) f (followed-anywhere (node n t none) back k b)) refl) o h
+      by : (has_texts inside : Bool) → inserts e ≡ has_texts → holds_insertions kind ≡ inside →
+          IsGoodResult (inserted (if not has_texts || inside then Some 0 else None) e (a_result Contents n has o))
+      by false true t i = inside-good kind style estimate (plain-holds kind i) o h
+      by true true t i = inside-good kind style estimate (plain-holds kind i) o h
+      by false false t i =
+          changed-good Contents Contents n n (in_first 0 front back)
+          (λ u k. subst (IsGood Contents n) (sym (no-texts e.texts.mark e.texts.before e.texts.after t u)) k) o h
+      by true false t i =
+          changed-good Contents Contents n (without_style Container) (λ u. followed_by front (node n u back))
+          (λ u k. and_from _ _ (followed-anywhere front (node n u back) f (followed-anywhere (node n u none) back k b)) refl) o h
 
   inserted-good : (role : Role) (n : RenderNode) (has : Bool) (o : Option Nodes) → IsGoodIn role n o →
-      IsGoodResult (inserted (level_in role n.kind) front back (a_result role n has o))
+      IsGoodResult (inserted (level_of role n.kind (inserts e)) e (a_result role n has o))
   inserted-good Contents n has o h = into_contents-good n.kind n.style n.estimate has o h
   inserted-good Caption n has o h =
-      changed-good Caption Caption n n (λ t. followed_by front (followed_by t back)) (λ t k. (k.0, between-good front back f b t k.1)) o h
+      changed-good Caption Caption n n (in_first 0 front back) (λ t k. (k.0, between-good front back f b t k.1)) o h
   inserted-good (Rows behind rows) n has o h =
       changed-good (Rows behind rows) (Rows behind rows) n n (in_first 2 front back) (into_row-good front back f b (rows_like rows)) o h
   inserted-good (Row cells) n has o h =
       changed-good (Row cells) (Row cells) n n (in_first 1 front back)
       (λ t k. into_row-good front back f b (cells_like cells ∷ []) (node n t none) k) o h
   inserted-good (Cell span) n has o h =
-      changed-good (Cell span) (Cell span) n n (λ t. followed_by front (followed_by t back))
+      changed-good (Cell span) (Cell span) n n (in_first 0 front back)
       (λ t k. into_cell-good front back f b (some_cell ∷ []) (node n t none) k) o h
 
 -- whether a result, if there is one, is good
 abbrev pub IsGoodIfAny : Option Result → Type 0
 IsGoodIfAny o = IfSome o IsGoodResult
 
-back-good : (after : Option (List ℕ)) → are_good Anywhere (leaf Text after) ≡ true
-back-good None = refl
-back-good (Some content) = refl
-
-front-good : (mark before : Option (List ℕ)) → are_good Anywhere (followed_by (leaf FragmentStart mark) (leaf Text before)) ≡ true
-front-good None before = back-good before
-front-good (Some name) before = back-good before
-
-pub completed-good : (mark before after : Option (List ℕ)) (o : Option Result) → IsGoodIfAny o → IsGoodIfAny (completed mark before after o)
-completed-good None before after None h = tt
-completed-good (Some name) before after None h = refl
-completed-good mark before after (Some r) h =
-    let front = followed_by (leaf FragmentStart mark) (leaf Text before) in
-    cond_both (is_some mark || (is_some before || is_some after)) _ r IsGoodResult
-    (λ _. inserted-good front (leaf Text after) (front-good mark before) (back-good after) r.role r.node r.has_children r.below h) (λ _. h)
+pub left-good : (e : Element) (is_nothing has_captions : Bool) (r : Result) → IsGoodResult r →
+    level_in e.kind (inserts e) has_captions ≡ level_of r.role r.node.kind (inserts e) → IsGoodIfAny (left_of e is_nothing has_captions r)
+left-good e true has_captions r h same = by e.texts.mark
+  where
+    by : (mark : Option (List ℕ)) → IsGoodIfAny (option_map (λ name. alone (without_style (FragmentStart name))) mark)
+    by None = tt
+    by (Some name) = refl
+left-good e false has_captions r h same =
+    subst (λ l. IsGoodResult (inserted l e r)) (sym same) (inserted-good e r.role r.node r.has_children r.below h)

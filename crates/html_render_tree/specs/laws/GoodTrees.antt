@@ -1,16 +1,12 @@
 -- THE RENDER TREE of a document is good.
-use Rattle.std.proofs.Common.{◌≡◌, ℕ, Bool, true, false, not, ◌&&◌, if◌then◌else◌, List, [], ◌∷◌, ◌++◌, map, flat_map, filter, Option, Some, None}
-use Rattle.std.proofs.Common.{is_some, IfSome, option_map, option_to_list, refl, sym, ap, ◌∙◌, subst}
+use Rattle.std.proofs.Common.{◌≡◌, ℕ, Bool, true, false, not, ◌&&◌, ◌||◌, if◌then◌else◌, List, [], ◌∷◌, ◌++◌, map, flat_map, filter, Option, Some, None}
+use Rattle.std.proofs.Common.{IfSome, option_map, option_to_list, refl, sym, ap, ◌∙◌, subst}
 use Rattle.std.specs.Prelude.{codes}
-use Rattle.std.specs.List.{list_any}
-use Rattle.std.proofs.lemmas.Bool.{and_from, cond_both}
-use Rattle.std.specs.Str.{bytes_eq}
+use Rattle.std.proofs.lemmas.Bool.{and_from, and_parts, cond_both}
 use Rattle.html_render_dom_values.specs.Forest.{Forest, none, node}
 use Rattle.html_render_dom_values.specs.Outcome.{◌>>=◌}
-use Rattle.html_render_dom_styles.specs.Cascade.{value_of}
-use Rattle.html_render_dom_nodes.specs.Content.{Content, document, doctype, text, comment, element, instruction, is_html}
+use Rattle.html_render_dom_nodes.specs.Content.{Content}
 use Rattle.html_render_dom.specs.Dom.{Dom, tree_of}
-use Rattle.html_render_dom.specs.ElementStyle.{ElementStyle}
 use Rattle.html_render_dom_styles.specs.Rules.{Rule as StyleRule}
 use Rattle.html_render_dom_styles.specs.Selectors.{is_filled}
 use Rattle.html_render_parts.specs.Grid.{edges_of, positions_fit}
@@ -21,27 +17,25 @@ use Rattle.html_render_layout_nodes.specs.Tables.{TableParts, unmeasured_table}
 use Rattle.html_render_layout_nodes.specs.declared.tree.NodeKind.{NodeKind}
 use Rattle.html_render_layout_nodes.specs.declared.tree.NodeKind.TheVariants.{Text, Break, Image, Svg, FragmentStart, Container, Table, TableRow, TableCell}
 use Rattle.html_render_layout_nodes.specs.declared.tree.NodeStyle.{NodeStyle}
-use Rattle.html_render_tree_mapping.specs.declared.mapping.ElementKind.{ElementKind}
-use Rattle.html_render_tree_mapping.specs.declared.mapping.ElementKind.TheVariants.{Node, Part}
-use Rattle.html_render_tree_mapping.specs.declared.tables.Part.TheVariants as part
 use Rattle.html_render_layout_nodes.specs.declared.tree.RenderNode.{RenderNode}
 use Rattle.html_render_layout_nodes.specs.RenderNodes.{no_style, without_style}
-use Rattle.html_render_tree_mapping.specs.declared.mapping.IfEmpty.{IfEmpty}
-use Rattle.html_render_tree_mapping.specs.declared.mapping.Mapping.{Mapping}
-use Rattle.html_render_tree_mapping.specs.declared.mapping.Mapping.TheVariants.{Nothing, Leaf, Parent}
-use Rattle.html_render_tree_mapping.specs.Conversion.{element_mapping, own_style, node_style, vanishes}
-use Rattle.html_render_tree_mapping.specs.Marks.{mark_of}
+use Rattle.html_render_tree_mapping.specs.declared.mapping.ElementKind.{ElementKind}
+use Rattle.html_render_tree_mapping.specs.declared.mapping.ElementKind.TheVariants.{Node, Part}
+use Rattle.html_render_tree_mapping.specs.declared.plans.Element.{Element}
+use Rattle.html_render_tree_mapping.specs.declared.plans.Plan.{Plan}
+use Rattle.html_render_tree_mapping.specs.declared.plans.Plan.TheVariants as plan
+use Rattle.html_render_tree_mapping.specs.declared.tables.Part.TheVariants as part
+use Rattle.html_render_tree_mapping.specs.Plans.{inserts, plan_of}
 use Rattle.html_render_tree_mapping.specs.Results.{Nodes, Result, Role, Contents, Caption, Rows, Row, Cell, beside, trees_of, of_role, stands_alone}
-use Rattle.html_render_tree_mapping.specs.Results.{is_caption, are_rows, row_over, rows_over, spans_of, table_over, captioned, table_of, keeps, counts}
-use Rattle.html_render_tree_mapping.specs.Results.{built, mapped, over, styled, result_of, results, render_tree_of}
+use Rattle.html_render_tree_mapping.specs.Results.{is_caption, are_rows, row_over, rows_over, spans_of, table_over, captioned, table_of, keeps}
+use Rattle.html_render_tree_mapping.specs.Results.{built, captions_in, is_named, is_nothing, left_of, level_in, made, others_in, over, over_children, result_of, results, render_tree_of}
 use Rattle.html_render_tree.specs.laws.Roles.{as_block, cell_spans, have_rows, in_style, is_cell, is_row, joined, row_spans}
-use Rattle.html_render_tree.specs.laws.Mappings.{fits_kind, stands_as_is, fits, element_fits}
 use Rattle.html_render_tree.specs.GoodTrees.{Anywhere, InTable, InRow, is_leaf, are_good}
-use Rattle.html_render_tree.specs.laws.GoodKinds.{is_inner, parents_inner, element_parents}
+use Rattle.html_render_tree.specs.laws.GoodKinds.{IsGoodPlan, is_inner, plan-good, stands_as_is}
 use Rattle.html_render_tree.specs.laws.GoodPlaces.{cells_like, rows_like, own_rows-alike, rows-good-same}
-use Rattle.html_render_tree.specs.laws.GoodResults.{good-then, good-map, IsPlain, IsGoodIn, IsGoodResult, IsGoodIfAny, AllGood, AllGoodOf, AreGoodIn}
-use Rattle.html_render_tree.specs.laws.GoodResults.{filter-good, of_role-good, AllGoodOf-append, AllGoodOf-more, plain-good, alone-good, trees_of-good}
-use Rattle.html_render_tree.specs.laws.GoodResults.{cells-good, rows-good, holds_rows, joined-good, below-good, over-good, completed-good}
+use Rattle.html_render_tree.specs.laws.GoodResults.{good-then, good-map, IsPlain, IsGoodIn, IsGoodResult, IsGoodIfAny, AllGood, AllGoodOf, AreGoodIn, left-good, level_of}
+use Rattle.html_render_tree.specs.laws.GoodResults.{filter-good, of_role-good, AllGoodOf-append, AllGoodOf-more, append-good, plain-good, alone-good, trees_of-good}
+use Rattle.html_render_tree.specs.laws.GoodResults.{cells-good, rows-good, holds_rows, joined-good, below-good, over-good}
 
 -- ---- tables
 
@@ -78,8 +72,12 @@ captioned-good style grid captions parts c g a =
     (cond_both (have_rows parts) (table_over no_style grid parts ∷ []) [] (AllGoodOf stands_alone)
     (λ e. ((table_over-good no_style grid parts g a, refl), tt)) (λ e. tt))))
 
+-- whether a result is good, and an element of a kind inserts into it as its role and its node say
+abbrev pub IsGoodAs : ElementKind → (has_captions : Bool) → Result → Type 0
+IsGoodAs k has_captions r = IsGoodResult r × ((t : Bool) → level_in k t has_captions ≡ level_of r.role r.node.kind t)
+
 table_of-good : (style : NodeStyle) (captions parts : List Result) → AllGoodOf is_caption captions → AllGoodOf holds_rows parts →
-    IsGoodIfAny (table_of style captions parts)
+    IfSome (table_of style captions parts) (IsGoodAs (Part part.Table) (is_filled captions))
 table_of-good style captions parts c g = by (positions_fit (placed_rows spans))
   where
     spans : List (List Span)
@@ -93,28 +91,22 @@ table_of-good style captions parts c g = by (positions_fit (placed_rows spans))
     alike : rows_like cells.rows ≡ rows_like spans
     alike = own_rows-alike (edges_of (placed_rows spans)) 0 [] spans
 
+    inside : (t : Bool) → ◌≡◌ {A = Option ℕ} (Some 0) (if not t || true then Some 0 else None)
+    inside true = refl
+    inside false = refl
+
     by : (b : Bool) →
-        IsGoodIfAny (do
+        IfSome (do
           grid ← option_map unmeasured_table (if b then Some cells else None)
           Some (if is_filled captions then captioned style grid captions parts else table_over style grid parts))
+        (IsGoodAs (Part part.Table) (is_filled captions))
     by true =
         let grid = unmeasured_table cells in
-        cond_both (is_filled captions) (captioned style grid captions parts) (table_over style grid parts) IsGoodResult
-        (λ e. captioned-good style grid captions parts c g alike) (λ e. table_over-good style grid parts g alike)
+        cond_both (is_filled captions) (captioned style grid captions parts) (table_over style grid parts)
+        (IsGoodAs (Part part.Table) (is_filled captions))
+        (λ e. (captioned-good style grid captions parts c g alike, λ t. rw e (inside t)))
+        (λ e. (table_over-good style grid parts g alike, λ t. rw e refl))
     by false = tt
-
--- the bodies and feet of a table have rows
-with_rows-good : (rs : List Result) → AllGood rs → AllGoodOf holds_rows (of_role (are_rows false) rs ++ of_role (are_rows true) rs)
-with_rows-good rs g =
-    AllGoodOf-append holds_rows (of_role (are_rows false) rs) (of_role (are_rows true) rs) (of_sort false) (of_sort true)
-  where
-    hold : (behind : Bool) (role : Role) → are_rows behind role ≡ true → holds_rows role ≡ true
-    hold behind (Rows behind' rows) e = refl
-    hold true role e = cc
-    hold false role e = cc
-
-    of_sort : (behind : Bool) → AllGoodOf holds_rows (of_role (are_rows behind) rs)
-    of_sort behind = AllGoodOf-more (are_rows behind) holds_rows (hold behind) (of_role (are_rows behind) rs) (of_role-good (are_rows behind) rs g)
 
 -- ---- elements
 
@@ -130,38 +122,23 @@ row_over-good style rs g =
     below-good (InRow (cells_like spans)) (Row spans) (in_style style TableRow)
     (λ t h. and_from _ _ h refl) (beside rs) (cells-good rs g)
 
-plain-as-is : (kind : NodeKind) → stands_as_is kind ≡ true → not (is_leaf kind) ≡ true → IsPlain kind
-plain-as-is (Table grid) m i = cc
-plain-as-is TableRow m i = cc
-plain-as-is TableCell m i = cc
-plain-as-is (Text words) m i = cc
-plain-as-is Break m i = cc
-plain-as-is (Image image) m i = cc
-plain-as-is (Svg title) m i = cc
-plain-as-is (FragmentStart name) m i = cc
-plain-as-is kind m i = refl
+plain-as-is : (kind : NodeKind) → (stands_as_is kind && not (is_leaf kind)) ≡ true → IsPlain kind
+plain-as-is (Table grid) h = cc
+plain-as-is TableRow h = cc
+plain-as-is TableCell h = cc
+plain-as-is (Text words) h = cc
+plain-as-is Break h = cc
+plain-as-is (Image image) h = cc
+plain-as-is (Svg title) h = cc
+plain-as-is (FragmentStart name) h = cc
+plain-as-is kind h = refl
 
 -- a node without children is good
-leaf-good : (style : NodeStyle) (kind : NodeKind) → stands_as_is kind ≡ true → IsGoodResult (over style kind [])
+leaf-good : (style : NodeStyle) (kind : NodeKind) → is_inner false (Node kind) ≡ true → IsGoodResult (over style kind [])
 leaf-good style (Table grid) m = cc
 leaf-good style TableRow m = cc
 leaf-good style TableCell m = cc
 leaf-good style kind m = refl
-
-built-good : (caption foot : Bool) (if_empty : IfEmpty) (kind : ElementKind) (style : NodeStyle) (rs : List Result) →
-    fits_kind caption foot if_empty kind ≡ true → is_inner kind ≡ true → AllGood rs → IsGoodIfAny (built kind style rs)
-built-good caption foot if_empty (Part part.Table) style rs m i g =
-    table_of-good style (of_role is_caption rs) (of_role (are_rows false) rs ++ of_role (are_rows true) rs)
-    (of_role-good is_caption rs g) (with_rows-good rs g)
-built-good caption foot if_empty (Part part.Body) style rs m i g = rows_over-good false (of_role is_row rs) (of_role-good is_row rs g)
-built-good caption foot if_empty (Part part.Foot) style rs m i g = rows_over-good true (of_role is_row rs) (of_role-good is_row rs g)
-built-good caption foot if_empty (Part part.Row) style rs m i g = row_over-good style (of_role is_cell rs) (of_role-good is_cell rs g)
-built-good caption foot if_empty (Part (part.Cell span)) style rs m i g =
-    below-good Anywhere (Cell span) (in_style style TableCell) (λ t h. and_from _ _ h refl) (trees_of rs) (trees_of-good rs g)
-built-good caption foot if_empty (Part part.Caption) style rs m i g =
-    below-good Anywhere Caption (in_style style Container) (λ t h. (refl, h)) (trees_of rs) (trees_of-good rs g)
-built-good caption foot if_empty (Node kind) style rs m i g =
-    over-good style kind (filter (λ r. keeps kind r.node.kind) rs) (plain-as-is kind m i) (filter-good (λ r. keeps kind r.node.kind) rs g)
 
 -- whether the result of an element, if there is any, is good
 abbrev IsGoodIfKnown : Option (Option Result) → Type 0
@@ -170,45 +147,76 @@ IsGoodIfKnown o = IfSome o IsGoodIfAny
 abbrev AllGoodIn : Option (List Result) → Type 0
 AllGoodIn o = IfSome o AllGood
 
-mapped-good : (caption foot : Bool) (mapping : Mapping) (style : NodeStyle) (inside : Option (List Result)) →
-    fits caption foot mapping ≡ true → parents_inner mapping ≡ true → AllGoodIn inside → IsGoodIfKnown (mapped mapping style inside)
-mapped-good caption foot Nothing style inside m i g = tt
-mapped-good caption foot (Leaf kind) style inside m i g = leaf-good style kind m
-mapped-good caption foot (Parent kind if_empty) style None m i g = tt
-mapped-good caption foot (Parent kind if_empty) style (Some rs) m i g =
-    good-then IsGoodResult IsGoodIfAny _
-    (λ r h. cond_both (vanishes if_empty (list_any (λ x. counts kind x.role x.node.kind x.has_children) rs)) None (Some r) IsGoodIfAny (λ e. tt) (λ e. h))
-    (built kind style rs) (built-good caption foot if_empty kind style rs m i g)
+level-node : (kind : NodeKind) → stands_as_is kind ≡ true → (t has_captions : Bool) → level_in (Node kind) t has_captions ≡ level_of Contents kind t
+level-node (Table grid) h t has_captions = cc
+level-node kind h t has_captions = refl
 
-styled-good : (caption foot : Bool) (mapping : Mapping) (mark : Option (List ℕ)) (style : ElementStyle) (inside : Option (List Result)) →
-    fits caption foot mapping ≡ true → parents_inner mapping ≡ true → AllGoodIn inside → IsGoodIfKnown (styled mapping mark style inside)
-styled-good caption foot mapping mark style inside m i g =
-    cond_both (is_some style.display) (Some None) _ IsGoodIfKnown (λ e. tt)
-    (λ e. good-map IsGoodIfAny IsGoodIfAny _ (completed-good mark (value_of style.content_before) (value_of style.content_after))
-    (mapped mapping (node_style style) inside) (mapped-good caption foot mapping (node_style style) inside m i g))
+built-good : (kind : ElementKind) (style : NodeStyle) (captions others : List Result) → is_inner true kind ≡ true → AllGoodOf is_caption captions →
+    AllGood others → IfSome (built kind style captions others) (IsGoodAs kind (is_filled captions))
+built-good (Part part.Table) style captions others i c g =
+    table_of-good style captions (of_role are_rows others) c
+    (AllGoodOf-more are_rows holds_rows (λ role e. e) (of_role are_rows others) (of_role-good are_rows others g))
+built-good (Part part.Body) style captions others i c g =
+    (rows_over-good false (of_role is_row others) (of_role-good is_row others g), λ t. refl)
+built-good (Part part.Foot) style captions others i c g = (rows_over-good true (of_role is_row others) (of_role-good is_row others g), λ t. refl)
+built-good (Part part.Row) style captions others i c g = (row_over-good style (of_role is_cell others) (of_role-good is_cell others g), λ t. refl)
+built-good (Part (part.Cell span)) style captions others i c g = (
+  below-good Anywhere (Cell span) (in_style style TableCell) (λ t h. and_from _ _ h refl) (trees_of others) (trees_of-good others g),
+  λ t. refl,
+)
+built-good (Part part.Caption) style captions others i c g =
+    (below-good Anywhere Caption (in_style style Container) (λ t h. (refl, h)) (trees_of others) (trees_of-good others g), λ t. refl)
+built-good (Node kind) style captions others i c g =
+    let kept = filter (λ (r : Result). keeps kind r.node.kind) others in (
+      over-good style kind kept (plain-as-is kind i) (filter-good (λ r. keeps kind r.node.kind) others g),
+      λ t. level-node kind (and_parts (stands_as_is kind) (not (is_leaf kind)) i).0 t (is_filled captions),
+    )
+
+made-good : (e : Element) (captions others : List Result) →
+    IfSome (built e.kind e.style captions others) (IsGoodAs e.kind (is_filled captions)) → IsGoodIfKnown (made e captions others)
+made-good e captions others =
+    good-map (IsGoodAs e.kind (is_filled captions)) IsGoodIfAny (left_of e (is_nothing e.kind e.if_empty captions others) (is_filled captions))
+    (λ r h. left-good e _ _ r h.0 (h.1 (inserts e))) (built e.kind e.style captions others)
 
 -- ---- documents
 
-node-good : (rules : List StyleRule) (content : Content) (below : Forest Content) (inside : Option (List Result)) → AllGoodIn inside →
-    IsGoodIfKnown (result_of rules content below inside)
-node-good rules document below None g = tt
-node-good rules document below (Some rs) g = over-good no_style Container rs refl g
-node-good rules (text contents) below inside g = refl
-node-good rules (element name properties template_contents integration_point) below inside g =
-    styled-good (is_html name.space && bytes_eq name.local (codes "caption")) (is_html name.space && bytes_eq name.local (codes "tfoot"))
-    (element_mapping name.space name.local properties below) (mark_of name properties) (own_style rules name properties) inside
-    (element_fits name.space name.local properties below) (element_parents name.space name.local properties below) g
-node-good rules (doctype name public_id system_id) below inside g = tt
-node-good rules (comment contents) below inside g = tt
-node-good rules (instruction target contents) below inside g = tt
+module _ (inside : (Content → Bool) → Option (List Result)) (g : (test : Content → Bool) → AllGoodIn (inside test)) where
+  captions-good : (kind : ElementKind) → IfSome (captions_in kind inside) (AllGoodOf is_caption)
+  captions-good (Part part.Table) =
+      good-map AllGood (AllGoodOf is_caption) (of_role is_caption) (of_role-good is_caption) (inside (is_named (codes "caption"))) (g (is_named (codes "caption")))
+  captions-good kind = tt
 
-results-good : (rules : List StyleRule) (nodes : Forest Content) → AllGoodIn (results rules nodes)
-results-good rules none = tt
-results-good rules (node content children others) =
+  others-good : (kind : ElementKind) → AllGoodIn (others_in kind inside)
+  others-good (Part part.Table) =
+      good-then AllGood AllGood _
+      (λ others h. good-then AllGood AllGood _ (λ feet k. append-good others feet h k) (inside (is_named (codes "tfoot"))) (g (is_named (codes "tfoot"))))
+      (inside (λ c. not (is_named (codes "caption") c) && not (is_named (codes "tfoot") c)))
+      (g (λ c. not (is_named (codes "caption") c) && not (is_named (codes "tfoot") c)))
+  others-good kind = g (λ c. true)
+
+  node-good : (p : Plan) → IsGoodPlan p → IsGoodIfKnown (result_of p inside)
+  node-good plan.Nothing h = tt
+  node-good (plan.Alone n) h = h
+  node-good (plan.Over e true) h =
+      good-then (AllGoodOf is_caption) IsGoodIfAny _
+      (λ captions c. good-then AllGood IsGoodIfAny _
+      (λ others o. made-good e captions others (built-good e.kind e.style captions others h c o)) (others_in e.kind inside) (others-good e.kind))
+      (captions_in e.kind inside) (captions-good e.kind)
+  node-good (plan.Over e false) h = leaf-over e.kind h
+    where
+      leaf-over : (k : ElementKind) → is_inner false k ≡ true → IsGoodIfKnown (over_children (record e { kind = k }) (λ test. Some []))
+      leaf-over (Node kind) i = made-good (record e { kind = Node kind }) [] [] (leaf-good e.style kind i, λ t. level-node kind (and_parts (stands_as_is kind) true i).0 t false)
+      leaf-over (Part p) i = cc
+
+results-good : (rules : List StyleRule) (nodes : Forest Content) (picked : Content → Bool) → AllGoodIn (results rules nodes picked)
+results-good rules none picked = tt
+results-good rules (node content children others) picked =
     good-then IsGoodIfAny AllGood _
-    (λ r h. good-then AllGood AllGood _ (λ rest k. one r rest h k) (results rules others) (results-good rules others))
-    (result_of rules content children (results rules children))
-    (node-good rules content children (results rules children) (results-good rules children))
+    (λ r h. good-then AllGood AllGood _ (λ rest k. one r rest h k) (results rules others picked) (results-good rules others picked))
+    (if picked content then result_of (plan_of rules content children) (λ test. results rules children test) else Some None)
+    (cond_both (picked content) _ (Some None) IsGoodIfKnown
+    (λ e. node-good (λ test. results rules children test) (λ test. results-good rules children test) (plan_of rules content children)
+    (plan-good rules content children)) (λ e. tt))
   where
     one : (r : Option Result) (rest : List Result) → IsGoodIfAny r → AllGood rest → AllGood (option_to_list r ++ rest)
     one None rest h k = k
@@ -218,5 +226,6 @@ results-good rules (node content children others) =
 pub render_trees_are_good : (rules : List StyleRule) (dom : Dom) (t : Forest RenderNode) → render_tree_of rules dom ≡ Some t →
     are_good Anywhere t ≡ true
 render_trees_are_good rules dom t e =
+    let all = results rules (tree_of dom 0) (λ c. true) in
     subst (AreGoodIn Anywhere) e
-    (good-then AllGood (λ t. are_good Anywhere t ≡ true) trees_of trees_of-good (results rules (tree_of dom 0)) (results-good rules (tree_of dom 0)))
+    (good-then AllGood (λ t. are_good Anywhere t ≡ true) trees_of trees_of-good all (results-good rules (tree_of dom 0) (λ c. true)))

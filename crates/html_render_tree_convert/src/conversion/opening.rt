@@ -291,19 +291,13 @@ impl Conversion {
     ///
     /// `OutOfMemory` if an allocation is refused.
     #[inline(always)]
-    #[tactic(auto, using(crate::proofs::OpeningLemmas::plain_cell_opens))]
-    fn open_plain_cell(
-        &mut self,
-        span: CellSpan,
-        style: NodeStyle,
-        if_empty: IfEmpty,
-    ) -> Result<(), Error>
+    fn open_plain_cell(&mut self, span: CellSpan, style: NodeStyle) -> Result<(), Error>
         requires { due_in self.old ≡ nothing }
-        ensures ok { OnOk result (self.new
+        ensures ok { (if_empty : IfEmpty) → OnOk result (self.new
             ≡ opened (record { kind = ElementKind.Part (Part.Cell span); style = style; if_empty = if_empty; texts = no_texts }) self.old) }
         ensures err { OnlyOutOfMemory result }
     {
-        let open = Open::new(OpenKind::Cell(span), Due::none(), if_empty, false);
+        let open = Open::new(OpenKind::Cell(span), Due::none(), IfEmpty::Stands, false);
         self.begin(open, node_in(style, NodeKind::TableCell))
     }
 
@@ -326,7 +320,7 @@ impl Conversion {
         match kind {
             ElementKind::Node(kind) => self.open_node(kind, style, if_empty),
             ElementKind::Part(Part::Cell(span)) if !self.may_have_due() => {
-                self.open_plain_cell(span, style, if_empty)
+                self.open_plain_cell(span, style)
             }
             ElementKind::Part(part) => {
                 self.open_part(alloc, part, style, if_empty, ElementTexts::none())
@@ -496,10 +490,9 @@ impl Conversion {
         &mut self,
         alloc: Global,
         style: NodeStyle,
-        if_empty: IfEmpty,
         texts: ElementTexts,
     ) -> Result<(), Error>
-        ensures ok { OnOk result (self.new
+        ensures ok { (if_empty : IfEmpty) → OnOk result (self.new
             ≡ opened (record { kind = ElementKind.Part Part.Row; style = style; if_empty = if_empty; texts = texts }) self.old) }
         ensures err { OnlyOutOfMemory result }
     {
@@ -507,7 +500,7 @@ impl Conversion {
         let outer = self.take_due(alloc, in_rows)?;
         let due = Due::carried(alloc, texts, outer)?;
         let row = OpenKind::Row(RowCells::new(alloc));
-        let open = Open::new(row, due, if_empty, false);
+        let open = Open::new(row, due, IfEmpty::Stands, false);
         self.begin(open, node_in(style, NodeKind::TableRow))
     }
 
@@ -521,16 +514,15 @@ impl Conversion {
         alloc: Global,
         span: CellSpan,
         style: NodeStyle,
-        if_empty: IfEmpty,
         texts: ElementTexts,
     ) -> Result<(), Error>
-        ensures ok { OnOk result (self.new
+        ensures ok { (if_empty : IfEmpty) → OnOk result (self.new
             ≡ opened (record { kind = ElementKind.Part (Part.Cell span); style = style; if_empty = if_empty; texts = texts }) self.old) }
         ensures err { OnlyOutOfMemory result }
     {
         let in_row = self.is_in_row();
         let outer = self.take_due(alloc, in_row)?;
-        let (cell, front) = cell_of(alloc, span, if_empty, texts, outer.back)?;
+        let (cell, front) = cell_of(alloc, span, IfEmpty::Stands, texts, outer.back)?;
         self.hold_within(
             cell,
             node_in(style, NodeKind::TableCell),
@@ -616,8 +608,8 @@ impl Conversion {
             Part::Table => self.open_table(alloc, style, if_empty, texts),
             Part::Body => self.open_rows(alloc, false, if_empty, texts),
             Part::Foot => self.open_rows(alloc, true, if_empty, texts),
-            Part::Row => self.open_row(alloc, style, if_empty, texts),
-            Part::Cell(span) => self.open_cell(alloc, span, style, if_empty, texts),
+            Part::Row => self.open_row(alloc, style, texts),
+            Part::Cell(span) => self.open_cell(alloc, span, style, texts),
             Part::Caption => self.open_caption(alloc, style, if_empty, texts),
         }
     }

@@ -21,10 +21,10 @@ returns-clause-ok c =
     let n = c.node_in.result in
     let t = c.in_ok-outer.ensures in
     let e = c.in_ok-cell.ensures in
-    OnOk-both c.hold_within.result
+    λ if_empty. OnOk-both c.hold_within.result
     (new ≡ wrote (leaves (outer.front.items ++ front)) (element_seen cell (leaf n ∷ []) ∷ left))
     (IsOpen left)
-    (new ≡ opened (part_element (part.Cell a.span) a.style a.if_empty a.texts) ps)
+    (new ≡ opened (part_element (part.Cell a.span) a.style if_empty a.texts) ps)
     c.hold_within.ensures.ok c.hold_within.ensures.open
-    (λ made some. cell-opens a.span a.style a.if_empty a.texts ps left new c.is_in_row-in_row.result (insertion_in outer) front cell n
+    (λ made some. cell-opens a.span a.style if_empty a.texts ps left new c.is_in_row-in_row.result (insertion_in outer) front cell n
     c.is_in_row-in_row.ensures t.due t.left t.given some e.element e.front c.node_in.ensures made)

@@ -24,3 +24,9 @@ returns-in-Foot-clause-ok c =
     (c.open_rows-in-Foot.new.self ≡ opened (part_element a.part a.style a.if_empty a.texts) a.self.now)
     (c.open_rows-in-Foot.ensures.ok (element.Part part.Foot) a.style)
     (λ e. e ∙ opened-foot a.style a.if_empty a.texts a.self.now ∙ ap (λ (p : Part). opened (part_element p a.style a.if_empty a.texts) a.self.now) (sym c.in-Foot.is))
+
+pub returns-in-Row-clause-ok : goal.returns-in-Row-clause-ok
+returns-in-Row-clause-ok c = rw c.in-Row.is (c.open_row.ensures.ok c.args.if_empty)
+
+pub returns-in-Cell-clause-ok : goal.returns-in-Cell-clause-ok
+returns-in-Cell-clause-ok c = rw c.in-Cell.is (c.open_cell.ensures.ok c.args.if_empty)

@@ -1,5 +1,5 @@
 use Rattle.std.proofs.Common.{sym, ◌∙◌}
-use Rattle.html_render_tree_convert.proofs.ClosingSteps.{standing-into, vanished-into}
+use Rattle.html_render_tree_convert.proofs.ClosingElements.{standing-into, vanished-into}
 use Rattle.html_render_tree_convert.proofs.conversion.closing.close_into.Goals as goal
 
 pub returns-then-vanishes-clause-ok : goal.returns-then-vanishes-clause-ok

@@ -1,6 +1,6 @@
 use Rattle.std.proofs.Common.{sym, ◌∙◌}
 use Rattle.html_render_tree_convert.specs.Seen.{meant}
-use Rattle.html_render_tree_convert.proofs.ClosingSteps.{node-standing, rows-standing}
+use Rattle.html_render_tree_convert.proofs.ClosingElements.{node-standing, rows-standing}
 use Rattle.html_render_tree_convert.proofs.conversion.closing.close_part.Goals as goal
 
 pub returns-then-has_entry-clause-ok : goal.returns-then-has_entry-clause-ok

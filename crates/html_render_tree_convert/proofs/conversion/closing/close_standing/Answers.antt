@@ -5,7 +5,7 @@ use Rattle.html_render_tree_convert.specs.Held.{due_of}
 use Rattle.html_render_tree_convert.specs.Levels.{added}
 use Rattle.html_render_tree_convert.specs.OpenElements.{leaves}
 use Rattle.html_render_tree_convert.specs.Seen.{has_entry}
-use Rattle.html_render_tree_convert.proofs.ClosingSteps.{node-standing}
+use Rattle.html_render_tree_convert.proofs.ClosingElements.{node-standing}
 use Rattle.html_render_tree_convert.proofs.Entries.{or-false}
 use Rattle.html_render_tree_convert.proofs.conversion.closing.close_standing.Goals as goal
 
