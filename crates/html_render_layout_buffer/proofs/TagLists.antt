@@ -1,0 +1,227 @@
+-- Tags in runs.
+use Rattle.std.proofs.Common.{◌≡◌, ℕ, zero, suc, inl, inr, ◌+◌, ◌-◌, ◌<◌, ◌≤◌, List, [], ◌∷◌, ◌++◌, Option, Some, None, take, drop, length, get_or, refl, sym, ap, ◌∙◌, subst, arith, append_assoc, append-nil, length-append}
+use Rattle.std.specs.Prelude.{min, max, replicate}
+use Rattle.std.proofs.lemmas.List.{take-append-le, length-replicate, replicate-append-replicate, take-replicate, drop-replicate, take_all, drop_all, take_rest}
+use Rattle.std.proofs.lemmas.Bool.{cases_lt}
+use Rattle.std.specs.List.{AllWithin}
+use Rattle.std.specs.List.Sorted.{IsNonDecreasingBy}
+use Rattle.html_render_layout_buffer.specs.declared.runs.TagRun.{TagRun}
+use Rattle.html_render_layout_buffer.specs.Runs.{tags_from, AreRuns, last_as_closed, tags_between}
+
+pub length-tags : {T : Type 0} (rs : List (TagRun T)) (tag : Option T) (s n : ℕ) → AreRuns s rs tag n →
+    length (tags_from s rs tag n) + s ≡ n
+length-tags [] None s n is = omega (arith, is)
+length-tags [] (Some tag) s n is = omega (arith, is, length-replicate (n - s) tag)
+length-tags (r ∷ rs) tag s n is =
+    omega (arith, is.0, length-tags rs tag r.end n is.1, length-append (replicate (r.end - s) r.tag) (tags_from r.end rs tag n), length-replicate (r.end - s) r.tag)
+
+-- more under the open tag
+pub longer : {T : Type 0} (rs : List (TagRun T)) (own : Option T) (tag : T) (s n k : ℕ) → AreRuns s rs own n → own ≡ Some tag →
+    tags_from s rs own (n + k) ≡ tags_from s rs own n ++ replicate k tag
+longer rs None tag s n k is e = cc
+longer [] (Some own) tag s n k is e =
+    let same : own ≡ tag = cc in
+    let sum : n + k - s ≡ n - s + k = omega (arith, is) in
+    rw (same, sum) (sym (replicate-append-replicate (n - s) k tag))
+longer (r ∷ rs) (Some own) tag s n k is e =
+    ap (λ ts. replicate (r.end - s) r.tag ++ ts) (longer rs (Some own) tag r.end n k is.1 e)
+    ∙ sym (append_assoc (replicate (r.end - s) r.tag) (tags_from r.end rs (Some own) n) (replicate k tag))
+
+pub is-longer : {T : Type 0} (rs : List (TagRun T)) (own : Option T) (tag : T) (s n k : ℕ) → AreRuns s rs own n → own ≡ Some tag →
+    AreRuns s rs own (n + k)
+is-longer rs None tag s n k is e = cc
+is-longer [] (Some own) tag s n k is e = omega (arith, is)
+is-longer (r ∷ rs) (Some own) tag s n k is e = (is.0, is-longer rs (Some own) tag r.end n k is.1 e)
+
+-- more under another tag
+pub switched : {T : Type 0} (rs : List (TagRun T)) (own : Option T) (tag : T) (s n k : ℕ) → AreRuns s rs own n →
+    tags_from s (rs ++ last_as_closed own n) (Some tag) (n + k) ≡ tags_from s rs own n ++ replicate k tag
+switched [] None tag s n k is =
+    let sum : n + k - s ≡ k = omega (arith, is) in
+    rw sum refl
+switched [] (Some own) tag s n k is =
+    let sum : n + k - n ≡ k = omega arith in
+    rw sum refl
+switched (r ∷ rs) own tag s n k is =
+    ap (λ ts. replicate (r.end - s) r.tag ++ ts) (switched rs own tag r.end n k is.1)
+    ∙ sym (append_assoc (replicate (r.end - s) r.tag) (tags_from r.end rs own n) (replicate k tag))
+
+pub is-switched : {T : Type 0} (rs : List (TagRun T)) (own : Option T) (tag : T) (s n k : ℕ) → AreRuns s rs own n →
+    AreRuns s (rs ++ last_as_closed own n) (Some tag) (n + k)
+is-switched [] None tag s n k is = omega (arith, is)
+is-switched [] (Some own) tag s n k is = (is, omega arith)
+is-switched (r ∷ rs) own tag s n k is = (is.0, is-switched rs own tag r.end n k is.1)
+
+-- ---- a part
+
+between-nothing : {T : Type 0} (rs : List (TagRun T)) (tag : Option T) (to : ℕ) → tags_between to to rs tag ≡ []
+between-nothing [] None to = refl
+between-nothing [] (Some tag) to =
+    let none : to - to ≡ 0 = omega arith in
+    rw none refl
+between-nothing (r ∷ rs) tag to =
+    let none : min r.end to - to ≡ 0 = omega arith in
+    let same : max to (min r.end to) ≡ to = omega arith in
+    rw (none, same) (between-nothing rs tag to)
+
+-- a part of a list that begins with one that ends before the part
+pub later_part : {T : Type 0} (A B : List T) (i j : ℕ) → length A ≤ i → i ≤ j → drop i (take j (A ++ B)) ≡ drop (i - length A) (take (j - length A) B)
+later_part [] B i j h k =
+    let p : i - 0 ≡ i = omega arith in
+    let q : j - 0 ≡ j = omega arith in
+    rw (p, q) refl
+later_part (a ∷ A) B zero j h k = absurd (omega arith)
+later_part (a ∷ A) B (suc i) zero h k = absurd (omega arith)
+later_part (a ∷ A) B (suc i) (suc j) h k =
+    let p : suc i - suc (length A) ≡ i - length A = omega arith in
+    let q : suc j - suc (length A) ≡ j - length A = omega arith in
+    rw (p, q) (later_part A B i j (omega arith) (omega arith))
+
+-- one that begins inside the first
+across : {T : Type 0} (A B : List T) (i j : ℕ) → i ≤ length A → length A ≤ j → drop i (take j (A ++ B)) ≡ drop i A ++ take (j - length A) B
+across [] B zero j h k =
+    let q : j - 0 ≡ j = omega arith in
+    rw q refl
+across [] B (suc i) j h k = absurd (omega arith)
+across (a ∷ A) B i zero h k = absurd (omega arith)
+across (a ∷ A) B zero (suc j) h k =
+    let q : suc j - suc (length A) ≡ j - length A = omega arith in
+    rw q (ap (λ ts. a ∷ ts) (across A B zero j (omega arith) (omega arith)))
+across (a ∷ A) B (suc i) (suc j) h k =
+    let q : suc j - suc (length A) ≡ j - length A = omega arith in
+    rw q (across A B i j (omega arith) (omega arith))
+
+between_last : {T : Type 0} (tag : T) (at to s n : ℕ) → at ≤ to → to ≤ n → s ≤ at →
+    replicate (to - at) tag ≡ drop (at - s) (take (to - s) (replicate (n - s) tag))
+between_last tag at to s n h k l =
+    let e : to - s - (at - s) ≡ to - at = omega arith in
+    rw (take-replicate (to - s) (n - s) tag (omega arith), drop-replicate (at - s) (to - s) tag, e) refl
+
+-- the part begins behind the first run
+between-behind : {T : Type 0} (r : TagRun T) (rs : List (TagRun T)) (tag : Option T) (at to s : ℕ) (B : List T) → s ≤ r.end → r.end ≤ at → at ≤ to →
+    tags_between at to rs tag ≡ drop (at - r.end) (take (to - r.end) B) →
+    tags_between at to (r ∷ rs) tag ≡ drop (at - s) (take (to - s) (replicate (r.end - s) r.tag ++ B))
+between-behind r rs tag at to s B p q h e =
+    let none : min r.end to - at ≡ 0 = omega arith in
+    let same : max at (min r.end to) ≡ at = omega arith in
+    let len = length-replicate (r.end - s) r.tag in
+    let first : at - s - length (replicate (r.end - s) r.tag) ≡ at - r.end = omega (arith, len) in
+    let last : to - s - length (replicate (r.end - s) r.tag) ≡ to - r.end = omega (arith, len) in
+    rw (none, same, later_part (replicate (r.end - s) r.tag) B (at - s) (to - s) (omega (arith, len)) (omega arith), first, last) e
+
+-- it begins inside the first run, and ends behind it
+between-across : {T : Type 0} (r : TagRun T) (rs : List (TagRun T)) (tag : Option T) (at to s : ℕ) (B : List T) → s ≤ at → at < r.end → r.end ≤ to →
+    tags_between r.end to rs tag ≡ drop (r.end - r.end) (take (to - r.end) B) →
+    tags_between at to (r ∷ rs) tag ≡ drop (at - s) (take (to - s) (replicate (r.end - s) r.tag ++ B))
+between-across r rs tag at to s B p q h e =
+    let end : min r.end to ≡ r.end = omega arith in
+    let same : max at r.end ≡ r.end = omega arith in
+    let none : r.end - r.end ≡ 0 = omega arith in
+    let len = length-replicate (r.end - s) r.tag in
+    let last : to - s - length (replicate (r.end - s) r.tag) ≡ to - r.end = omega (arith, len) in
+    let first : r.end - s - (at - s) ≡ r.end - at = omega arith in
+    rw (
+      end,
+      same,
+      across (replicate (r.end - s) r.tag) B (at - s) (to - s) (omega (arith, len)) (omega (arith, len)),
+      last,
+      drop-replicate (at - s) (r.end - s) r.tag,
+      first,
+    ) (ap (λ ts. replicate (r.end - at) r.tag ++ ts) (rw none at e))
+
+-- it ends inside the first run
+between-inside : {T : Type 0} (r : TagRun T) (rs : List (TagRun T)) (tag : Option T) (at to s : ℕ) (B : List T) → s ≤ at → at ≤ to → to < r.end →
+    tags_between at to (r ∷ rs) tag ≡ drop (at - s) (take (to - s) (replicate (r.end - s) r.tag ++ B))
+between-inside r rs tag at to s B p q h =
+    let end : min r.end to ≡ to = omega arith in
+    let same : max at to ≡ to = omega arith in
+    let len = length-replicate (r.end - s) r.tag in
+    let first : to - s - (at - s) ≡ to - at = omega arith in
+    rw (
+      end,
+      same,
+      between-nothing rs tag to,
+      take-append-le (to - s) (replicate (r.end - s) r.tag) B (omega (arith, len)),
+      take-replicate (to - s) (r.end - s) r.tag (omega arith),
+      drop-replicate (at - s) (to - s) r.tag,
+      first,
+    ) (append-nil (replicate (to - at) r.tag))
+
+pub between : {T : Type 0} (rs : List (TagRun T)) (tag : Option T) (at to s n : ℕ) → AreRuns s rs tag n → at ≤ to → to ≤ n → s ≤ at →
+    tags_between at to rs tag ≡ drop (at - s) (take (to - s) (tags_from s rs tag n))
+between [] None at to s n is h k l = sym (ap (λ (ts : List _). drop (at - s) ts) (take_all (to - s) [] (omega arith)) ∙ drop_all (at - s) [] (omega arith))
+between [] (Some tag) at to s n is h k l = between_last tag at to s n h k l
+between {T} (r ∷ rs) tag at to s n is h k l =
+    elim (cases_lt at r.end) [
+      | inl p ↦ elim (cases_lt to r.end) [
+        | inl q ↦ between-inside r rs tag at to s (tags_from r.end rs tag n) l h q
+        | inr q ↦ between-across r rs tag at to s (tags_from r.end rs tag n) l p q (between rs tag r.end to r.end n is.1 q k (omega arith))
+      ]
+      | inr p ↦ between-behind r rs tag at to s (tags_from r.end rs tag n) is.0 p h (between rs tag at to r.end n is.1 h k p)
+    ]
+
+-- an opened value
+pub length-is : {T : Type 0} (rs : List (TagRun T)) (tag : Option T) (n : ℕ) (ts : List T) → AreRuns 0 rs tag n → tags_from 0 rs tag n ≡ ts → n ≡ length ts
+length-is rs tag n ts is e = omega (arith, length-tags rs tag 0 n is, ap length e)
+
+pub between_is : {T : Type 0} (rs qs : List (TagRun T)) (tag : Option T) (from to n : ℕ) (ts : List T) → AreRuns 0 rs tag n → tags_from 0 rs tag n ≡ ts →
+    qs ≡ rs → from ≤ to → to ≤ length ts → tags_between from to qs tag ≡ drop from (take to ts)
+between_is rs qs tag from to n ts is e f h k =
+    let a : from - 0 ≡ from = omega arith in
+    let b : to - 0 ≡ to = omega arith in
+    rw (f, ← e) (between rs tag from to 0 n is h (omega (arith, length-is rs tag n ts is e)) (omega arith) ∙ rw (a, b) refl)
+
+pub longer-to : {T : Type 0} (rs : List (TagRun T)) (own : Option T) (tag : T) (n k m : ℕ) (ts : List T) → AreRuns 0 rs own n → own ≡ Some tag →
+    m ≡ n + k → tags_from 0 rs own n ≡ ts → tags_from 0 rs own m ≡ ts ++ replicate k tag
+longer-to {T} rs own tag n k m ts is e f g =
+    ap (λ i. tags_from 0 rs own i) f ∙ longer rs own tag 0 n k is e ∙ ap (λ (y : List T). y ++ replicate k tag) g
+
+pub is-longer-to : {T : Type 0} (rs : List (TagRun T)) (own : Option T) (tag : T) (n k m : ℕ) → AreRuns 0 rs own n → own ≡ Some tag →
+    m ≡ n + k → AreRuns 0 rs own m
+is-longer-to rs own tag n k m is e f = subst (λ i. AreRuns 0 rs own i) (sym f) (is-longer rs own tag 0 n k is e)
+
+pub switched-to : {T : Type 0} (rs : List (TagRun T)) (own : Option T) (tag : T) (n k m : ℕ) (ts : List T) → AreRuns 0 rs own n →
+    m ≡ n + k → tags_from 0 rs own n ≡ ts → tags_from 0 (rs ++ last_as_closed own n) (Some tag) m ≡ ts ++ replicate k tag
+switched-to {T} rs own tag n k m ts is f g =
+    ap (λ i. tags_from 0 (rs ++ last_as_closed own n) (Some tag) i) f ∙ switched rs own tag 0 n k is ∙ ap (λ (y : List T). y ++ replicate k tag) g
+
+pub is-switched-to : {T : Type 0} (rs : List (TagRun T)) (own : Option T) (tag : T) (n k m : ℕ) → AreRuns 0 rs own n →
+    m ≡ n + k → AreRuns 0 (rs ++ last_as_closed own n) (Some tag) m
+is-switched-to rs own tag n k m is f = subst (λ i. AreRuns 0 (rs ++ last_as_closed own n) (Some tag) i) (sym f) (is-switched rs own tag 0 n k is)
+
+-- ---- the runs that end before a part
+
+floor : {T : Type 0} (rs : List (TagRun T)) (tag : Option T) (s n k : ℕ) (d : TagRun T) → AreRuns s rs tag n → k < length rs → s ≤ (get_or rs k d).end
+floor [] tag s n k d is h = absurd (omega arith)
+floor (r ∷ rs) tag s n zero d is h = is.0
+floor (r ∷ rs) tag s n (suc k) d is h = omega (arith, is.0, floor rs tag r.end n k d is.1 (omega arith))
+
+rising : {T : Type 0} (rs : List (TagRun T)) (tag : Option T) (s n : ℕ) → AreRuns s rs tag n → (i j : ℕ) (d : TagRun T) → i ≤ j → j < length rs →
+    (get_or rs i d).end ≤ (get_or rs j d).end
+rising [] tag s n is i j d h k = absurd (omega arith)
+rising (r ∷ rs) tag s n is zero zero d h k = omega arith
+rising (r ∷ rs) tag s n is zero (suc j) d h k = floor rs tag r.end n j d is.1 (omega arith)
+rising (r ∷ rs) tag s n is (suc i) zero d h k = absurd (omega arith)
+rising (r ∷ rs) tag s n is (suc i) (suc j) d h k = rising rs tag r.end n is.1 i j d (omega arith) (omega arith)
+
+pub rising-is : {T : Type 0} (rs qs : List (TagRun T)) (tag : Option T) (n : ℕ) → AreRuns 0 rs tag n → qs ≡ rs → IsNonDecreasingBy (λ (r : TagRun T). r.end) qs
+rising-is rs qs tag n is e = rw e (rising rs tag 0 n is)
+
+pub between-later : {T : Type 0} (rs : List (TagRun T)) (tag : Option T) (from to i : ℕ) → AllWithin (λ (r : TagRun T). r.end ≤ from) rs 0 i → i ≤ length rs → from ≤ to →
+    tags_between from to (drop i rs) tag ≡ tags_between from to rs tag
+between-later rs tag from to zero all h k = refl
+between-later [] tag from to (suc i) all h k = absurd (omega arith)
+between-later (r ∷ rs) tag from to (suc i) all h k =
+    let here : r.end ≤ from = all 0 r (omega arith) (omega arith) in
+    let none : min r.end to - from ≡ 0 = omega arith in
+    let same : max from (min r.end to) ≡ from = omega arith in
+    rw (none, same) (between-later rs tag from to i (λ j d p q. all (suc j) d (omega arith) (omega arith)) (omega arith) k)
+
+pub between-empty : {T : Type 0} (rs : List (TagRun T)) (tag : Option T) (at to : ℕ) → at ≡ to → tags_between at to rs tag ≡ []
+between-empty rs tag at to e = rw e (between-nothing rs tag to)
+
+pub part-is : {T : Type 0} (rs qs : List (TagRun T)) (tag : Option T) (from to n i : ℕ) (ts : List T) → AreRuns 0 rs tag n → tags_from 0 rs tag n ≡ ts →
+    qs ≡ rs → from ≤ to → to ≤ length ts → AllWithin (λ (r : TagRun T). r.end ≤ from) qs 0 i → i ≤ length qs →
+    tags_between from to (take (length qs - i) (drop i qs)) tag ≡ drop from (take to ts)
+part-is {T} rs qs tag from to n i ts is e f h k all within =
+    ap (λ (y : List (TagRun T)). tags_between from to y tag) (take_rest qs i) ∙ between-later qs tag from to i all within h ∙ between_is rs qs tag from to n ts is e f h k
