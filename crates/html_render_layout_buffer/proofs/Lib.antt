@@ -1,1 +1,4 @@
 pub mod TagLists
+pub mod Stored
+pub mod Growing
+pub mod WordParts

@@ -1,7 +1,7 @@
 -- How lines are stored: one text, one list of slots, and the ends of lines in both.
-use Rattle.std.specs.Prelude.{◌≡◌, ℕ, zero, suc, ◌+◌, ◌-◌, Option, Some, None, replicate, encode_utf8, List, [], ◌∷◌, ◌++◌, take, drop, length, slice_index_or}
+use Rattle.std.specs.Prelude.{◌≡◌, ℕ, zero, suc, ◌+◌, ◌-◌, ◌<◌, ◌≤◌, Option, None, replicate, encode_utf8, List, [], ◌∷◌, ◌++◌, take, drop, length, slice_index_or}
 use Rattle.std.specs.List.{flat_map}
-use Rattle.std.specs.Str.{chars, IsUtf8}
+use Rattle.std.specs.Str.{chars, IsUtf8, IsCharBoundary}
 use Rattle.html_render_layout_lines.specs.declared.line.Element.{Element}
 use Rattle.html_render_layout_lines.specs.declared.line.Element.TheVariants as element
 use Rattle.html_render_layout_lines.specs.Line.{Line, columns, text_bytes}
@@ -95,3 +95,11 @@ place_after before end = record { text = before.text; slots = before.slots; text
 abbrev pub place_of : List LineEnd → ℕ → LinePlace
 place_of es zero = place_after no_end (slice_index_or es 0 no_end)
 place_of es (suc n) = place_after (slice_index_or es n no_end) (slice_index_or es (suc n) no_end)
+
+-- a line's text with its newline begins and ends between characters
+pub record IsTextPlace (bs : List ℕ) (p : LinePlace) : Type 0 where
+  pub ordered : p.text < p.text_end
+  pub within : p.text_end ≤ length bs
+  pub begins : IsCharBoundary bs p.text
+  pub stops : IsCharBoundary bs (p.text_end - 1)
+  pub ends : IsCharBoundary bs p.text_end

@@ -6,3 +6,5 @@ pub mod Lines
 pub mod Moved
 -- how lines are stored
 pub mod Fields
+-- slots of words
+pub mod Words

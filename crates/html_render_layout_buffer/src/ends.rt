@@ -1,9 +1,8 @@
 //! Where lines end in the text and in the slots of a buffer.
 
-ghost use Rattle.std.specs.Prelude.{◌≡◌, ◌+◌, ◌++◌, ◌<◌, ◌^◌, ℕ, map, length, OnOk};
+ghost use Rattle.std.specs.Prelude.{◌≡◌, ◌+◌, ◌++◌, ◌<◌, ◌^◌, map, length, OnOk};
 ghost use Rattle.std.specs.List.{All, slice_index_or};
-ghost use Rattle.html_render_layout_lines.specs.TaggedText.{counted};
-ghost use Rattle.html_render_layout_buffer.specs.Fields.{place_of};
+ghost use Rattle.html_render_layout_buffer.specs.Fields.{place_of, no_end};
 ghost use Rattle.html_render_layout_buffer.specs.Moved.{moved};
 
 use std::alloc::AllocError;
@@ -50,7 +49,7 @@ pub struct LinePlace {
 #[inline]
 pub fn columns_at(ends: &[LineEnd], n: usize) -> Option<usize>
     requires { n < length ends.now }
-    ensures { (d : LineEnd) → result ≡ (slice_index_or ends.now n d).columns }
+    ensures { result ≡ (slice_index_or ends.now n no_end).columns }
 {
     ends[n].columns
 }
