@@ -54,6 +54,10 @@ fn split_line(script: &str) -> (&str, &str)
     ensures rest { result.1.now ≡ drop (length script.now - length result.1.now) script.now }
     ensures shorter { length result.1.now < length script.now }
 {
+    // a line that closes an element, of which there are most, needs no search
+    if let Some(after) = script.strip_prefix(">\n") {
+        return (">", after);
+    }
     match split_at_byte(b'\n', script) {
         Some((line, after)) => (without_carriage_return(line), after),
         None => (script, ""),
