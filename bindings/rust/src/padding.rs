@@ -1,7 +1,7 @@
 //! Spaces at the ends of lines, with which the library fills the cells of tables.
 
 use crate::error::Error;
-use memchr::memmem;
+use memchr::{memchr, memmem};
 
 /// Returns a text in memory that may be refused, with the spaces at the ends of its lines or without them.
 pub(crate) fn kept(text: &str, is_padded: bool) -> Result<String, Error> {
@@ -16,15 +16,26 @@ pub(crate) fn ends() -> memmem::Finder<'static> {
     memmem::Finder::new(b" \n")
 }
 
+/// Returns the end of the first line from a place on that has spaces at its end. In a table that is most often the next line, so
+/// this one is looked at before all others are searched.
+fn next_padded(bytes: &[u8], from: usize, ends: &memmem::Finder<'_>) -> Option<usize> {
+    let end = from + memchr(b'\n', &bytes[from..])?;
+    if bytes[from..end].last() == Some(&b' ') {
+        return Some(end);
+    }
+    ends.find(&bytes[end..]).map(|space| end + space + 1)
+}
+
 /// Appends the lines of a text, with the spaces at their ends or without them. Lines without any are appended together.
 pub(crate) fn push(text: &str, is_padded: bool, ends: &memmem::Finder<'_>, to: &mut String) {
     let bytes = text.as_bytes();
-    let mut start = 0;
+    let (mut start, mut from) = (0, 0);
     if !is_padded {
-        for last in ends.find_iter(bytes) {
-            let spaces = bytes[start..last].iter().rev().take_while(|&&byte| byte == b' ').count();
-            to.push_str(&text[start..last - spaces]);
-            start = last + 1;
+        while let Some(end) = next_padded(bytes, from, ends) {
+            let spaces = bytes[start..end].iter().rev().take_while(|&&byte| byte == b' ').count();
+            to.push_str(&text[start..end - spaces]);
+            start = end;
+            from = end + 1;
         }
     }
     to.push_str(&text[start..]);
