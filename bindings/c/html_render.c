@@ -9,6 +9,14 @@
 typedef char properties_have_4_bytes[sizeof(enum html_render_property) == 4 ? 1 : -1];
 typedef char origins_have_4_bytes[sizeof(enum html_render_origin) == 4 ? 1 : -1];
 typedef char places_have_4_bytes[sizeof(enum html_render_place) == 4 ? 1 : -1];
+typedef char styles_have_4_bytes[sizeof(enum html_render_style) == 4 ? 1 : -1];
+typedef char links_have_4_bytes[sizeof(enum html_render_links) == 4 ? 1 : -1];
+typedef char tables_have_4_bytes[sizeof(enum html_render_tables) == 4 ? 1 : -1];
+typedef char images_have_4_bytes[sizeof(enum html_render_image_mode) == 4 ? 1 : -1];
+
+const char *html_render_version(void) {
+    return HTML_RENDER_VERSION;
+}
 
 struct html_render_recording {
     struct html_render_step *steps;

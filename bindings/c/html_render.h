@@ -1,5 +1,10 @@
-/* Renders documents as wrapped text. A program records a document and settings call by call, and renders the
- * recording; example.c is such a program.
+/* Renders documents as wrapped text, in one of two ways:
+ * - html_render_html and html_render_html_lines render a page of HTML as a browser shows it. page.c is such a program.
+ *   Only the shared library has these calls, libhtml_render.so.0.
+ * - A program records a document and settings call by call, and renders the recording. example.c is such a program.
+ *   The static library has these calls too.
+ *
+ * Any number of threads may call at the same time.
  *
  * Calls that record:
  * - They copy names and texts, which are UTF-8. Lengths are in bytes; a text without a length ends with a zero byte. A
@@ -13,11 +18,11 @@
  * Nothing checks the following, so the caller ensures it:
  * - A recording isn't NULL, except for html_render_drop.
  * - A pointer leads to the bytes that its length says, and nothing changes them during the call.
- * - One thread at a time uses a recording, and no signal handler does.
+ * - One thread at a time uses a recording, and no signal handler calls this library.
  * - malloc, realloc and free are the program's only allocator, and none of them is called for what this library holds.
- * - Texts and attributes of an untrusted page have no control characters. They are rendered as they are recorded, so
- *   that U+001B in the target of a link can make a terminal write to its clipboard. The bindings for Rust and Python
- *   drop U+0000 to U+001F but tab and newline, U+007F to U+009F, U+202A to U+202E and U+2066 to U+2069.
+ * - Texts and attributes that are recorded of an untrusted page have no control characters. They are rendered as they
+ *   are recorded, so that U+001B in the target of a link can make a terminal write to its clipboard. html_render_html
+ *   drops U+0000 to U+001F but tab and newline, U+007F to U+009F, U+202A to U+202E and U+2066 to U+2069.
  */
 #ifndef HTML_RENDER_H
 #define HTML_RENDER_H
@@ -29,8 +34,18 @@
 extern "C" {
 #endif
 
+/* Version of this header. */
+#define HTML_RENDER_VERSION "0.1.0"
+#define HTML_RENDER_VERSION_MAJOR 0
+#define HTML_RENDER_VERSION_MINOR 1
+#define HTML_RENDER_VERSION_PATCH 0
+
+/* Returns the version of the library, such as "0.1.0". Nothing frees it. */
+const char *html_render_version(void);
+
 /* Status of a call that renders. HTML_RENDER_OUT_OF_MEMORY is possible at any time. Of several other causes the first
- * counts, in this order: the decorator, a setting, a step, HTML_RENDER_FAIL, HTML_RENDER_TOO_NARROW. */
+ * counts, in this order: the decorator, a setting, a step, HTML_RENDER_FAIL, HTML_RENDER_TOO_NARROW. Only calls that
+ * take a page of HTML return HTML_RENDER_TOO_LARGE and the statuses after it. */
 enum html_render_status {
     HTML_RENDER_OK = 0,
     /* The width is 0; or overflow is off, and a text or a character needs more columns than there are. */
@@ -45,7 +60,20 @@ enum html_render_status {
     /* A setting is faulty: one of its numbers isn't in its enumeration, or a text isn't UTF-8. */
     HTML_RENDER_BAD_SETTING = 5,
     /* The decorator isn't one of html_render_decorator. */
-    HTML_RENDER_BAD_DECORATOR = 6
+    HTML_RENDER_BAD_DECORATOR = 6,
+    /* A page has more than 5 million nodes, or attributes that rendering reads. */
+    HTML_RENDER_TOO_LARGE = 7,
+    /* The options have a faulty size, a number that isn't in its enumeration, or a flag without a name; or a pointer is
+     * NULL that may not be. */
+    HTML_RENDER_BAD_ARGUMENT = 8,
+    /* The Encoding standard has no such charset. */
+    HTML_RENDER_BAD_CHARSET = 9,
+    /* The address of the page isn't an absolute URL in UTF-8. */
+    HTML_RENDER_BAD_BASE = 10,
+    /* The style sheet has a rule without a block, or isn't UTF-8. */
+    HTML_RENDER_BAD_CSS = 11,
+    /* The library is at fault, and wrote where to standard error. */
+    HTML_RENDER_INTERNAL_FAULT = 12
 };
 
 /* Namespace of a name, and for an element what a parser decided about it, joined by |. Other bits are ignored. */
@@ -286,6 +314,115 @@ enum html_render_status html_render_text_of(const html_render_recording *recordi
 enum html_render_status html_render_lines_of(const html_render_recording *recording,
                                              enum html_render_decorator decorator, size_t width, char **records,
                                              size_t *length);
+
+/* Signs and annotations of a page's text. */
+enum html_render_style {
+    /* Writes signs around emphasis, strong text and code, and numbers links. Annotates nothing. */
+    HTML_RENDER_STYLE_PLAIN = 0,
+    /* Annotates links, images, emphasis, code, colours and more, and writes no signs for them. */
+    HTML_RENDER_STYLE_RICH = 1,
+    /* Neither writes signs nor annotates. */
+    HTML_RENDER_STYLE_BARE = 2
+};
+
+/* Targets of links. Equal targets have one number. HTML_RENDER_STYLE_RICH annotates them, whatever is asked here. */
+enum html_render_links {
+    /* HTML_RENDER_LINKS_NOTES for HTML_RENDER_STYLE_PLAIN, and otherwise HTML_RENDER_LINKS_NONE. */
+    HTML_RENDER_LINKS_BY_STYLE = 0,
+    /* Writes a number after each link, and the targets after the text. */
+    HTML_RENDER_LINKS_NOTES = 1,
+    /* Writes the target after each link. */
+    HTML_RENDER_LINKS_INLINE = 2,
+    /* Writes the targets after the text, without numbers. */
+    HTML_RENDER_LINKS_LIST = 3,
+    /* Writes no target. */
+    HTML_RENDER_LINKS_NONE = 4
+};
+
+/* Tables that are drawn with their cells side by side. The others are shown as the blocks and lines in their cells. */
+enum html_render_tables {
+    /* Tables of data: with heads, a caption, a summary or a border, or two rows of several cells. */
+    HTML_RENDER_TABLES_DATA = 0,
+    HTML_RENDER_TABLES_ALL = 1,
+    HTML_RENDER_TABLES_NONE = 2
+};
+
+/* Flags of a page, joined by |. */
+enum html_render_page_flags {
+    /* Shows the page's title above its text. */
+    HTML_RENDER_FLAG_TITLE = 1,
+    /* Applies the rules of the page's own style sheets. */
+    HTML_RENDER_FLAG_PAGE_CSS = 2,
+    /* Keeps control characters, with which a page can control a terminal. */
+    HTML_RENDER_FLAG_KEEP_CONTROLS = 4,
+    /* Cuts targets after the text at the width. Without it they may pass the width. */
+    HTML_RENDER_FLAG_WRAP_LINKS = 8,
+    /* Cuts lines of preformatted text at the width. Without it they may pass the width. */
+    HTML_RENDER_FLAG_WRAP_CODE = 16,
+    /* Draws a line under each row of a table. Without it there is none between most short rows. */
+    HTML_RENDER_FLAG_ROW_RULES = 32,
+    /* Stacks the cells of every table, without borders. */
+    HTML_RENDER_FLAG_RAW_TABLES = 64,
+    /* Cuts words in columns sooner. Without it columns have the width of their longest words, as far as possible. */
+    HTML_RENDER_FLAG_CUT_WORDS = 128,
+    /* Draws tables without borders. */
+    HTML_RENDER_FLAG_NO_BORDERS = 256,
+    /* Puts each table that isn't nested between lines of three backquotes. */
+    HTML_RENDER_FLAG_FENCE_TABLES = 512,
+    /* Pads lines with spaces. Without it no line ends with one. */
+    HTML_RENDER_FLAG_PAD = 1024,
+    /* Refuses a character or a prefix that is wider than its line. Without it such a line passes the width. */
+    HTML_RENDER_FLAG_NARROW = 2048
+};
+
+/* Options of a page of HTML. A field that is 0 or NULL is as if it wasn't there, so that the options
+ * `{sizeof(struct html_render_options)}` change nothing. Texts are UTF-8, and end with a zero byte.
+ *
+ * Later versions may add fields at the end. A library takes the options of earlier versions, and those of later ones
+ * if what it doesn't know of them is 0, up to 4,096 bytes. */
+struct html_render_options {
+    /* Size of the options in bytes, as far as the caller's version has fields. */
+    size_t size;
+    /* Maximum columns of the lines of paragraphs, without prefixes. */
+    size_t max_width;
+    /* Encoding of the page, as HTTP or a mail names it. Only a byte order mark counts more. Without it the encoding is
+     * what the page's first 1,024 bytes declare, or UTF-8 if all of its bytes are, or else windows-1252. */
+    const char *charset;
+    /* Address of the page: an absolute URL, against which targets of links are resolved. */
+    const char *base;
+    /* The user's style sheet: rules that select by an element's name, an id and classes. Others are ignored. */
+    const char *css;
+    /* Text of images under HTML_RENDER_IMAGE_REPLACE. */
+    const char *image_title;
+    enum html_render_style style;
+    enum html_render_links links;
+    enum html_render_tables tables;
+    /* Treatment of images without a text. */
+    enum html_render_image_mode images;
+    /* html_render_page_flags. */
+    uint64_t flags;
+};
+
+/* Renders a page of HTML as a text in UTF-8, as a browser shows the page, wrapped to `width` columns. `html` has
+ * `length` bytes in any encoding, and may be NULL if there are none. `options` may be NULL.
+ *
+ * HTML_RENDER_OK sets `text` to the text, which ends with a zero byte, and `text_length` to its length in bytes without
+ * the zero. The caller frees the text with html_render_free. Any other status sets `text` to NULL, and `text_length` to
+ * 0; if one of these pointers is NULL itself, nothing is set, and the status is HTML_RENDER_BAD_ARGUMENT.
+ *
+ * The limits on depth, attributes and nodes hold for every page: 512 open elements, and 5 million nodes, which may take
+ * some gigabytes. If memory is out in a part of the library that is written in Rust, such as the parser, the program is
+ * aborted. If it is out in the proved part, the status is HTML_RENDER_OUT_OF_MEMORY. A program that mustn't be aborted
+ * has another process render the pages that it doesn't trust. */
+enum html_render_status html_render_html(const char *html, size_t length, size_t width,
+                                         const struct html_render_options *options, char **text,
+                                         size_t *text_length);
+
+/* Renders a page of HTML as html_render_html does, as the records of lines that html_render_lines_of describes.
+ * HTML_RENDER_STYLE_RICH annotates as HTML_RENDER_RICH does, and the other styles as HTML_RENDER_PLAIN. */
+enum html_render_status html_render_html_lines(const char *html, size_t length, size_t width,
+                                               const struct html_render_options *options, char **records,
+                                               size_t *records_length);
 
 /* Frees the text or the records of a call that renders. Does nothing for NULL. */
 void html_render_free(void *given);
