@@ -1,0 +1,43 @@
+"""HTML as wrapped plain text, or as lines of annotated strings, as a browser shows the page.
+
+    >>> print(render("<p>Hello <em>wide</em> world</p>", width=11), end="")
+    Hello
+    *wide*
+    world
+    >>> print(render("<a href=b>a</a>", options=Options(base="https://c.example/", links="inline")), end="")
+    a <https://c.example/b>
+    >>> for line in render_lines("<p>a <em>b</em>"):
+    ...     print(line)
+    [Text(text='a ', annotations=()), Text(text='b', annotations=(Annotation(kind='emphasis', value=None),))]
+
+The renderer is the shared library libhtml_render.so.0, which is loaded at the first call: from the folder that the variable
+HTML_RENDER_LIB of the environment names, from the package's own folder, or else where the system keeps libraries. A call leaves
+Python's global lock free, so that threads render in parallel.
+"""
+
+from ._errors import BadBase, BadCharset, BadStyleSheet, CannotRender, Error, InternalFault, NoLibrary, TooLarge, TooNarrow
+from ._lines import Annotation, Fragment, Kind, Line, Text
+from ._options import Options
+from ._render import render, render_lines
+
+__version__ = "0.1.0"
+
+__all__ = [
+    "Annotation",
+    "BadBase",
+    "BadCharset",
+    "BadStyleSheet",
+    "CannotRender",
+    "Error",
+    "Fragment",
+    "InternalFault",
+    "Kind",
+    "Line",
+    "NoLibrary",
+    "Options",
+    "Text",
+    "TooLarge",
+    "TooNarrow",
+    "render",
+    "render_lines",
+]
