@@ -1,86 +1,52 @@
 //! How a document is rendered: a builder with html2text's names.
 
-use crate::adapt::{self, Adaptation, Adapted, UNSIGNED_CLASS};
+use crate::adapt::{Adaptation, Adapted, UNSIGNED_CLASS};
 use crate::characters::Filter;
 use crate::css::{self, Origin, Unsigned};
+use crate::document::{Beside, Parsed, RcDom, Reading, RenderTree};
 use crate::edits::{self, Edits};
-use crate::encoding;
 use crate::error::Error;
 use crate::footnotes::Footnotes;
 use crate::hiding::Hiding;
-use crate::limits::Refusal;
-use crate::lines::{self, RichAnnotation, TaggedLine, TaggedLineElement, TaggedString};
+use crate::lines::{RichAnnotation, TaggedLine, TaggedLineElement, TaggedString};
 use crate::options::{LinkMode, Options};
+use crate::page::{links_of, RenderedPage};
 use crate::pass::Pass;
-use crate::reader::Reader;
-use crate::record::{self, Recorder};
+use crate::record::Recorder;
+use crate::recorded::Recorded;
+use crate::records::Setting;
 #[cfg(test)]
 use crate::records::Step;
-use crate::records::{self, Page, Setting};
-use crate::sink::{Sink, Wanted};
-use crate::tree::{Piece, Tree};
-use html5ever::tree_builder::TreeBuilderOpts;
+use crate::render::{PlainDecorator, RichDecorator, TextDecorator};
+use crate::sheets::{keep, Sheets};
+use crate::tree::Piece;
 use std::io::Read;
 use std::marker::PhantomData;
 use std::mem;
+use std::rc::Rc;
 
 /// What stands in the place of an image whose title is empty.
-#[derive(Clone, Debug, Default, PartialEq, Eq)]
-pub enum ImageRenderMode {
+///
+/// ```
+/// use html_render::config::{plain, ImageRenderMode};
+///
+/// let shown = |mode| plain().empty_img_mode(mode).string_from_read("<img src='cats/ginger.png' alt=''>".as_bytes(), 80).unwrap();
+/// assert_eq!(shown(ImageRenderMode::IgnoreEmpty), "");
+/// assert_eq!(shown(ImageRenderMode::Replace("a cat")), "[a cat]\n");
+/// assert_eq!(shown(ImageRenderMode::Filename), "[ginger.png]\n");
+/// ```
+#[derive(Clone, Copy, Debug, Default, PartialEq, Eq)]
+#[non_exhaustive]
+pub enum ImageRenderMode<'a> {
     /// Nothing.
     #[default]
     IgnoreEmpty,
     /// What the decorator writes for an image of an empty title.
     ShowAlways,
     /// The image with this title.
-    Replace(String),
+    Replace(&'a str),
     /// The image with the part of its address behind the last `/` as its title; nothing where that is empty.
     Filename,
-}
-
-/// What writes round the parts of a document, and annotates its characters: one of the library's two decorators.
-pub trait Decorator: sealed::Sealed {
-    /// What a character can be annotated with.
-    type Annotation;
-
-    #[doc(hidden)]
-    const NUMBER: u32;
-
-    #[doc(hidden)]
-    const HAS_COLOURS: bool;
-
-    #[doc(hidden)]
-    fn annotation(annotation: RichAnnotation) -> Self::Annotation;
-}
-
-mod sealed {
-    pub trait Sealed {}
-    impl Sealed for super::PlainDecorator {}
-    impl Sealed for super::RichDecorator {}
-}
-
-/// The decorator of plain text, which annotates nothing.
-#[derive(Clone, Copy, Debug, Default, PartialEq, Eq)]
-pub struct PlainDecorator;
-
-/// The decorator of rich text, which annotates what plain text writes signs for.
-#[derive(Clone, Copy, Debug, Default, PartialEq, Eq)]
-pub struct RichDecorator;
-
-impl Decorator for PlainDecorator {
-    type Annotation = ();
-    const NUMBER: u32 = 0;
-    const HAS_COLOURS: bool = false;
-    fn annotation(_: RichAnnotation) {}
-}
-
-impl Decorator for RichDecorator {
-    type Annotation = RichAnnotation;
-    const NUMBER: u32 = 1;
-    const HAS_COLOURS: bool = true;
-    fn annotation(annotation: RichAnnotation) -> RichAnnotation {
-        annotation
-    }
 }
 
 /// The calls of a configuration, by their numbers.
@@ -103,35 +69,15 @@ mod call {
 /// How documents are rendered.
 #[derive(Clone, Debug)]
 pub struct Config<D> {
-    settings: Vec<Setting>,
-    text: String,
-    /// Number of classes of the rule that has most.
-    most_classes: usize,
-    /// Whether a rule selects by the name of a part of a table.
-    names_parts: bool,
-    uses_doc_css: bool,
-    keeps_controls: bool,
-    max_wrap_width: Option<usize>,
-    /// How pages are read and adapted; `None` for html2text's way.
-    options: Option<Options>,
-    decorator: PhantomData<D>,
-}
-
-/// What is recorded of a page.
-struct Recorded {
-    recorder: Recorder,
-    adapted: Adapted,
+    /// Rules of style sheets, and the signs around emphasis.
     sheets: Sheets,
-}
-
-/// The settings of a configuration and of a page's style sheets, over a text.
-struct Sheets {
+    uses_doc_css: bool,
+    reading: Reading,
+    /// All other settings, over one text.
     settings: Vec<Setting>,
     text: String,
-    /// Number of classes of the rule that has most.
-    most_classes: usize,
-    /// Whether a rule selects by the name of a part of a table.
-    names_parts: bool,
+    max_wrap_width: Option<usize>,
+    decorator: PhantomData<D>,
 }
 
 /// Rich text: lines whose characters are annotated.
@@ -149,17 +95,28 @@ pub fn plain_no_decorate() -> Config<PlainDecorator> {
     Config::new()
 }
 
-impl<D: Decorator> Config<D> {
+/// Returns the configuration of a decorator, without signs and footnotes.
+///
+/// ```
+/// use html_render::config::with_decorator;
+/// use html_render::render::PlainDecorator;
+///
+/// let config = with_decorator(PlainDecorator::new()).do_decorate();
+/// assert_eq!(config.string_from_read("<em>one</em>".as_bytes(), 80).unwrap(), "*one*\n");
+/// ```
+pub fn with_decorator<D: TextDecorator>(_decorator: D) -> Config<D> {
+    Config::new()
+}
+
+impl<D: TextDecorator> Config<D> {
     fn new() -> Config<D> {
         Config {
+            sheets: Sheets::default(),
+            uses_doc_css: false,
+            reading: Reading::default(),
             settings: Vec::new(),
             text: String::new(),
-            most_classes: 0,
-            names_parts: false,
-            uses_doc_css: false,
-            keeps_controls: false,
             max_wrap_width: None,
-            options: None,
             decorator: PhantomData,
         }
     }
@@ -171,8 +128,9 @@ impl<D: Decorator> Config<D> {
     }
 
     /// Writes signs round emphasis (`*`), strong text (`**`) and code (a backquote).
-    pub fn do_decorate(self) -> Config<D> {
-        self.with(call::DO_DECORATE, 0)
+    pub fn do_decorate(mut self) -> Config<D> {
+        self.sheets.settings.push(Setting { kind: call::DO_DECORATE, ..Setting::default() });
+        self
     }
 
     /// A character that is wider than a line stands alone on its line, where it would be too narrow otherwise.
@@ -196,11 +154,11 @@ impl<D: Decorator> Config<D> {
     }
 
     /// What stands in the place of an image whose title is empty.
-    pub fn empty_img_mode(mut self, mode: ImageRenderMode) -> Config<D> {
-        let (number, title) = match &mode {
+    pub fn empty_img_mode(mut self, mode: ImageRenderMode<'_>) -> Config<D> {
+        let (number, title) = match mode {
             ImageRenderMode::IgnoreEmpty => (0, ""),
             ImageRenderMode::ShowAlways => (1, ""),
-            ImageRenderMode::Replace(title) => (2, title.as_str()),
+            ImageRenderMode::Replace(title) => (2, title),
             ImageRenderMode::Filename => (3, ""),
         };
         let (text, text_length) = keep(&mut self.text, title);
@@ -245,12 +203,8 @@ impl<D: Decorator> Config<D> {
     }
 
     fn with_css(mut self, css: &str, origin: Origin) -> Result<Config<D>, Error> {
-        let texts = &mut self.text;
         let as_it_is = Filter { keeps_controls: true, ..Filter::default() };
-        let sheet = css::read(css, origin, as_it_is, &mut self.settings, |text| keep(texts, text));
-        self.most_classes = self.most_classes.max(sheet.most_classes);
-        self.names_parts |= sheet.names_parts;
-        if sheet.is_well {
+        if self.sheets.add(css, origin, as_it_is) {
             Ok(self)
         } else {
             Err(Error::CssParseError)
@@ -285,40 +239,15 @@ impl<D: Decorator> Config<D> {
     /// Shows what a browser shows of a page, in the encoding that it is in: `docs/HTML.md` tells it element by element. Without the call
     /// a page is read as html2text reads it, in UTF-8.
     pub fn as_shown(mut self, options: Options) -> Config<D> {
-        self.options = Some(options);
+        self.reading.options = Some(options);
         self
     }
 
     /// Keeps control characters of the page, which can control a terminal that the text is written to. Without the call U+0000 to
     /// U+001F but tab and newline, U+007F to U+009F, U+202A to U+202E and U+2066 to U+2069 are dropped.
     pub fn keep_controls(mut self) -> Config<D> {
-        self.keeps_controls = true;
+        self.reading.keeps_controls = true;
         self
-    }
-
-    /// Reads the bytes of a page, in memory that may be refused.
-    fn bytes(mut input: impl Read) -> Result<Vec<u8>, Error> {
-        const BLOCK: usize = 1 << 16;
-        let mut bytes = Vec::new();
-        loop {
-            bytes.try_reserve(BLOCK).map_err(|_| Error::OutOfMemory)?;
-            if input.by_ref().take(BLOCK as u64).read_to_end(&mut bytes)? == 0 {
-                return Ok(bytes);
-            }
-        }
-    }
-
-    /// Returns the settings of the configuration and of a page's style sheets.
-    fn sheets(&self, css: &str) -> Sheets {
-        let (mut settings, mut text) = (self.settings.clone(), self.text.clone());
-        let filter = Filter { keeps_controls: self.keeps_controls, drops_marks: self.options.is_some(), ..Filter::default() };
-        let sheet = css::read(css, Origin::Author, filter, &mut settings, |piece| keep(&mut text, piece));
-        Sheets {
-            settings,
-            text,
-            most_classes: self.most_classes.max(sheet.most_classes),
-            names_parts: self.names_parts || sheet.names_parts,
-        }
     }
 
     /// Returns how targets of links are shown; `None` where links keep them.
@@ -327,44 +256,92 @@ impl<D: Decorator> Config<D> {
         (!D::HAS_COLOURS).then(|| mode)
     }
 
-    /// Parses a page, and records the document that it is.
-    fn record(&self, input: impl Read, width: usize) -> Result<Recorded, Error> {
-        let bytes = Self::bytes(input)?;
-        let page = match &self.options {
-            Some(options) => encoding::decode(bytes, options.charset)?,
-            None => encoding::decode_utf8(bytes)?,
-        };
-        let is_adapted = self.options.is_some();
-        let filter = Filter { keeps_controls: self.keeps_controls, drops_soft_hyphens: is_adapted, drops_marks: is_adapted }.for_page(&page);
-        let wanted = Wanted { is_asked: if is_adapted { adapt::is_asked } else { record::is_asked }, css: self.uses_doc_css };
-        let options = TreeBuilderOpts { drop_doctype: true, scripting_enabled: !is_adapted, ..TreeBuilderOpts::default() };
-        let sink = Reader::read(&page, Sink::new(Tree::new(filter), wanted), wanted, options).map_err(|refusal| match refusal {
-            Refusal::TooLarge => Error::TooLarge,
-            Refusal::OutOfMemory => Error::OutOfMemory,
-        })?;
-        drop(page);
-        let Sink { mut tree, css, is_quirky, .. } = sink;
-        let title = self.options.as_ref().filter(|options| options.shows_title).and_then(|_| adapt::title(&tree));
-        let mut sheets = self.sheets(&css);
-        let adaptation = self.options.as_ref().map(|options| Adaptation {
+    /// Returns the rules of the configuration, and those of a page's own style sheets, if they are used.
+    fn sheets_of(&self, page: &Parsed) -> Sheets {
+        let mut sheets = self.sheets.clone();
+        if self.uses_doc_css {
+            sheets.add(&page.css, Origin::Author, page.filter_of_sheets());
+        }
+        sheets
+    }
+
+    /// Returns how a page is adapted at a width. The rules that hide elements are taken out of the sheets.
+    fn adaptation(&self, page: &Parsed, options: &Options, sheets: &mut Sheets, width: usize) -> Adaptation {
+        let hiding = Hiding::take_from(&mut sheets.settings, &sheets.text);
+        Adaptation {
             columns: width.min(self.max_wrap_width.unwrap_or(usize::MAX)).min(u32::MAX as usize) as u32,
             has_colours: D::HAS_COLOURS,
-            title,
-            is_quirky,
-            has_signs: self.settings.iter().any(|setting| setting.kind == call::DO_DECORATE),
+            title: page.title.clone().filter(|_| options.shows_title),
+            is_quirky: page.is_quirky,
+            has_signs: sheets.settings.iter().any(|setting| setting.kind == call::DO_DECORATE),
             links: self.link_mode(options),
             base: options.base.clone(),
-            hiding: Hiding::take_from(&mut sheets.settings, &sheets.text),
+            hiding,
             tables: options.tables,
             names_parts: sheets.names_parts,
             stacks_cells: self.number_of(call::RAW_MODE) != 0,
             shows_images: self.number_of(call::EMPTY_IMG_MODE) != 0,
-            cuts_code: options.wraps_code || self.is_padded() || sheets.settings.iter().any(css::sets_white_space),
-            drops_rules: self.drops_rules(),
-        });
-        let text = mem::take(&mut tree.text);
-        let (recorder, adapted) = Pass::record(&tree, Recorder::new(text, Filter { drops_soft_hyphens: false, ..filter }), adaptation);
-        Ok(Recorded { recorder, adapted, sheets })
+            cuts_code: options.wraps_code || self.is_padded(Some(options)) || sheets.settings.iter().any(css::sets_white_space),
+            drops_rules: self.drops_rules(Some(options)),
+        }
+    }
+
+    /// Records a page under rules for a width. The text is that to which the page's nodes refer.
+    fn record(&self, page: &Parsed, text: Vec<u8>, mut sheets: Sheets, width: usize) -> Result<Recorded, Error> {
+        let options = page.reading.options.as_ref();
+        let adaptation = options.map(|options| self.adaptation(page, options, &mut sheets, width));
+        let filter = Filter { drops_soft_hyphens: false, ..page.tree.filter };
+        let (mut recorder, adapted) = Pass::record(&page.tree, Recorder::new(text, filter), adaptation);
+        let settings = self.settings_of(&mut recorder, sheets, &adapted, options.is_some());
+        if recorder.is_out_of_memory {
+            return Err(Error::OutOfMemory);
+        }
+        let edits = Edits {
+            is_padded: self.is_padded(options),
+            joins_lines: adapted.has_long_lines,
+            has_row_marks: adapted.has_row_marks,
+            // a line of the page itself could be taken for a border
+            drops_rules: adapted.has_tables && self.drops_rules(options) && !edits::has_crossings(&recorder.text),
+        };
+        let footnotes = Footnotes {
+            targets: adapted.targets,
+            are_numbered: options.and_then(|options| self.link_mode(options)) == Some(LinkMode::Notes),
+            columns: options.filter(|options| options.wraps_links).map(|_| width),
+        };
+        Ok(Recorded { recorder, settings, decorator: D::NUMBER, width, edits, footnotes })
+    }
+
+    /// Returns the settings of a recorded page: rules, those that its adaptation needs, and all others. Their texts are kept.
+    fn settings_of(&self, recorder: &mut Recorder, sheets: Sheets, adapted: &Adapted, is_adapted: bool) -> Vec<Setting> {
+        let (start, _) = recorder.keep(&sheets.text);
+        let mut settings = Vec::with_capacity(sheets.settings.len() + self.settings.len());
+        for setting in sheets.settings {
+            settings.push(setting.moved(start));
+            if setting.kind == call::DO_DECORATE && is_adapted {
+                push_rules_without_signs(adapted.drops_signs, &mut settings, |text| recorder.keep(text));
+            }
+        }
+        adapted.rules.push_settings(sheets.most_classes, &mut settings, |text| recorder.keep(text));
+        let (start, _) = recorder.keep(&self.text);
+        settings.extend(self.settings.iter().map(|setting| setting.moved(start)));
+        settings
+    }
+
+    /// Reads a page, and records it for a width.
+    fn record_read(&self, input: impl Read, width: usize) -> Result<Recorded, Error> {
+        let mut page = Parsed::read(input, &self.reading, Beside { css: self.uses_doc_css, title: false })?;
+        self.record_parsed(&mut page, width)
+    }
+
+    /// Records a page for a width, the last time: its text is taken from it.
+    fn record_parsed(&self, page: &mut Parsed, width: usize) -> Result<Recorded, Error> {
+        let text = mem::take(&mut page.tree.text);
+        self.record(page, text, self.sheets_of(page), width)
+    }
+
+    /// Records a page that is parsed for a width.
+    fn record_tree(&self, tree: &RenderTree, width: usize) -> Result<Recorded, Error> {
+        self.record(&tree.page, tree.page.copied_text()?, Sheets::clone(&tree.sheets), width)
     }
 
     /// Returns the number of the last setting of a kind, or 0.
@@ -373,62 +350,28 @@ impl<D: Decorator> Config<D> {
     }
 
     /// Reports whether spaces at the ends of lines are kept.
-    fn is_padded(&self) -> bool {
-        self.options.as_ref().map_or(true, |options| options.is_padded) || self.settings.iter().any(|setting| setting.kind == call::PAD_BLOCK_WIDTH)
+    fn is_padded(&self, options: Option<&Options>) -> bool {
+        options.map_or(true, |options| options.is_padded) || self.settings.iter().any(|setting| setting.kind == call::PAD_BLOCK_WIDTH)
     }
 
     /// Reports whether lines between rows of tables are dropped: if tables have any.
-    fn drops_rules(&self) -> bool {
+    fn drops_rules(&self, options: Option<&Options>) -> bool {
         let has_borders = |setting: &Setting| !matches!(setting.kind, call::NO_TABLE_BORDERS | call::RAW_MODE);
-        self.options.as_ref().map_or(false, |options| !options.has_row_rules) && self.settings.iter().all(has_borders)
-    }
-
-    /// Calls a function with the page of a document, and with what is changed after it is rendered. Returns what it returns, and the footnotes of the document.
-    fn with_page<T>(&self, input: impl Read, width: usize, render: impl FnOnce(Page<'_>, Edits) -> Result<T, Error>) -> Result<(T, Footnotes), Error> {
-        let Recorded { mut recorder, adapted, sheets } = self.record(input, width)?;
-        let (start, _) = recorder.keep(&sheets.text);
-        let mut settings = Vec::with_capacity(sheets.settings.len());
-        for setting in sheets.settings {
-            settings.push(setting.moved(start));
-            if setting.kind == call::DO_DECORATE && self.options.is_some() {
-                push_rules_without_signs(adapted.drops_signs, &mut settings, |text| recorder.keep(text));
-            }
-        }
-        adapted.rules.push_settings(sheets.most_classes, &mut settings, |text| recorder.keep(text));
-        if recorder.is_out_of_memory {
-            return Err(Error::OutOfMemory);
-        }
-        let edits = Edits {
-            is_padded: self.is_padded(),
-            joins_lines: adapted.has_long_lines,
-            has_row_marks: adapted.has_row_marks,
-            // a line of the page itself could be taken for a border
-            drops_rules: adapted.has_tables && self.drops_rules() && !edits::has_crossings(&recorder.text),
-        };
-        let page = Page { steps: &recorder.steps, text: &recorder.text, settings: &settings, decorator: D::NUMBER, width };
-        let rendered = render(page, edits)?;
-        Ok((rendered, self.footnotes(adapted, width)))
-    }
-
-    /// Returns the footnotes of an adapted document.
-    fn footnotes(&self, adapted: Adapted, width: usize) -> Footnotes {
-        let columns = self.options.as_ref().filter(|options| options.wraps_links).map(|_| width);
-        let are_numbered = self.options.as_ref().and_then(|options| self.link_mode(options)) == Some(LinkMode::Notes);
-        Footnotes { targets: adapted.targets, are_numbered, columns }
+        options.map_or(false, |options| !options.has_row_rules) && self.settings.iter().all(has_borders)
     }
 
     /// Returns the steps of a page's document, their text and its footnotes.
     #[cfg(test)]
     pub(crate) fn recorded(&self, page: &str) -> (Vec<Step>, Vec<u8>, Vec<String>) {
-        let Recorded { recorder, adapted, .. } = self.record(page.as_bytes(), 20).expect("a page that is recorded");
-        (recorder.steps, recorder.text, self.footnotes(adapted, 20).lines().collect())
+        let Recorded { recorder, footnotes, .. } = self.record_read(page.as_bytes(), 20).expect("a page that is recorded");
+        (recorder.steps, recorder.text, footnotes.lines().collect())
     }
 
-    /// Calls a function with the settings, whose texts begin a text.
+    /// Calls a function with the settings, which have no texts.
     #[cfg(test)]
     pub(crate) fn with_settings<T>(&self, render: impl FnOnce(&[Setting]) -> T) -> T {
-        assert!(self.text.is_empty());
-        render(&self.settings)
+        assert!(self.text.is_empty() && self.sheets.text.is_empty());
+        render(&[self.sheets.settings.as_slice(), &self.settings].concat())
     }
 
     /// The text of HTML that is read, wrapped to `width` columns.
@@ -437,9 +380,7 @@ impl<D: Decorator> Config<D> {
     ///
     /// `IoError` where the input can't be read; `TooNarrow`, `Fail`, `TooLarge` or `OutOfMemory` where it can't be rendered.
     pub fn string_from_read<R: Read>(self, input: R, width: usize) -> Result<String, Error> {
-        let (mut text, footnotes) = self.with_page(input, width, |page, edits| records::text(page, |text| edits.text(text))?)?;
-        footnotes.append_to(&mut text)?;
-        Ok(text)
+        self.record_read(input, width)?.text()
     }
 
     /// The lines of HTML that is read, wrapped to `width` columns.
@@ -448,16 +389,96 @@ impl<D: Decorator> Config<D> {
     ///
     /// As [`Config::string_from_read`].
     pub fn lines_from_read<R: Read>(self, input: R, width: usize) -> Result<Vec<TaggedLine<Vec<D::Annotation>>>, Error> {
-        let (mut lines, footnotes) = self.with_page(input, width, |page, edits| Ok(edits.lines(records::lines(page, lines::read)?.ok_or(Error::Fail)?)))?;
-        if !self.is_padded() {
-            lines.iter_mut().for_each(|line| line.trim_end(|tag| !tag.iter().any(shows_spaces)));
-        }
-        footnotes.append_to_lines(&mut lines);
-        Ok(lines.into_iter().map(|line| line.map(annotated::<D>)).collect())
+        Ok(annotated_lines::<D>(self.record_read(input, width)?.lines()?))
+    }
+
+    /// Parses HTML that is read. [`Config::as_shown`] and [`Config::keep_controls`] say how; what other calls say is used later.
+    ///
+    /// # Errors
+    ///
+    /// `IoError` where the input can't be read; `TooLarge` or `OutOfMemory`.
+    ///
+    /// ```
+    /// use html_render::{config, Options};
+    ///
+    /// let config = config::plain().as_shown(Options::new().charset("latin1").unwrap());
+    /// let dom = config.parse_html(&b"<p>caf\xe9<hr>"[..]).unwrap();
+    /// let tree = config.dom_to_render_tree(&dom).unwrap();
+    /// assert_eq!(config.render_to_string(tree, 6).unwrap(), "caf\u{e9}\n\n──────\n");
+    /// ```
+    pub fn parse_html<R: Read>(&self, input: R) -> Result<RcDom, Error> {
+        let page = Parsed::read(input, &self.reading, Beside { css: true, title: false })?;
+        Ok(RcDom { page: Rc::new(page) })
+    }
+
+    /// Styles a page, by the rules of the configuration, and those of the page if [`Config::use_doc_css`] says so.
+    ///
+    /// # Errors
+    ///
+    /// None at present. A page that can't be rendered is refused when it is rendered.
+    ///
+    /// ```
+    /// use html_render::config::plain;
+    ///
+    /// let dom = plain().parse_html("<nav>Home</nav><p>Ferries".as_bytes()).unwrap();
+    /// let tree = plain().add_css("nav { display: none }").unwrap().dom_to_render_tree(&dom).unwrap();
+    /// assert_eq!(plain().render_to_string(tree, 80).unwrap(), "Ferries\n");
+    /// ```
+    pub fn dom_to_render_tree(&self, dom: &RcDom) -> Result<RenderTree, Error> {
+        Ok(RenderTree { page: Rc::clone(&dom.page), sheets: Rc::new(self.sheets_of(&dom.page)) })
+    }
+
+    /// The text of a page that is parsed, wrapped to `width` columns.
+    ///
+    /// # Errors
+    ///
+    /// `TooNarrow`, `Fail` or `OutOfMemory` where it can't be rendered.
+    ///
+    /// ```
+    /// let config = html_render::config::plain();
+    /// let tree = html_render::parse("<p>one two".as_bytes()).unwrap();
+    /// assert_eq!(config.render_to_string(tree.clone(), 80).unwrap(), "one two\n");
+    /// assert_eq!(config.render_to_string(tree, 5).unwrap(), "one\ntwo\n");
+    /// ```
+    pub fn render_to_string(&self, render_tree: RenderTree, width: usize) -> Result<String, Error> {
+        self.record_tree(&render_tree, width)?.text()
+    }
+
+    /// The lines of a page that is parsed, wrapped to `width` columns.
+    ///
+    /// # Errors
+    ///
+    /// As [`Config::render_to_string`].
+    ///
+    /// ```
+    /// let tree = html_render::parse("<p>one two".as_bytes()).unwrap();
+    /// let lines = html_render::config::rich().render_to_lines(tree, 5).unwrap();
+    /// assert_eq!(lines.len(), 2);
+    /// ```
+    pub fn render_to_lines(&self, render_tree: RenderTree, width: usize) -> Result<Vec<TaggedLine<Vec<D::Annotation>>>, Error> {
+        Ok(annotated_lines::<D>(self.record_tree(&render_tree, width)?.lines()?))
     }
 }
 
 impl Config<RichDecorator> {
+    /// The lines of HTML that is read, wrapped to `width` columns, with the page's title, language and links.
+    ///
+    /// # Errors
+    ///
+    /// As [`Config::string_from_read`].
+    ///
+    /// ```
+    /// let page = html_render::config::rich().page_from_read("<title>Ferries</title><p>one".as_bytes(), 80).unwrap();
+    /// assert_eq!((page.title.as_deref(), page.lines.len()), (Some("Ferries"), 1));
+    /// ```
+    pub fn page_from_read<R: Read>(self, input: R, width: usize) -> Result<RenderedPage, Error> {
+        let mut page = Parsed::read(input, &self.reading, Beside { css: self.uses_doc_css, title: true })?;
+        let recorded = self.record_parsed(&mut page, width)?;
+        let (title, language) = page.into_title_and_language();
+        let lines = recorded.lines()?;
+        Ok(RenderedPage { title, language, links: links_of(&lines), lines })
+    }
+
     /// The text of HTML that is read, wrapped to `width` columns: of each string of a line what a function makes of it and its
     /// annotations, for example with the colours of a terminal round it.
     ///
@@ -465,13 +486,38 @@ impl Config<RichDecorator> {
     ///
     /// As [`Config::string_from_read`].
     pub fn coloured<R: Read>(self, input: R, width: usize, colour_map: impl Fn(&[RichAnnotation], &str) -> String) -> Result<String, Error> {
-        let mut text = String::new();
-        for line in self.lines_from_read(input, width)? {
-            text.extend(line.tagged_strings().map(|string| colour_map(&string.tag, &string.s)));
-            text.push('\n');
-        }
-        Ok(text)
+        Ok(coloured(&self.lines_from_read(input, width)?, colour_map))
     }
+
+    /// The text of a page that is parsed, as [`Config::coloured`] gives it.
+    ///
+    /// # Errors
+    ///
+    /// As [`Config::render_to_string`].
+    ///
+    /// ```
+    /// use html_render::{config, parse, RichAnnotation};
+    ///
+    /// let capitals = |tag: &[RichAnnotation], text: &str| match tag {
+    ///     [RichAnnotation::Strong] => text.to_uppercase(),
+    ///     _ => text.to_owned(),
+    /// };
+    /// let tree = parse("<p>every <b>hour</b>".as_bytes()).unwrap();
+    /// assert_eq!(config::rich().render_coloured(tree, 80, capitals).unwrap(), "every HOUR\n");
+    /// ```
+    pub fn render_coloured(&self, render_tree: RenderTree, width: usize, colour_map: impl Fn(&[RichAnnotation], &str) -> String) -> Result<String, Error> {
+        Ok(coloured(&self.render_to_lines(render_tree, width)?, colour_map))
+    }
+}
+
+/// Returns a text of lines: what a function makes of each string.
+fn coloured(lines: &[TaggedLine<Vec<RichAnnotation>>], colour_map: impl Fn(&[RichAnnotation], &str) -> String) -> String {
+    let mut text = String::new();
+    for line in lines {
+        text.extend(line.tagged_strings().map(|string| colour_map(&string.tag, &string.s)));
+        text.push('\n');
+    }
+    text
 }
 
 /// Adds the rules by which terms have no signs, nor the elements of the class of those without, if there are any. Texts are kept by a
@@ -483,20 +529,13 @@ fn push_rules_without_signs(has_class: bool, settings: &mut Vec<Setting>, mut ke
     }
 }
 
-/// Reports whether spaces under an annotation can be seen.
-fn shows_spaces(annotation: &RichAnnotation) -> bool {
-    matches!(annotation, RichAnnotation::BgColour(_) | RichAnnotation::Link(_) | RichAnnotation::Strikeout)
-}
-
-/// Where a text begins behind others, and its length.
-fn keep(texts: &mut String, text: &str) -> (u32, u32) {
-    let start = texts.len() as u32;
-    texts.push_str(text);
-    (start, text.len() as u32)
+/// Returns lines under the annotations of a decorator.
+fn annotated_lines<D: TextDecorator>(lines: Vec<TaggedLine<Vec<RichAnnotation>>>) -> Vec<TaggedLine<Vec<D::Annotation>>> {
+    lines.into_iter().map(|line| line.map(annotated::<D>)).collect()
 }
 
 /// An element of a line under the annotations of a decorator.
-fn annotated<D: Decorator>(element: TaggedLineElement<Vec<RichAnnotation>>) -> TaggedLineElement<Vec<D::Annotation>> {
+fn annotated<D: TextDecorator>(element: TaggedLineElement<Vec<RichAnnotation>>) -> TaggedLineElement<Vec<D::Annotation>> {
     match element {
         TaggedLineElement::Str(string) => TaggedLineElement::Str(TaggedString {
             s: string.s,

@@ -3,6 +3,14 @@
 use std::{fmt, io};
 
 /// Why nothing is rendered.
+///
+/// Errors of the same cause are equal, but no two of `IoError`.
+///
+/// ```
+/// use html_render::{render, Error};
+///
+/// assert_eq!(render("<p>text", 0), Err(Error::TooNarrow));
+/// ```
 #[derive(Debug)]
 #[non_exhaustive]
 pub enum Error {
@@ -22,6 +30,12 @@ pub enum Error {
     NoAddress,
     /// The input can't be read.
     IoError(io::Error),
+}
+
+impl PartialEq for Error {
+    fn eq(&self, other: &Error) -> bool {
+        !matches!(self, Error::IoError(_)) && std::mem::discriminant(self) == std::mem::discriminant(other)
+    }
 }
 
 impl fmt::Display for Error {

@@ -1,7 +1,16 @@
 //! Lines of tagged strings, under html2text's names.
 
-/// A colour of red, green and blue parts.
-#[derive(Clone, Copy, Debug, PartialEq, Eq)]
+use std::fmt;
+use unicode_width::UnicodeWidthStr;
+
+/// A colour of red, green and blue parts. It is displayed as CSS writes it.
+///
+/// ```
+/// use html_render::Colour;
+///
+/// assert_eq!(Colour { r: 170, g: 0, b: 7 }.to_string(), "#aa0007");
+/// ```
+#[derive(Clone, Copy, Debug, PartialEq, Eq, Hash)]
 pub struct Colour {
     /// The red part.
     pub r: u8,
@@ -11,8 +20,14 @@ pub struct Colour {
     pub b: u8,
 }
 
+impl fmt::Display for Colour {
+    fn fmt(&self, f: &mut fmt::Formatter<'_>) -> fmt::Result {
+        write!(f, "#{:02x}{:02x}{:02x}", self.r, self.g, self.b)
+    }
+}
+
 /// What a character of rich text is.
-#[derive(Clone, Debug, Default, PartialEq, Eq)]
+#[derive(Clone, Debug, Default, PartialEq, Eq, Hash)]
 #[non_exhaustive]
 pub enum RichAnnotation {
     /// Nothing that has an annotation of its own.
@@ -39,7 +54,7 @@ pub enum RichAnnotation {
 }
 
 /// A text under one tag.
-#[derive(Clone, Debug, Default, PartialEq, Eq)]
+#[derive(Clone, Debug, Default, PartialEq, Eq, Hash)]
 pub struct TaggedString<T> {
     /// The text.
     pub s: String,
@@ -47,8 +62,20 @@ pub struct TaggedString<T> {
     pub tag: T,
 }
 
+impl<T> TaggedString<T> {
+    /// Returns its number of columns.
+    ///
+    /// ```
+    /// let lines = html_render::from_read_rich("a\u{4e16}".as_bytes(), 80).unwrap();
+    /// assert_eq!(lines[0].tagged_strings().next().map(|string| string.width()), Some(3));
+    /// ```
+    pub fn width(&self) -> usize {
+        self.s.width()
+    }
+}
+
 /// A part of a line.
-#[derive(Clone, Debug, PartialEq, Eq)]
+#[derive(Clone, Debug, PartialEq, Eq, Hash)]
 pub enum TaggedLineElement<T> {
     /// A text under one tag.
     Str(TaggedString<T>),
@@ -57,7 +84,7 @@ pub enum TaggedLineElement<T> {
 }
 
 /// A line: texts under tags, and the names of what begins between them.
-#[derive(Clone, Debug, Default, PartialEq, Eq)]
+#[derive(Clone, Debug, Default, PartialEq, Eq, Hash)]
 pub struct TaggedLine<T> {
     elements: Vec<TaggedLineElement<T>>,
 }
@@ -132,12 +159,66 @@ impl<T> TaggedLine<T> {
         self.elements.iter()
     }
 
+    /// Reports whether it has neither strings nor places where parts of the document begin.
+    ///
+    /// ```
+    /// let lines = html_render::from_read_rich("<p>a<p>b".as_bytes(), 80).unwrap();
+    /// assert_eq!(lines.iter().map(|line| line.is_empty()).collect::<Vec<_>>(), [false, true, false]);
+    /// ```
+    pub fn is_empty(&self) -> bool {
+        self.elements.is_empty()
+    }
+
+    /// Returns its number of columns.
+    ///
+    /// ```
+    /// let lines = html_render::from_read_rich("<p id=top>a <em>\u{4e16}</em>".as_bytes(), 80).unwrap();
+    /// assert_eq!(lines[0].width(), 4);
+    /// ```
+    pub fn width(&self) -> usize {
+        self.tagged_strings().map(TaggedString::width).sum()
+    }
+
+    /// Returns its strings, in order, without the places where parts of the document begin.
+    ///
+    /// ```
+    /// let lines = html_render::from_read_rich("<p id=top>a <em>b</em>".as_bytes(), 80).unwrap();
+    /// let texts: Vec<String> = lines.into_iter().flat_map(|line| line.into_tagged_strings()).map(|string| string.s).collect();
+    /// assert_eq!(texts, ["a ", "b"]);
+    /// ```
+    pub fn into_tagged_strings(self) -> impl Iterator<Item = TaggedString<T>> {
+        self.elements.into_iter().filter_map(|element| match element {
+            TaggedLineElement::Str(string) => Some(string),
+            TaggedLineElement::FragmentStart(_) => None,
+        })
+    }
+
     /// Its strings, in order.
     pub fn tagged_strings(&self) -> impl Iterator<Item = &TaggedString<T>> + '_ {
         self.elements.iter().filter_map(|element| match element {
             TaggedLineElement::Str(string) => Some(string),
             TaggedLineElement::FragmentStart(_) => None,
         })
+    }
+}
+
+impl<T> IntoIterator for TaggedLine<T> {
+    type Item = TaggedLineElement<T>;
+    type IntoIter = std::vec::IntoIter<TaggedLineElement<T>>;
+
+    /// Returns its elements, in order.
+    fn into_iter(self) -> Self::IntoIter {
+        self.elements.into_iter()
+    }
+}
+
+impl<'a, T> IntoIterator for &'a TaggedLine<T> {
+    type Item = &'a TaggedLineElement<T>;
+    type IntoIter = std::slice::Iter<'a, TaggedLineElement<T>>;
+
+    /// Returns its elements, in order.
+    fn into_iter(self) -> Self::IntoIter {
+        self.elements.iter()
     }
 }
 

@@ -29,9 +29,12 @@ const MAX_LENGTH: usize = 8;
 /// Bit of the keys of longer names, which others may have too. No byte of a name has its highest bit.
 const IS_LONGER: u64 = 1 << 63;
 
-/// Reports whether html5ever's tree builder asks for attributes of a name.
+/// Reports whether html5ever's tree builder asks for attributes of a name, or its sink, which notes the page's language.
 pub(crate) fn is_asked_by_builder(name: &LocalName) -> bool {
-    matches!(*name, local_name!("color") | local_name!("encoding") | local_name!("face") | local_name!("form") | local_name!("size") | local_name!("type"))
+    matches!(
+        *name,
+        local_name!("color") | local_name!("encoding") | local_name!("face") | local_name!("form") | local_name!("lang") | local_name!("size") | local_name!("type")
+    )
 }
 
 /// Reports whether html5ever's tree builder keeps an element of this name in its list of formatting elements.

@@ -1,9 +1,10 @@
 //! A recorded document as HTML, for tests: what is recorded is seen without rendering it.
 
 use crate::adapt::UNSIGNED_CLASS;
-use crate::config::{Config, Decorator};
+use crate::config::Config;
 use crate::record::kind;
 use crate::records::Step;
+use crate::render::TextDecorator;
 
 /// A node of a recorded document.
 #[derive(Default)]
@@ -20,7 +21,7 @@ enum Child {
 
 /// Returns the contents of a page's `body` as they are recorded. An element without signs begins with `!`, and a link's target
 /// follows its name.
-pub(crate) fn of<D: Decorator>(config: &Config<D>, page: &str) -> String {
+pub(crate) fn of<D: TextDecorator>(config: &Config<D>, page: &str) -> String {
     let (steps, text, _) = config.recorded(page);
     let nodes = nodes_of(&steps, &text);
     let body = nodes.iter().position(|node| node.name == "body").expect("a body");

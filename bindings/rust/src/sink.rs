@@ -22,12 +22,21 @@ pub(crate) struct Sink {
     pub css: String,
     /// Whether the page is in quirks mode.
     pub is_quirky: bool,
+    /// The attribute `lang` of the page's root.
+    pub language: Option<StrTendril>,
     wanted: Wanted,
 }
 
 impl Sink {
     pub fn new(tree: Tree, wanted: Wanted) -> Sink {
-        Sink { tree, css: String::new(), is_quirky: false, wanted }
+        Sink { tree, css: String::new(), is_quirky: false, language: None, wanted }
+    }
+
+    /// Notes the language that an attribute of the page's root says, unless an earlier one does.
+    fn note_language(&mut self, attribute: &Attribute) {
+        if attribute.name.local == local_name!("lang") && self.language.is_none() {
+            self.language = Some(attribute.value.clone());
+        }
     }
 
     /// Inserts a node, which leaves its place, or a text before a node that has a parent.
@@ -65,6 +74,9 @@ impl TreeSink for Sink {
 
     fn create_element(&mut self, name: QualName, attributes: Vec<Attribute>, flags: ElementFlags) -> Id {
         let is_table = name.local == local_name!("table");
+        if name.local == local_name!("html") && name.ns == ns!(html) {
+            attributes.iter().for_each(|attribute| self.note_language(attribute));
+        }
         let node = self.tree.add_element(name, attributes, self.wanted.is_asked);
         if is_table {
             self.tree.tables.push(node);
@@ -135,7 +147,12 @@ impl TreeSink for Sink {
     }
 
     fn add_attrs_if_missing(&mut self, target: &Id, attributes: Vec<Attribute>) {
-        for Attribute { name, value } in attributes {
+        let is_root = matches!(self.tree.element(*target), Some(Element { name: local_name!("html"), space: ns!(html), .. }));
+        for attribute in attributes {
+            if is_root {
+                self.note_language(&attribute);
+            }
+            let Attribute { name, value } = attribute;
             if (self.wanted.is_asked)(&name.local) {
                 self.tree.add_attribute_if_missing(*target, Attr { name: name.local, value });
             }

@@ -48,11 +48,11 @@ fn style_sheets() {
 
 #[test]
 fn settings() {
-    let text = |html: &str, config: html_render::config::Config<html_render::config::PlainDecorator>, width| config.string_from_read(html.as_bytes(), width).unwrap();
+    let text = |html: &str, config: html_render::config::Config<html_render::render::PlainDecorator>, width| config.string_from_read(html.as_bytes(), width).unwrap();
     let image = "<img src='a/b.png' alt=''>";
     assert_eq!(text(image, plain(), 80), "");
     assert_eq!(text(image, plain().empty_img_mode(ImageRenderMode::Filename), 80), "[b.png]\n");
-    assert_eq!(text(image, plain().empty_img_mode(ImageRenderMode::Replace("none".to_owned())), 80), "[none]\n");
+    assert_eq!(text(image, plain().empty_img_mode(ImageRenderMode::Replace("none")), 80), "[none]\n");
     assert_eq!(text(image, plain().empty_img_mode(ImageRenderMode::ShowAlways), 80), "[]\n");
     assert_eq!(text("<p>one two", plain().max_wrap_width(3), 80), "one\ntwo\n");
     assert_eq!(text("<p>one", plain().pad_block_width(), 6), "one   \n");

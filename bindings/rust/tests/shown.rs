@@ -1,6 +1,7 @@
 //! What a browser shows of a page: the cases of `shown/cases.txt`, and what they can't say.
 
-use html_render::config::{plain, plain_no_decorate, rich, Config, ImageRenderMode, PlainDecorator, RichDecorator};
+use html_render::config::{plain, plain_no_decorate, rich, Config, ImageRenderMode};
+use html_render::render::{PlainDecorator, RichDecorator};
 use html_render::{from_read, render, Colour, Options, RichAnnotation, Tables};
 use std::collections::BTreeSet;
 

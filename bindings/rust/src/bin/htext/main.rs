@@ -3,7 +3,8 @@
 mod terminal;
 mod words;
 
-use html_render::config::{plain, plain_no_decorate, rich, Config, Decorator, ImageRenderMode};
+use html_render::config::{plain, plain_no_decorate, rich, Config, ImageRenderMode};
+use html_render::render::TextDecorator;
 use html_render::Error;
 use std::ffi::{OsStr, OsString};
 use std::fs::File;
@@ -99,7 +100,7 @@ impl From<Usage> for Fault {
     }
 }
 
-fn changed<D: Decorator>(config: Config<D>, choices: &Choices) -> Result<Config<D>, Error> {
+fn changed<D: TextDecorator>(config: Config<D>, choices: &Choices) -> Result<Config<D>, Error> {
     let mut config = config.as_shown(choices.options.clone()).add_css(&choices.css)?;
     for change in &choices.changes {
         config = match *change {
