@@ -187,6 +187,125 @@ fn several_files() {
     assert!(message.starts_with(&format!("htext: {}: ", missing.display())), "{message}");
 }
 
+/// Runs htext in a folder, with a list on standard input.
+fn in_folder(folder: &Path, words: &[&str], list: &str) -> (i32, String) {
+    let mut child = Command::new(env!("CARGO_BIN_EXE_htext")).args(words).current_dir(folder).stdin(Stdio::piped()).stdout(Stdio::piped()).stderr(Stdio::piped()).spawn().unwrap();
+    let _ = child.stdin.take().unwrap().write_all(list.as_bytes());
+    let output = child.wait_with_output().unwrap();
+    assert!(output.stdout.is_empty(), "{output:?}");
+    (output.status.code().unwrap(), String::from_utf8(output.stderr).unwrap())
+}
+
+/// Returns the files below a folder, in order, with their contents.
+fn files_below(folder: &Path) -> Vec<(String, Vec<u8>)> {
+    let mut found = Vec::new();
+    let mut ahead = vec![folder.to_owned()];
+    while let Some(path) = ahead.pop() {
+        if path.is_dir() {
+            ahead.extend(fs::read_dir(&path).unwrap().map(|entry| entry.unwrap().path()));
+        } else {
+            let name = path.strip_prefix(folder).unwrap().to_str().unwrap().to_owned();
+            found.push((name, fs::read(&path).unwrap()));
+        }
+    }
+    found.sort();
+    found
+}
+
+/// Makes a folder of its own for a test, with pages.
+fn folder_of_pages(name: &str, pages: &[(&str, &str)]) -> PathBuf {
+    let folder = folder(name);
+    fs::remove_dir_all(&folder).unwrap();
+    for (page, html) in pages {
+        let path = folder.join(page);
+        fs::create_dir_all(path.parent().unwrap()).unwrap();
+        fs::write(path, html).unwrap();
+    }
+    folder
+}
+
+#[test]
+fn many_pages() {
+    let folder = folder_of_pages("many", &[("a.html", "<p>a<hr>"), ("b/c.HTM", "<p>c"), ("b/d", "<p>d")]);
+    let written = |name: &str| files_below(&folder.join(name)).into_iter().map(|(name, text)| (name, String::from_utf8(text).unwrap())).collect::<Vec<_>>();
+    let texts = [("a.txt", format!("a\n\n{}\n", "─".repeat(80))), ("b/c.txt", "c\n".to_owned()), ("b/d.txt", "d\n".to_owned())].map(|(name, text)| (name.to_owned(), text));
+    assert_eq!(in_folder(&folder, &["--output-dir", "named", "a.html", "./b/c.HTM", "b/../b/d"], ""), (0, String::new()));
+    assert_eq!(written("named"), texts);
+    assert_eq!(in_folder(&folder, &["--jobs=3", "--output-dir=lines/of/x"], "a.html\nb/c.HTM\n\nb/d"), (0, String::new()));
+    assert_eq!(written("lines/of/x"), texts);
+    assert_eq!(in_folder(&folder, &["-0", "-j2", "--output-dir=zeros", "-w9"], "a.html\0b/d\0"), (0, String::new()));
+    assert_eq!(written("zeros"), [("a.txt".to_owned(), format!("a\n\n{}\n", "─".repeat(9))), ("b/d.txt".to_owned(), "d\n".to_owned())]);
+    assert_eq!(in_folder(&folder, &["--output-dir=none"], ""), (0, String::new()));
+    assert!(!folder.join("none").exists());
+}
+
+#[test]
+fn faults_among_many_pages() {
+    let folder = folder_of_pages("faults", &[("a.html", "<p>a"), ("wide.html", "\u{754c}"), ("z.html", "<p>z"), ("texts/a.txt", "old"), ("texts/file", "")]);
+    let words = |jobs| ["-w1", "--narrow", jobs, "--output-dir=texts", "a.html", "missing.html", "wide.html", "file/b.html", "z.html"];
+    fs::create_dir(folder.join("file")).unwrap();
+    fs::write(folder.join("file/b.html"), "<p>b").unwrap();
+    let expected = (
+        3,
+        "htext: missing.html: No such file or directory (os error 2)\n\
+         htext: wide.html: Output width not wide enough.\n\
+         htext: texts/file/b.txt: File exists (os error 17)\n\
+         htext: 3 of 5 pages have no text\n"
+            .to_owned(),
+    );
+    for jobs in ["-j1", "-j2", "-j9"] {
+        assert_eq!(in_folder(&folder, &words(jobs), ""), expected, "{jobs}");
+        let names: Vec<String> = files_below(&folder.join("texts")).into_iter().map(|(name, _)| name).collect();
+        assert_eq!(names, ["a.txt", "file", "z.txt"]);
+        assert_eq!(fs::read_to_string(folder.join("texts/a.txt")).unwrap(), "a\n");
+    }
+}
+
+#[test]
+fn any_number_of_jobs_writes_the_same() {
+    let pages: Vec<(String, String)> = (0..200).map(|number| (format!("{}/{number}.html", number % 7), format!("<h1>{number}</h1>{}", "<p>a b c".repeat(number * 7 % 300)))).collect();
+    let folder = folder_of_pages("jobs", &pages.iter().map(|(name, html)| (name.as_str(), html.as_str())).collect::<Vec<_>>());
+    let list: String = pages.iter().map(|(name, _)| name.to_owned() + "\n").collect();
+    let written = [1, 2, 7].map(|jobs| {
+        let texts = format!("../jobs-{jobs}");
+        assert_eq!(in_folder(&folder, &["--output-dir", &texts, "--jobs", &jobs.to_string()], &list), (0, String::new()));
+        files_below(&folder.join(texts))
+    });
+    assert_eq!(written[0].len(), 200);
+    assert!(written.iter().all(|texts| *texts == written[0]));
+}
+
+#[test]
+fn wrong_usage_of_many_pages() {
+    let folder = folder_of_pages("usage", &[("a.html", "<p>a"), ("a.htm", "<p>b")]);
+    for (words, list, message) in [
+        (["--output-dir=x", "a.html", "a.htm"].as_slice(), "", "a.html and a.htm have one text, x/a.txt"),
+        (&["--output-dir=x"], "a.html\na.html\n", "a.html and a.html have one text, x/a.txt"),
+        (&["--output-dir=.", "a.html", "./a.txt"], "", "./a.txt is a page and a text"),
+        (&["--output-dir=x", "-"], "", "- has no name for its text"),
+        (&["--output-dir=x", "-o", "y", "a.html"], "", "--output and --output-dir can't be used together"),
+        (&["--output-dir=x", "--null", "a.html"], "", "--null is for a list of files on standard input"),
+        (&["--jobs=2", "a.html"], "", "--jobs needs --output-dir"),
+        (&["-0", "a.html"], "", "--null needs --output-dir"),
+        (&["--jobs=0", "--output-dir=x", "a.html"], "", "--jobs takes a number from 1 on, and not \"0\""),
+    ] {
+        assert_eq!(in_folder(&folder, words, list), (2, format!("htext: {message}; htext --help tells how\n")));
+    }
+    assert_eq!(files_below(&folder).len(), 2);
+}
+
+#[test]
+fn progress_on_a_terminal() {
+    // `script` gives the program a terminal
+    let folder = folder_of_pages("progress", &[("a.html", &"<p>a b c".repeat(20_000)), ("b.html", &"<p>a b c".repeat(20_000))]);
+    let command = format!("{} --jobs 1 --output-dir texts a.html b.html missing", env!("CARGO_BIN_EXE_htext"));
+    let output = Command::new("script").args(["-qec", &command, "/dev/null"]).current_dir(&folder).stdin(Stdio::null()).output().unwrap();
+    let shown = String::from_utf8(output.stdout).unwrap();
+    assert!(shown.contains("\r1 of 3 pages"), "{shown:?}");
+    assert!(shown.ends_with("\r\u{1b}[Khtext: missing: No such file or directory (os error 2)\r\n\r\u{1b}[Khtext: 1 of 3 pages have no text\r\n"), "{shown:?}");
+    assert_eq!(output.status.code(), Some(3));
+}
+
 #[test]
 fn output_to_a_file() {
     let file = folder("output").join("text");

@@ -1,5 +1,7 @@
 //! Prints HTML as wrapped text: `htext --help` tells how.
 
+mod many;
+mod outputs;
 mod terminal;
 mod words;
 
@@ -11,7 +13,7 @@ use std::fs::File;
 use std::io::{self, Read, Write};
 use std::path::Path;
 use std::process::ExitCode;
-use words::{Change, Choices, Colours, Images, Style, Task, Usage};
+use words::{Change, Choices, Colours, Images, Many, Style, Task, Usage};
 
 const HELP: &str = "\
 Usage: htext [OPTION]... [FILE]...
@@ -26,6 +28,14 @@ none, as text wrapped to a width.
       --color WHEN    colours and links of style rich: always, never, or auto:
                       on a terminal, unless NO_COLOR is set (default)
   -o, --output FILE   write the text to FILE
+      --output-dir DIR
+                      write the text of each FILE to a file of its own: that of
+                      a/b.html to DIR/a/b.txt, in 80 columns or those of --width.
+                      Where no FILE is named, standard input lists them, one on a
+                      line
+  -j, --jobs N        render N pages at once into DIR; else as many as there are
+                      processors
+  -0, --null          each path of the list ends with a zero byte
       --title         show the title of the page above its text
       --charset NAME  the encoding of the page, as HTTP or a mail names it; else
                       what the page declares, or UTF-8, or windows-1252
@@ -58,7 +68,8 @@ none, as text wrapped to a width.
   -h, --help          print this
   -V, --version       print the version
 
-Exit status: 0 done, 1 not rendered, 2 wrong usage, 3 not read or not written.
+Exit status: 0 done, 1 not rendered, 2 wrong usage, 3 not read or not written;
+of several files that of the first which isn't done.
 ";
 
 /// Why a text isn't printed.
@@ -139,8 +150,7 @@ fn is_coloured(choices: &Choices) -> bool {
     }
 }
 
-fn text_of(file: &OsStr, choices: &Choices) -> Result<String, Error> {
-    let width = choices.width.unwrap_or_else(terminal::columns);
+fn text_of(file: &OsStr, choices: &Choices, width: usize) -> Result<String, Error> {
     let input = input(file)?;
     match choices.style {
         Style::Rich if is_coloured(choices) => changed(rich(), choices)?.coloured(input, width, terminal::shown),
@@ -175,10 +185,11 @@ impl Output<'_> {
 /// Prints the files that the choices name. A file that isn't rendered is told of, and doesn't keep the others from being printed.
 /// Returns the status of the first such file, or 0.
 fn print(choices: &Choices) -> Result<u8, Fault> {
+    let width = choices.width.unwrap_or_else(terminal::columns);
     let mut output = Output { file: choices.output.as_ref(), to: None };
     let mut status = 0;
     for file in &choices.files {
-        match text_of(file, choices) {
+        match text_of(file, choices, width) {
             Ok(text) => output.write(&text)?,
             Err(error) => {
                 let fault = Fault::Render(file.clone(), error);
@@ -188,6 +199,25 @@ fn print(choices: &Choices) -> Result<u8, Fault> {
         }
     }
     Ok(status)
+}
+
+/// Columns of the text of one of many pages, if the words say nothing of them.
+const COLUMNS: usize = 80;
+
+/// Writes the text of each file to a file of its own. A file that isn't rendered is told of, and doesn't keep the others from being
+/// written. Returns the status of the first such file, or 0.
+fn write_many(mut choices: Choices, asked: &Many) -> Result<u8, Fault> {
+    if let Some(end) = asked.list_end {
+        choices.files = many::listed(io::stdin().lock(), end).map_err(|error| Fault::Render("-".into(), error.into()))?;
+    }
+    if choices.colours == Colours::Auto {
+        choices.colours = Colours::Never;
+    }
+    let pages = many::Pages { files: &choices.files, folder: &asked.folder, ending: ".txt" };
+    outputs::check(pages.folder, pages.files, pages.ending).map_err(Fault::Usage)?;
+    let width = choices.width.unwrap_or(COLUMNS);
+    let jobs = asked.jobs.unwrap_or_else(many::processors);
+    Ok(pages.render(jobs, |file| text_of(file, &choices, width)))
 }
 
 fn tell(text: &str) -> Result<u8, Fault> {
@@ -200,10 +230,19 @@ fn run() -> Result<u8, Fault> {
         Task::Help => tell(HELP),
         Task::Version => tell(&format!("htext {}\n", env!("CARGO_PKG_VERSION"))),
         Task::Print(choices) => {
-            plain().add_css(&choices.css).map_err(|_| Fault::Usage("a rule of --css has no block".to_owned()))?;
+            check_css(&choices)?;
             print(&choices)
         }
+        Task::Write(choices, asked) => {
+            check_css(&choices)?;
+            write_many(choices, &asked)
+        }
     }
+}
+
+/// Checks that each rule of the words has a block.
+fn check_css(choices: &Choices) -> Result<(), Fault> {
+    plain().add_css(&choices.css).map(|_| ()).map_err(|_| Fault::Usage("a rule of --css has no block".to_owned()))
 }
 
 fn main() -> ExitCode {

@@ -7,6 +7,11 @@ pub fn is_output() -> bool {
     rustix::termios::isatty(std::io::stdout())
 }
 
+/// Reports whether standard error is a terminal.
+pub fn is_error_output() -> bool {
+    rustix::termios::isatty(std::io::stderr())
+}
+
 /// Reports whether `NO_COLOR` is unset or empty.
 pub fn takes_colours() -> bool {
     std::env::var_os("NO_COLOR").map_or(true, |value| value.is_empty())

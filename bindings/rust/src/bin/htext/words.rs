@@ -4,6 +4,7 @@ use html_render::{LinkMode, Options, Tables};
 use std::ffi::{OsStr, OsString};
 use std::mem;
 use std::os::unix::ffi::{OsStrExt, OsStringExt};
+use std::path::PathBuf;
 
 /// What is wrong with the words.
 #[derive(Debug)]
@@ -56,13 +57,30 @@ pub struct Choices {
     pub cuts_words: bool,
     pub options: Options,
     pub output: Option<OsString>,
+    /// The folder of the texts of many pages.
+    pub folder: Option<OsString>,
+    /// Number of pages that are rendered at once.
+    pub jobs: Option<usize>,
+    /// Whether paths in a list end with a zero byte.
+    pub is_null_listed: bool,
     /// The files to print; `-` is standard input.
     pub files: Vec<OsString>,
+}
+
+/// How many pages are rendered to files.
+pub struct Many {
+    /// The folder of the texts.
+    pub folder: PathBuf,
+    /// Number of pages that are rendered at once; `None` for the number of processors.
+    pub jobs: Option<usize>,
+    /// The byte that ends a path in the list on standard input; `None` if the files are named.
+    pub list_end: Option<u8>,
 }
 
 /// What the program does.
 pub enum Task {
     Print(Choices),
+    Write(Choices, Many),
     Help,
     Version,
 }
@@ -109,6 +127,12 @@ impl Word {
         text.parse().map_err(|_| self.fault(&format!("takes a number of columns, and not {text:?}")))
     }
 
+    /// Returns a number of threads.
+    fn jobs(&mut self, words: &mut impl Iterator<Item = OsString>) -> Result<usize, Usage> {
+        let text = self.text(words)?;
+        text.parse().ok().filter(|&jobs| jobs > 0).ok_or_else(|| self.fault(&format!("takes a number from 1 on, and not {text:?}")))
+    }
+
     /// Refuses a value.
     fn alone(&self) -> Result<(), Usage> {
         match self.value {
@@ -130,6 +154,9 @@ pub fn read(mut words: impl Iterator<Item = OsString>) -> Result<Task, Usage> {
         cuts_words: false,
         options: Options::new(),
         output: None,
+        folder: None,
+        jobs: None,
+        is_null_listed: false,
         files: Vec::new(),
     };
     while let Some(word) = words.next() {
@@ -141,13 +168,39 @@ pub fn read(mut words: impl Iterator<Item = OsString>) -> Result<Task, Usage> {
             return Ok(task);
         }
     }
-    if choices.files.is_empty() {
-        choices.files.push("-".into());
-    }
-    Ok(Task::Print(choices))
+    choices.into_task()
 }
 
 impl Choices {
+    /// Returns what the program does, if all words are read.
+    fn into_task(mut self) -> Result<Task, Usage> {
+        let folder = match self.folder.take() {
+            Some(folder) => PathBuf::from(folder),
+            None => return self.into_print(),
+        };
+        let is_listed = self.files.is_empty();
+        if self.output.is_some() {
+            return Err(Usage("--output and --output-dir can't be used together".to_owned()));
+        }
+        if self.is_null_listed && !is_listed {
+            return Err(Usage("--null is for a list of files on standard input".to_owned()));
+        }
+        let end = if self.is_null_listed { 0 } else { b'\n' };
+        let many = Many { folder, jobs: self.jobs, list_end: is_listed.then(|| end) };
+        Ok(Task::Write(self, many))
+    }
+
+    /// Returns that files are printed.
+    fn into_print(mut self) -> Result<Task, Usage> {
+        if self.jobs.is_some() || self.is_null_listed {
+            return Err(Usage(format!("{} needs --output-dir", if self.jobs.is_some() { "--jobs" } else { "--null" })));
+        }
+        if self.files.is_empty() {
+            self.files.push("-".into());
+        }
+        Ok(Task::Print(self))
+    }
+
     /// Takes an option. Returns what the program does in the place of printing, if the option says so.
     fn take(&mut self, mut word: Word, words: &mut impl Iterator<Item = OsString>) -> Result<Option<Task>, Usage> {
         let option = word.option.clone();
@@ -162,6 +215,8 @@ impl Choices {
                 }
             }
             "-o" | "--output" => self.output = Some(word.value(words)?),
+            "--output-dir" => self.folder = Some(word.value(words)?),
+            "-j" | "--jobs" => self.jobs = Some(word.jobs(words)?),
             "--charset" => {
                 let label = word.text(words)?;
                 self.options = mem::take(&mut self.options).charset(&label).map_err(|_| Usage(format!("no such charset: {label}")))?;
@@ -223,6 +278,10 @@ impl Choices {
             }
             "--cut-words" => {
                 self.cuts_words = true;
+                return word.alone().map(|()| None);
+            }
+            "-0" | "--null" => {
+                self.is_null_listed = true;
                 return word.alone().map(|()| None);
             }
             "--raw-tables" => Change::RawTables,
