@@ -39,6 +39,8 @@ mod record;
 mod recorded;
 mod records;
 pub mod render;
+#[cfg(feature = "serde")]
+mod serialized;
 mod sheets;
 mod sink;
 mod tree;

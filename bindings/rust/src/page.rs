@@ -3,7 +3,8 @@
 use crate::lines::{RichAnnotation, TaggedLine};
 use std::collections::HashSet;
 
-/// A page as lines of annotated strings: [`render_lines`] and [`Config::page_from_read`] return it.
+/// A page as lines of annotated strings: [`render_lines`] and [`Config::page_from_read`] return it. With the feature `serde` it can be
+/// serialized; `docs/HTML.md` has the schema.
 ///
 /// [`render_lines`]: crate::render_lines
 /// [`Config::page_from_read`]: crate::config::Config::page_from_read

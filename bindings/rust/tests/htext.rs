@@ -307,6 +307,36 @@ fn progress_on_a_terminal() {
 }
 
 #[test]
+fn lines_of_json() {
+    let page = "<html lang=' en '><title> a  title </title><p id=top>a <b>b</b> <a href=x><s>c</s></a> <a href=y>d</a> <a href=x>e</a><p>\
+                <code>f</code> <sup>th</sup> <img src=g alt=h> <em style='color: #aa0000; background: #000'>i</em><pre>j</pre>";
+    let lines = [
+        r#"[{"fragment":"top"},{"text":"a ","annotations":[]},{"text":"b","annotations":[{"kind":"strong"}]},{"text":" ","annotations":[]},"#,
+        "{\"text\":\"c\u{336}\",\"annotations\":[{\"kind\":\"link\",\"target\":\"x\"},{\"kind\":\"strikeout\"}]},{\"text\":\" \",\"annotations\":[]},",
+        r#"{"text":"d","annotations":[{"kind":"link","target":"y"}]},{"text":" ","annotations":[]},"#,
+        r#"{"text":"e","annotations":[{"kind":"link","target":"x"}]}]"#,
+    ];
+    let shown = text(&["--format", "json"], page);
+    assert!(shown.starts_with(r#"{"title":"a title","language":"en","links":["x","y"],"lines":["#), "{shown}");
+    assert!(shown.contains(&lines.concat()), "{shown}");
+    for annotation in [
+        r#"{"kind":"code"}"#,
+        r#"{"kind":"default"}"#,
+        r#"{"kind":"image","source":"g"}"#,
+        r##"[{"kind":"colour","colour":"#aa0000"},{"kind":"background","colour":"#000000"},{"kind":"emphasis"}]"##,
+        r#"{"kind":"preformatted","continued":false}"#,
+    ] {
+        assert!(shown.contains(annotation), "{annotation} {shown}");
+    }
+    assert!(shown.ends_with("}]]}\n") && shown.lines().count() == 1, "{shown}");
+    assert_eq!(text(&["--format=json"], ""), "{\"title\":null,\"language\":null,\"links\":[],\"lines\":[]}\n");
+    assert_eq!(text(&["--format=text"], page), text(&[], page));
+    for words in [["--format=xml"].as_slice(), &["--format=json", "-srich"], &["--format=json", "--style=plain"]] {
+        assert_eq!(fault(words, "").0, 2);
+    }
+}
+
+#[test]
 fn output_to_a_file() {
     let file = folder("output").join("text");
     let _ = fs::remove_file(&file);

@@ -13,7 +13,7 @@ use std::fs::File;
 use std::io::{self, Read, Write};
 use std::path::Path;
 use std::process::ExitCode;
-use words::{Change, Choices, Colours, Images, Many, Style, Task, Usage};
+use words::{Change, Choices, Colours, Format, Images, Many, Style, Task, Usage};
 
 const HELP: &str = "\
 Usage: htext [OPTION]... [FILE]...
@@ -25,6 +25,8 @@ none, as text wrapped to a width.
   -s, --style STYLE   plain: signs round emphasis, footnotes for links (default)
                       rich: colours and links, where the output is a terminal
                       bare: neither
+      --format FORMAT text (default), or json: a line for each FILE with its title,
+                      language, links and lines, which are annotated
       --color WHEN    colours and links of style rich: always, never, or auto:
                       on a terminal, unless NO_COLOR is set (default)
   -o, --output FILE   write the text to FILE
@@ -152,11 +154,30 @@ fn is_coloured(choices: &Choices) -> bool {
 
 fn text_of(file: &OsStr, choices: &Choices, width: usize) -> Result<String, Error> {
     let input = input(file)?;
-    match choices.style {
+    if choices.format == Format::Json {
+        return json_of(input, choices, width);
+    }
+    match choices.style.unwrap_or(Style::Plain) {
         Style::Rich if is_coloured(choices) => changed(rich(), choices)?.coloured(input, width, terminal::shown),
         Style::Rich => changed(rich(), choices)?.string_from_read(input, width),
         Style::Plain => changed(plain(), choices)?.string_from_read(input, width),
         Style::Bare => changed(plain_no_decorate(), choices)?.string_from_read(input, width),
+    }
+}
+
+/// Returns a page as a line of JSON.
+fn json_of(input: impl Read, choices: &Choices, width: usize) -> Result<String, Error> {
+    let page = changed(rich(), choices)?.page_from_read(input, width)?;
+    let mut line = serde_json::to_string(&page).map_err(io::Error::from)?;
+    line.push('\n');
+    Ok(line)
+}
+
+/// Returns the ending of the name of a file that has what is written of a page.
+fn ending(format: Format) -> &'static str {
+    match format {
+        Format::Text => ".txt",
+        Format::Json => ".json",
     }
 }
 
@@ -213,7 +234,7 @@ fn write_many(mut choices: Choices, asked: &Many) -> Result<u8, Fault> {
     if choices.colours == Colours::Auto {
         choices.colours = Colours::Never;
     }
-    let pages = many::Pages { files: &choices.files, folder: &asked.folder, ending: ".txt" };
+    let pages = many::Pages { files: &choices.files, folder: &asked.folder, ending: ending(choices.format) };
     outputs::check(pages.folder, pages.files, pages.ending).map_err(Fault::Usage)?;
     let width = choices.width.unwrap_or(COLUMNS);
     let jobs = asked.jobs.unwrap_or_else(many::processors);

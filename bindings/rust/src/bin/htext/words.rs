@@ -17,6 +17,14 @@ pub enum Style {
     Bare,
 }
 
+/// What is written of a page.
+#[derive(Clone, Copy, PartialEq, Eq)]
+pub enum Format {
+    Text,
+    /// A line of JSON.
+    Json,
+}
+
 #[derive(Clone, Copy)]
 pub enum Change {
     RawTables,
@@ -48,7 +56,9 @@ pub enum Colours {
 /// What the words ask for.
 pub struct Choices {
     pub width: Option<usize>,
-    pub style: Style,
+    pub format: Format,
+    /// The style of a text; `None` for plain text.
+    pub style: Option<Style>,
     pub colours: Colours,
     pub changes: Vec<Change>,
     pub css: String,
@@ -146,7 +156,8 @@ impl Word {
 pub fn read(mut words: impl Iterator<Item = OsString>) -> Result<Task, Usage> {
     let mut choices = Choices {
         width: None,
-        style: Style::Plain,
+        format: Format::Text,
+        style: None,
         colours: Colours::Auto,
         changes: Vec::new(),
         css: String::new(),
@@ -174,6 +185,9 @@ pub fn read(mut words: impl Iterator<Item = OsString>) -> Result<Task, Usage> {
 impl Choices {
     /// Returns what the program does, if all words are read.
     fn into_task(mut self) -> Result<Task, Usage> {
+        if self.format == Format::Json && self.style.is_some() {
+            return Err(Usage("--style is for --format text".to_owned()));
+        }
         let folder = match self.folder.take() {
             Some(folder) => PathBuf::from(folder),
             None => return self.into_print(),
@@ -208,10 +222,17 @@ impl Choices {
             "-w" | "--width" => self.width = Some(word.number(words)?),
             "-s" | "--style" => {
                 self.style = match word.text(words)?.as_str() {
-                    "plain" => Style::Plain,
-                    "rich" => Style::Rich,
-                    "bare" => Style::Bare,
+                    "plain" => Some(Style::Plain),
+                    "rich" => Some(Style::Rich),
+                    "bare" => Some(Style::Bare),
                     other => return Err(Usage(format!("no such style: {other}"))),
+                }
+            }
+            "--format" => {
+                self.format = match word.text(words)?.as_str() {
+                    "text" => Format::Text,
+                    "json" => Format::Json,
+                    other => return Err(Usage(format!("no such format: {other}"))),
                 }
             }
             "-o" | "--output" => self.output = Some(word.value(words)?),
