@@ -1,8 +1,12 @@
 # Completions of htext for fish.
 complete -c htext -s w -l width -x -d 'columns of a line'
 complete -c htext -s s -l style -x -a 'plain rich bare' -d 'signs, colours or neither'
+complete -c htext -l format -x -a 'text json' -d 'text or JSON'
 complete -c htext -l color -x -a 'always never auto' -d 'colours and links of style rich'
 complete -c htext -s o -l output -r -F -d 'file of the text'
+complete -c htext -l output-dir -x -a '(__fish_complete_directories)' -d 'folder of the texts'
+complete -c htext -s j -l jobs -x -d 'pages rendered at once'
+complete -c htext -s 0 -l null -d 'paths of the list end with a zero byte'
 complete -c htext -l title -d 'show the title of the page'
 complete -c htext -l charset -x -a 'utf-8 iso-8859-1 iso-8859-2 iso-8859-15 windows-1251 windows-1252 koi8-r big5 gbk euc-jp shift_jis iso-2022-jp euc-kr' -d 'encoding of the page'
 complete -c htext -l links -x -a 'notes inline list none' -d 'targets of links'
