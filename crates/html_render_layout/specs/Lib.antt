@@ -3,6 +3,8 @@ pub mod Images
 pub mod Ending
 pub mod Layout
 pub mod Opening
+-- texts that show nothing as items of lists
+pub mod Blank
 pub mod Working
 -- the texts of a document that its lines show
 pub mod Kept

@@ -16,3 +16,5 @@ pub mod BlockVisible
 pub mod Closing
 -- Marks that are fed first wait.
 pub mod BlockMarks
+-- White space alone in a sub-block.
+pub mod BlankItems

@@ -110,7 +110,7 @@ fn is_collapsible_text(mode: WhiteSpace, text: &str) -> bool
 }
 
 /// Reports whether a text has no character but collapsible white space.
-fn is_collapsible_alone(text: &str) -> bool
+pub fn is_collapsible_alone(text: &str) -> bool
     ensures { result ≡ list_all is_collapsible (chars text.now) }
 {
     for c in text.chars() {

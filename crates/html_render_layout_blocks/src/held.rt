@@ -1,6 +1,6 @@
 //! Boxed blocks, so that moving one is cheap, and the current block with a pool of finished ones.
 
-ghost use Rattle.std.specs.Prelude.{◌≡◌, Some, OnOk, IfOk, IfErr, map, string_bytes};
+ghost use Rattle.std.specs.Prelude.{◌≡◌, Some, OnOk, IfOk, IfErr, map, option_and_then, string_bytes};
 ghost use Rattle.std.specs.Borrow.{sem};
 ghost use Rattle.std.specs.Str.{chars};
 ghost use Rattle.html_render_dom_values.specs.Outcome.{OnlyOutOfMemory, Refuses};
@@ -150,6 +150,23 @@ impl<T: Tag, M: Copy> CurrentBlock<T, M> {
     {
         match self.held.width_behind(prefix, inner) {
             Some(width) => self.inner_block(width),
+            None => Err(Error::TooNarrow),
+        }
+    }
+
+    /// Begins a new line, as [`Block::new_line`] does, in place of a sub-block of white space alone.
+    ///
+    /// # Errors
+    ///
+    /// - `OutOfMemory`.
+    /// - `TooNarrow`, as in [`sub_block`](CurrentBlock::sub_block) and [`Block::flush`].
+    #[tactic(auto, using(html_render_dom_values::specs::laws::Outcome::refusals), unfolding(crate::specs::Machine::operations))]
+    pub fn skip_sub_block(&mut self, prefix: usize, inner: usize) -> Result<(), Error>
+        ensures ok { OnOk result (option_and_then (λ _. machine.operations.new_line self.old) (machine.operations.sub_block self.old prefix inner) ≡ Some self.new) }
+        ensures err { IfErr result (λ e. Refuses e (option_and_then (λ _. machine.operations.new_line self.old) (machine.operations.sub_block self.old prefix inner))) }
+    {
+        match self.held.width_behind(prefix, inner) {
+            Some(_) => self.held.new_line(),
             None => Err(Error::TooNarrow),
         }
     }

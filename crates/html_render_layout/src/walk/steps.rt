@@ -21,7 +21,7 @@ use super::links::{add_mark, begin_link, close_link};
 use super::superscripts::{digits_of, write_superscript};
 use super::tables::{begin_cell, begin_table, end_cell, end_table};
 use super::texts::add_text;
-use crate::items::child_block;
+use crate::items::{child_block, indent_of, is_blank};
 use crate::nesting::{OwnBlock, begin_block, close_indent, close_quote};
 use crate::state::{CloseAction, OpenNode, Suspended};
 use crate::styles::begin_style;
@@ -473,7 +473,7 @@ fn open_cell<D: TextDecorator, G: Tagging<D::Annotation>>(
     open_in(alloc, Suspended::Cell(outer), node, children, state)
 }
 
-/// Opens a node as the child number `number`, from 0, of a list with this closing action.
+/// Opens a node as the child number `number`, from 0, of a list with this closing action. White space alone begins a new line.
 ///
 /// Few nodes are children of lists, so this is a function of its own.
 #[inline(never)]
@@ -491,6 +491,14 @@ fn open_listed<D: TextDecorator, G: Tagging<D::Annotation>>(
     ensures err { IfErr result (λ e. Refuses e (block_opened (by_tags D.decoration G.annotated) node.now (forest_of children.now)
         (child_block (by_tags D.decoration G.annotated) state.old.decorator list.now number) state.old)) }
 {
+    if let Some(indent) = indent_of::<D, G>(list) {
+        if is_blank(node, &state.text) {
+            state
+                .block
+                .skip_sub_block(indent.columns, indent.min_width)?;
+            return Ok(None);
+        }
+    }
     let block = child_block::<D, G>(alloc, &state.decorator, list, number)?;
     let item = begin_block(alloc, block, state)?;
     open_in(alloc, item, node, children, state)
