@@ -1,12 +1,13 @@
 //! Conversion of a document into a render tree.
 
-ghost use Rattle.std.specs.Prelude.{◌≡◌, IfErr, IfOk, OnOk, Some, map, true};
+ghost use Rattle.std.specs.Prelude.{◌≡◌, IfErr, IfOk, None, OnOk, Some, map, true};
 ghost use Rattle.html_render_dom_values.specs.Outcome.{OnlyOutOfMemory};
 ghost use Rattle.html_render_dom_styles.specs.Rules.{rule_of};
 ghost use Rattle.html_render_parts.specs.Refusal.{Fails};
 ghost use Rattle.html_render_dom.specs.Dom.{IsForest, IsNode, tree_of};
+ghost use Rattle.html_render_dom.specs.ElementStyle.{style_of};
 ghost use Rattle.html_render_dom.specs.RuleIndex.{Finds};
-ghost use Rattle.html_render_tree_mapping.specs.Plans.{plain_element, plan_at};
+ghost use Rattle.html_render_tree_mapping.specs.Plans.{element_of, plain_element, plan_at};
 ghost use Rattle.html_render_tree_mapping.specs.Results.{render_tree_of};
 ghost use Rattle.html_render_tree_convert.specs.Events.{element_events, nothing_inside};
 ghost use Rattle.html_render_tree_convert.specs.Steps.{converted, run};
@@ -15,11 +16,13 @@ ghost use Rattle.html_render_tree_convert.specs.Walk.{done_at_once, first_pick, 
 use crate::conversion::Conversion;
 use crate::cursor::{Cursor, Pick, Visit};
 use html_render_dom::dom::{Handle, RcDom};
-use html_render_dom::style::{RuleIndex, StyleRule};
+use html_render_dom::style::{ComputedStyle, RuleIndex, StyleRule};
 use html_render_dom_values::Error;
 use html_render_layout_nodes::tree::{Entry, NodeStyle, PreorderForest, RenderNode};
 use html_render_tree_mapping::mapping::{ElementKind, IfEmpty};
-use html_render_tree_mapping::plans::{Element, Plan, plain_element, plan_of, text_at};
+use html_render_tree_mapping::plans::{
+    Element, Plan, plain_element, plan_of, styled_element, text_at,
+};
 use html_render_tree_mapping::tables::Part;
 use std::alloc::Global;
 
@@ -108,8 +111,31 @@ fn enter_plain(
     Ok(())
 }
 
-/// Converts a node as far as can be without its children, which come next if they are converted. Texts, and elements that have
-/// no style and insert nothing, take the shortest way, since most nodes are these.
+/// Opens an element without attributes under its style. Its children come next.
+///
+/// # Errors
+///
+/// `OutOfMemory` if an allocation is refused.
+fn enter_styled(
+    kind: ElementKind,
+    if_empty: IfEmpty,
+    style: &ComputedStyle,
+    node: Handle,
+    cursor: &mut Cursor,
+    conversion: &mut Conversion,
+) -> Result<(), Error>
+    ensures ok { OnOk result (run (done_at_once (Plan.Over (element_of kind if_empty None (style_of style.now)) true)) conversion.old ≡ Some conversion.new) }
+    ensures cursor { OnOk result (cursor.new ≡ followed (Plan.Over (element_of kind if_empty None (style_of style.now)) true) node cursor.old) }
+    ensures err { OnlyOutOfMemory result }
+{
+    let pick = first_pick(&kind);
+    conversion.open_styled(kind, if_empty, style)?;
+    cursor.enter(node, pick)?;
+    Ok(())
+}
+
+/// Converts a node as far as can be without its children, which come next if they are converted. Texts, and elements without
+/// attributes, take the shortest way, since most nodes are these.
 ///
 /// # Errors
 ///
@@ -136,6 +162,9 @@ fn convert_node(
     }
     if let Some((kind, if_empty)) = plain_element(rules, index, dom, node) {
         return enter_plain(alloc, kind, if_empty, node, cursor, conversion);
+    }
+    if let Some((kind, if_empty, style)) = styled_element(rules, index, dom, node) {
+        return enter_styled(kind, if_empty, style, node, cursor, conversion);
     }
     let plan = plan_of(alloc, rules, index, dom, node)?;
     follow(alloc, plan, node, cursor, conversion)

@@ -221,7 +221,7 @@ pub(crate) fn preformat(style: &mut ComputedStyle)
 }
 
 /// What an element's style gives the node that it becomes.
-pub(crate) fn node_style(style: &ComputedStyle) -> NodeStyle
+pub fn node_style(style: &ComputedStyle) -> NodeStyle
     ensures { result ≡ node_style (style_of style.now) }
 {
     NodeStyle {

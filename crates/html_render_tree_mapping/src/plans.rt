@@ -13,7 +13,7 @@ ghost use Rattle.html_render_layout_nodes.specs.RenderNodes.{without_style};
 ghost use Rattle.html_render_tree_mapping.specs.Conversion.{element_mapping, is_preformatted, own_style};
 ghost use Rattle.html_render_tree_mapping.specs.ElementTexts.{has_any, no_texts};
 ghost use Rattle.html_render_tree_mapping.specs.Marks.{mark_of};
-ghost use Rattle.html_render_tree_mapping.specs.Plans.{document_element, element_plan, mark_plan, plain_element, plan_at};
+ghost use Rattle.html_render_tree_mapping.specs.Plans.{document_element, element_of, element_plan, mark_plan, plain_element, plan_at, texts_of};
 
 use crate::attributes::mark_of;
 use crate::mapping::{
@@ -49,6 +49,21 @@ impl ElementTexts {
             before: None,
             after: None,
         }
+    }
+
+    /// Creates the texts of an element with this mark and this style.
+    ///
+    /// # Errors
+    ///
+    /// `AllocError` if an allocation is refused.
+    pub fn of(mark: Option<NodeText>, style: &ComputedStyle) -> Result<ElementTexts, AllocError>
+        ensures { IfOk result (λ texts. texts ≡ texts_of mark (style_of style.now)) }
+    {
+        Ok(ElementTexts {
+            mark,
+            before: copy_of(style.content_before.val())?,
+            after: copy_of(style.content_after.val())?,
+        })
     }
 
     /// Reports whether there is a text.
@@ -189,11 +204,7 @@ fn styled_plan(
         Mapping::Leaf(kind) => (ElementKind::Node(kind), IfEmpty::Stands, false),
         Mapping::Parent(kind, if_empty) => (kind, if_empty, true),
     };
-    let texts = ElementTexts {
-        mark,
-        before: copy_of(style.content_before.val())?,
-        after: copy_of(style.content_after.val())?,
-    };
+    let texts = ElementTexts::of(mark, style)?;
     let element = Element {
         kind,
         style: node_style(style),
@@ -206,48 +217,31 @@ fn styled_plan(
     })
 }
 
-/// Returns the plan of an element that inserts these texts and whose style is that without any declaration.
-fn plain_plan(mapping: Mapping, texts: InsertedTexts) -> Plan
-    requires { (texts.before ≡ None) × (texts.after ≡ None) }
-    ensures { result ≡ element_plan mapping texts.mark (style_by []) }
-{
-    match mapping {
-        Mapping::Nothing => mark_plan(texts.into_texts().mark),
-        Mapping::Leaf(kind) => Plan::Over {
-            element: Element {
-                kind: ElementKind::Node(kind),
-                style: NodeStyle::default(),
-                if_empty: IfEmpty::Stands,
-                texts,
-            },
-            has_children: false,
-        },
-        Mapping::Parent(kind, if_empty) => Plan::Over {
-            element: Element {
-                kind,
-                style: NodeStyle::default(),
-                if_empty,
-                texts,
-            },
-            has_children: true,
-        },
-    }
-}
-
 /// Returns the plan of an element whose style is that without any declaration.
 fn unstyled_plan(alloc: Global, mapping: Mapping, mark: Option<NodeText>) -> Result<Plan, Error>
     ensures ok { IfOk result (λ plan. plan ≡ element_plan mapping mark (style_by [])) }
     ensures err { OnlyOutOfMemory result }
 {
-    let texts = InsertedTexts::new(
-        alloc,
-        ElementTexts {
-            mark,
-            before: None,
-            after: None,
-        },
-    )?;
-    Ok(plain_plan(mapping, texts))
+    let (kind, if_empty, has_children) = match mapping {
+        Mapping::Nothing => return Ok(mark_plan(mark)),
+        Mapping::Leaf(kind) => (ElementKind::Node(kind), IfEmpty::Stands, false),
+        Mapping::Parent(kind, if_empty) => (kind, if_empty, true),
+    };
+    let texts = ElementTexts {
+        mark,
+        before: None,
+        after: None,
+    };
+    let element = Element {
+        kind,
+        style: NodeStyle::default(),
+        if_empty,
+        texts: InsertedTexts::new(alloc, texts)?,
+    };
+    Ok(Plan::Over {
+        element,
+        has_children,
+    })
 }
 
 /// Returns the style of an element of its own: what the rules state of it, and for `pre` that white space is preserved.
@@ -270,9 +264,9 @@ fn own_style(
     Ok(style)
 }
 
-/// Returns the plan of an element that may have a mark or a style. Its style is computed only where a rule may select it.
+/// Returns the plan of an element with this mapping. Its style is computed only where a rule may select it.
 #[inline(never)]
-fn attributed_plan(
+fn element_plan(
     alloc: Global,
     rules: &[StyleRule],
     index: &RuleIndex,
@@ -303,49 +297,6 @@ fn is_unstyled(rules: &[StyleRule], index: &RuleIndex, name: &QualName) -> bool
         return false;
     }
     rules.is_empty() || !index.may_select(name.local.as_str(), &[])
-}
-
-/// Returns the plan of an element without attributes that isn't preformatted. Its style is computed only where it wasn't before.
-fn plan_by_name(
-    alloc: Global,
-    rules: &[StyleRule],
-    index: &RuleIndex,
-    mapping: Mapping,
-    name: &QualName,
-) -> Result<Plan, Error>
-    requires index { Finds index.now (map rule_of rules.now) }
-    requires preformatted { is_preformatted (name_of name.now) ≡ false }
-    ensures ok { IfOk result (λ plan. plan ≡ element_plan mapping (mark_of (name_of name.now) []) (own_style (map rule_of rules.now) (name_of name.now) [])) }
-    ensures err { OnlyOutOfMemory result }
-{
-    if is_unstyled(rules, index, name) {
-        return Ok(plain_plan(mapping, InsertedTexts::none()));
-    }
-    match index.plain_style(name.local.as_str()) {
-        Some(style) => styled_plan(alloc, mapping, None, style),
-        None => attributed_plan(alloc, rules, index, mapping, name, &[]),
-    }
-}
-
-/// Returns the plan of an element with this mapping.
-fn element_plan(
-    alloc: Global,
-    rules: &[StyleRule],
-    index: &RuleIndex,
-    mapping: Mapping,
-    name: &QualName,
-    attributes: &[Attribute],
-) -> Result<Plan, Error>
-    requires { Finds index.now (map rule_of rules.now) }
-    ensures ok { IfOk result (λ plan. plan ≡ element_plan mapping (mark_of (name_of name.now) (map property_of attributes.now))
-        (own_style (map rule_of rules.now) (name_of name.now) (map property_of attributes.now))) }
-    ensures err { OnlyOutOfMemory result }
-{
-    // most elements have no attributes, so these take the shortest way
-    if attributes.is_empty() && !is_preformatted(name) {
-        return plan_by_name(alloc, rules, index, mapping, name);
-    }
-    attributed_plan(alloc, rules, index, mapping, name, attributes)
 }
 
 /// Returns what an element becomes that has no attributes and whose style is that without any declaration, if its children are
@@ -390,6 +341,59 @@ pub fn plain_element(
     match dom.data(node) {
         NodeData::Element { name, attrs, .. } if attrs.as_slice().is_empty() => {
             plain_kind(rules, index, name)
+        }
+        _ => None,
+    }
+}
+
+/// Returns what an element becomes that has no attributes and whose style is known by its name, with that style, if it is
+/// displayed and its children are converted; `None` for an element that needs more to be known.
+#[inline(never)]
+fn styled_kind<'a>(
+    rules: &[StyleRule],
+    index: &'a RuleIndex,
+    name: &QualName,
+) -> Option<(ElementKind, IfEmpty, &'a ComputedStyle)>
+    requires { Finds index.now (map rule_of rules.now) }
+    ensures { IfSome result (λ r. (below : Forest Content) →
+        element_plan (element_mapping (space_of name.now.ns) name.now.local [] below) (mark_of (name_of name.now) []) (own_style (map rule_of rules.now) (name_of name.now) [])
+        ≡ Plan.Over (element_of r.0 r.1 None (style_of r.2.now)) true) }
+{
+    let Namespace::Html = name.ns else {
+        return None;
+    };
+    let local = name.local.as_str();
+    if rules.is_empty() || is_mapped_apart(local) || is_preformatted(name) {
+        return None;
+    }
+    let Some(plain) = index.plain_style(local) else {
+        return None;
+    };
+    if plain.display.val().is_some() {
+        return None;
+    }
+    match html_mapping(local, &[]) {
+        Mapping::Parent(kind, if_empty) => Some((kind, if_empty, plain)),
+        _ => None,
+    }
+}
+
+/// Returns what an element of HTML becomes that has no attributes and whose style is known by its name, with that style, if its
+/// children are converted; `None` for other nodes, and where that needs more to be known. `index` is that of the rules.
+#[inline(always)]
+pub fn styled_element<'a>(
+    rules: &[StyleRule],
+    index: &'a RuleIndex,
+    dom: &RcDom,
+    node: Handle,
+) -> Option<(ElementKind, IfEmpty, &'a ComputedStyle)>
+    requires index { Finds index.now (map rule_of rules.now) }
+    requires node { IsNode dom.now node }
+    ensures { IfSome result (λ r. plan_at (map rule_of rules.now) dom.now node ≡ Plan.Over (element_of r.0 r.1 None (style_of r.2.now)) true) }
+{
+    match dom.data(node) {
+        NodeData::Element { name, attrs, .. } if attrs.as_slice().is_empty() => {
+            styled_kind(rules, index, name)
         }
         _ => None,
     }

@@ -2,6 +2,7 @@
 
 ghost use Rattle.std.specs.Prelude.{◌≡◌, [], ◌∷◌, ◌++◌, IfOk, None, OnOk, Some, false, true};
 ghost use Rattle.html_render_dom_values.specs.Outcome.{OnlyOutOfMemory};
+ghost use Rattle.html_render_dom.specs.ElementStyle.{style_of};
 ghost use Rattle.html_render_tree_convert.specs.Held.{due_of, insertion_in, nothing_held};
 ghost use Rattle.html_render_tree_convert.specs.Levels.{added, leaf};
 ghost use Rattle.html_render_tree_convert.specs.OpenElements.{Node, holder, leaves, node_in, nothing, text_nodes};
@@ -10,6 +11,7 @@ ghost use Rattle.html_render_tree_convert.specs.Opening.{cell_as_open, kind_of_c
 ghost use Rattle.html_render_tree_convert.specs.Seen.{Holds, element_seen, is_root, kind_seen};
 ghost use Rattle.html_render_tree_convert.specs.Steps.{all_parted, caption_kind, is_row, is_rows, is_table, opened, table_in_container};
 ghost use Rattle.html_render_tree_mapping.specs.ElementTexts.{has_any, no_texts};
+ghost use Rattle.html_render_tree_mapping.specs.Plans.{element_of};
 
 use super::Conversion;
 use crate::builder::TreeBuilder;
@@ -17,10 +19,11 @@ use crate::due::{Due, DueParts, InsertedNodes, copy_of, front_nodes, put_all, pu
 use crate::elements::{Open, OpenKind};
 use crate::kinds::Keeping;
 use crate::spans::{PartRows, RowCells, TableSpans};
+use html_render_dom::style::ComputedStyle;
 use html_render_dom_values::Error;
 use html_render_layout_nodes::text::NodeText;
 use html_render_layout_nodes::tree::{Estimate, NodeKind, NodeStyle, RenderNode};
-use html_render_tree_mapping::mapping::{ElementKind, IfEmpty};
+use html_render_tree_mapping::mapping::{ElementKind, IfEmpty, node_style};
 use html_render_tree_mapping::plans::{Element, ElementTexts};
 use html_render_tree_mapping::tables::{CellSpan, Part};
 use std::alloc::Global;
@@ -614,6 +617,31 @@ impl Conversion {
         }
     }
 
+    /// Opens an element with the texts that it inserts.
+    ///
+    /// # Errors
+    ///
+    /// `OutOfMemory` if an allocation is refused.
+    fn open_with(
+        &mut self,
+        alloc: Global,
+        kind: ElementKind,
+        style: NodeStyle,
+        if_empty: IfEmpty,
+        texts: ElementTexts,
+    ) -> Result<(), Error>
+        ensures ok { OnOk result (self.new ≡ opened (record { kind = kind; style = style; if_empty = if_empty; texts = texts }) self.old) }
+        ensures err { OnlyOutOfMemory result }
+    {
+        if !texts.has_any() {
+            return self.open_plain(alloc, kind, style, if_empty);
+        }
+        match kind {
+            ElementKind::Node(kind) => self.open_inserting(alloc, kind, style, if_empty, texts),
+            ElementKind::Part(part) => self.open_part(alloc, part, style, if_empty, texts),
+        }
+    }
+
     /// Opens an element.
     ///
     /// # Errors
@@ -633,10 +661,28 @@ impl Conversion {
             return self.open_plain(alloc, kind, style, if_empty);
         }
         let texts = texts.into_texts();
-        match kind {
-            ElementKind::Node(kind) => self.open_inserting(alloc, kind, style, if_empty, texts),
-            ElementKind::Part(part) => self.open_part(alloc, part, style, if_empty, texts),
-        }
+        self.open_with(alloc, kind, style, if_empty, texts)
+    }
+
+    /// Opens an element without a mark, under its style.
+    ///
+    /// # Errors
+    ///
+    /// `OutOfMemory` if an allocation is refused.
+    #[inline(never)]
+    pub fn open_styled(
+        &mut self,
+        kind: ElementKind,
+        if_empty: IfEmpty,
+        style: &ComputedStyle,
+    ) -> Result<(), Error>
+        ensures ok { OnOk result (self.new ≡ opened (element_of kind if_empty None (style_of style.now)) self.old) }
+        ensures err { OnlyOutOfMemory result }
+    {
+        let alloc = self.allocator();
+        let texts = ElementTexts::of(None, style)?;
+        let style = node_style(style);
+        self.open_with(alloc, kind, style, if_empty, texts)
     }
 
     /// Begins the rows of the innermost open table, whose captions have all come.
