@@ -2,7 +2,8 @@
 
 use crate::records;
 use crate::status::Status;
-use html_render::config::{plain, plain_no_decorate, rich, Config, Decorator, ImageRenderMode};
+use html_render::config::{plain, plain_no_decorate, rich, Config, ImageRenderMode};
+use html_render::render::TextDecorator;
 use html_render::{LinkMode, Options, Tables};
 
 /// Flags: `html_render_page_flags` of `html_render.h`.
@@ -102,11 +103,11 @@ impl Choices<'_> {
         }
     }
 
-    fn images(&self) -> Result<ImageRenderMode, Status> {
+    fn images(&self) -> Result<ImageRenderMode<'_>, Status> {
         match self.images {
             0 => Ok(ImageRenderMode::IgnoreEmpty),
             1 => Ok(ImageRenderMode::ShowAlways),
-            2 => Ok(ImageRenderMode::Replace(self.image_title.to_owned())),
+            2 => Ok(ImageRenderMode::Replace(self.image_title)),
             3 => Ok(ImageRenderMode::Filename),
             _ => Err(Status::BadArgument),
         }
@@ -134,7 +135,7 @@ impl Choices<'_> {
     }
 
     /// Returns a configuration under these options.
-    fn configured<D: Decorator>(&self, config: Config<D>) -> Result<Config<D>, Status> {
+    fn configured<D: TextDecorator>(&self, config: Config<D>) -> Result<Config<D>, Status> {
         if self.flags & !flag::ALL != 0 {
             return Err(Status::BadArgument);
         }
