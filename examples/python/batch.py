@@ -6,6 +6,7 @@
 An input is a folder with files of HTML, a Maildir, a file of WARC records (.warc, .warc.gz), or else an mbox file. Each page becomes a
 line of the output: {"page": NAME, "text": TEXT}, or {"page": NAME, "fault": REASON} where it can't be rendered. Lines are appended as
 they are ready, and pages that the output has are skipped. So a run that was stopped goes on when it is started again.
+Links of a page in a WARC file are resolved against the address in its record.
 
 Pages are read here, and rendered in parts by workers: processes of this machine, or those of the scheduler that --scheduler names, on
 which html_render is installed. If a worker dies, the pages of its part are rendered again, each in a process of its own, so that only
@@ -53,20 +54,22 @@ MAX_RECORD = 1 << 26
 
 CHILD = """
 import sys
-from html_render import render
+from html_render import Options, render
 
-width, charset = int(sys.argv[1]), sys.argv[2] or None
-sys.stdout.buffer.write(render(sys.stdin.buffer.read(), width=width, charset=charset).encode())
+width, charset, base = int(sys.argv[1]), sys.argv[2] or None, sys.argv[3] or None
+page = sys.stdin.buffer.read()
+sys.stdout.buffer.write(render(page, width, charset=charset, options=Options(base=base)).encode())
 """
 
 
 @dataclass(frozen=True)
 class Page:
-    """A page, its name among all pages, and the encoding that HTTP or its mail names."""
+    """A page, its name among all pages, the encoding that HTTP or its mail names, and its address, against which links are resolved."""
 
     name: str
     html: bytes
     charset: str | None = None
+    base: str | None = None
 
 
 def pages_of_folder(folder: Path, done: set[str]) -> Iterator[Page]:
@@ -105,7 +108,8 @@ def pages_of_warc(path: Path, done: set[str]) -> Iterator[Page]:
             if name not in done and headers.get("WARC-Type") == "response":
                 found = html_of_response(content)
                 if found is not None:
-                    yield Page(name, *found)
+                    # some crawlers put the address in angle brackets
+                    yield Page(name, *found, base=headers.get("WARC-Target-URI", "").strip("<> ") or None)
 
 
 def records(file: BinaryIO) -> Iterator[tuple[Message, bytes]]:
@@ -180,14 +184,17 @@ def parts_of(pages: Iterable[Page]) -> Iterator[list[Page]]:
         yield part
 
 
-def rendered(page: Page, render: Callable[[str | None], str]) -> dict[str, str]:
-    """Returns the record of a page that a function renders in an encoding."""
+def rendered(page: Page, render: Callable[[Page], str]) -> dict[str, str]:
+    """Returns the record of a page that a function renders."""
     try:
-        return {"page": page.name, "text": render(page.charset)}
+        return {"page": page.name, "text": render(page)}
     except (LookupError, ValueError) as fault:
         if page.charset is not None:
             # an encoding that isn't known counts as none
             return rendered(replace(page, charset=None), render)
+        if page.base is not None:
+            # and so does an address that isn't a URL
+            return rendered(replace(page, base=None), render)
         return {"page": page.name, "fault": f"{type(fault).__name__}: {fault}"}
     except Exception as fault:
         return {"page": page.name, "fault": f"{type(fault).__name__}: {fault}"}
@@ -195,17 +202,17 @@ def rendered(page: Page, render: Callable[[str | None], str]) -> dict[str, str]:
 
 def render_part(part: list[Page], width: int) -> list[dict[str, str]]:
     """Renders pages in this process."""
-    from html_render import render
+    from html_render import Options, render
 
-    return [rendered(page, lambda charset: render(page.html, width=width, charset=charset)) for page in part]
+    return [rendered(page, lambda it: render(it.html, width, charset=it.charset, options=Options(base=it.base))) for page in part]
 
 
 def render_apart(part: list[Page], width: int) -> list[dict[str, str]]:
     """Renders pages, each in a process of its own."""
     environment = {**os.environ, "PYTHONPATH": os.pathsep.join(filter(None, sys.path))}
 
-    def run(page: Page, charset: str | None) -> str:
-        command = [sys.executable, "-c", CHILD, str(width), charset or ""]
+    def run(page: Page) -> str:
+        command = [sys.executable, "-c", CHILD, str(width), page.charset or "", page.base or ""]
         child = subprocess.run(command, input=page.html, env=environment, stdout=subprocess.PIPE, stderr=subprocess.PIPE, timeout=TIMEOUT)
         if child.returncode < 0:
             raise ChildProcessError(f"the process died of signal {-child.returncode}")
@@ -214,7 +221,7 @@ def render_apart(part: list[Page], width: int) -> list[dict[str, str]]:
             raise ValueError(last_line)
         return child.stdout.decode()
 
-    return [rendered(page, lambda charset: run(page, charset)) for page in part]
+    return [rendered(page, run) for page in part]
 
 
 def lost(part: list[Page]) -> list[dict[str, str]]:

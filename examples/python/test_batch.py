@@ -31,7 +31,7 @@ sys.modules[__name__] = this
 sys.path.insert(0, folder)
 
 
-def render(page, **options):
+def render(page, *words, **options):
     if b"kill" in page:
         os.kill(os.getpid(), signal.SIGKILL)
     if b"wait" in page:
@@ -41,18 +41,22 @@ def render(page, **options):
             pass
         else:
             time.sleep(1000)
-    return real.render(page, **options)
+    return real.render(page, *words, **options)
+
+
+Options = real.Options
 '''
 
 
-def record(kind, content):
-    """Returns a WARC record."""
-    return b"WARC/1.0\r\nWARC-Type: %s\r\nContent-Length: %d\r\n\r\n%s\r\n\r\n" % (kind, len(content), content)
+def record(kind, content, more=b""):
+    """Returns a WARC record, with more headers."""
+    return b"WARC/1.0\r\nWARC-Type: %s\r\n%sContent-Length: %d\r\n\r\n%s\r\n\r\n" % (kind, more, len(content), content)
 
 
-def response(headers, body):
+def response(headers, body, address=None):
     """Returns a WARC record of a response of HTTP."""
-    return record(b"response", b"HTTP/1.1 200 OK\r\n%s\r\n\r\n%s" % (headers, body))
+    more = b"" if address is None else b"WARC-Target-URI: %s\r\n" % address
+    return record(b"response", b"HTTP/1.1 200 OK\r\n%s\r\n\r\n%s" % (headers, body), more)
 
 
 def chunked(body):
@@ -132,6 +136,14 @@ class Batch(unittest.TestCase):
         self.write("b.warc.gz", b"".join(map(gzip.compress, parts)))
         self.assertEqual(self.run_batch("a.warc", "b.warc.gz"), (0, "12 pages, of which 0 have no text; 0 were there"))
         self.assertEqual(self.records(), {f"{name}#{number}": text for name in ("a.warc", "b.warc.gz") for number, text in texts.items()})
+
+    def test_links_of_warc_are_resolved(self):
+        link = b"<a href=b>a</a>"
+        addresses = [b"https://ferries.example/c/d", b"<https://ferries.example/>", b"no address", None]
+        self.write("a.warc", b"".join(response(b"Content-Type: text/html", link, address) for address in addresses))
+        self.assertEqual(self.run_batch("a.warc"), (0, "4 pages, of which 0 have no text; 0 were there"))
+        targets = ["https://ferries.example/c/b", "https://ferries.example/b", "b", "b"]
+        self.assertEqual(self.records(), {f"a.warc#{number}": f"a[1]\n\n[1]: {target}\n" for number, target in enumerate(targets)})
 
     def test_mails(self):
         mails = [mail("a", "one", "<p>One"), mail("b", "two"), mail("c", "three", "<p>caf\u00e9", "latin1")]
