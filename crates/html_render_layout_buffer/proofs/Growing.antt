@@ -11,7 +11,10 @@ use Rattle.html_render_layout_lines.specs.Character.{width_of}
 use Rattle.html_render_layout_lines.specs.Line.{Line, columns, text_bytes, marks_line}
 use Rattle.html_render_layout_lines.specs.TaggedText.{under, text_columns}
 use Rattle.html_render_layout_lines.specs.laws.Columns.{columns-cons, width-space}
-use Rattle.html_render_layout_buffer.specs.Lines.{BufferedLines, after_prefixes, spaces, with_spaces, filled_line, marks_first, marks_last}
+use Rattle.html_render_layout_buffer.specs.Lines.{BufferedLines, with_spaces}
+use Rattle.html_render_layout_buffer.specs.Marked.{marked_before, marked_behind}
+use Rattle.html_render_layout_buffer.specs.Padding.{repeated, filled_line}
+use Rattle.html_render_layout_buffer.specs.Prefixed.{prefixed}
 
 -- ---- line by line
 
@@ -25,22 +28,24 @@ one-more {T} {M} f old p0 p1 n ls e0 e1 h =
     rw (e1, e0, more)
     (ap (λ (y : List (Line T M)). record { lines = y; line = [] }) (append_assoc old.lines (take n (map f ls)) (f (get_or ls n []) ∷ [])))
 
-rest-more : {X : Type 0} (xs : List X) (n : ℕ) (d : X) → 0 < n → n < length xs → drop 1 (take (n + 1) xs) ≡ drop 1 (take n xs) ++ get_or xs n d ∷ []
-rest-more [] n d p h = absurd (omega arith)
-rest-more (x ∷ xs) zero d p h = absurd (omega arith)
-rest-more (x ∷ xs) (suc k) d p h =
+pub part-more : {X : Type 0} (xs : List X) (from n : ℕ) (d : X) → from ≤ n → n < length xs →
+    drop from (take (n + 1) xs) ≡ drop from (take n xs) ++ get_or xs n d ∷ []
+part-more [] from n d p h = absurd (omega arith)
+part-more (x ∷ xs) zero n d p h = take_more (x ∷ xs) n d h
+part-more (x ∷ xs) (suc from) zero d p h = absurd (omega arith)
+part-more (x ∷ xs) (suc from) (suc k) d p h =
     let e : suc k + 1 ≡ suc (k + 1) = omega arith in
-    rw e (take_more xs k d (omega arith))
+    rw e (part-more xs from k d (omega arith) (omega arith))
 
-pub one-later : {T M : Type 0} (f : Line T M → Line T M) (old p0 p1 : BufferedLines T M) (n : ℕ) (ls : List (Line T M)) →
-    p0 ≡ record { lines = old.lines ++ map f (drop 1 (take n ls)); line = [] } →
-    p1 ≡ record { lines = p0.lines ++ (p0.line ++ f (get_or ls n [])) ∷ []; line = [] } → 0 < n → n < length ls →
-    p1 ≡ record { lines = old.lines ++ map f (drop 1 (take (n + 1) ls)); line = [] }
-one-later {T} {M} f old p0 p1 n ls e0 e1 p h =
-    let more : map f (drop 1 (take (n + 1) ls)) ≡ map f (drop 1 (take n ls)) ++ f (get_or ls n []) ∷ [] =
-    ap (map f) (rest-more ls n [] p h) ∙ map-append f (drop 1 (take n ls)) (get_or ls n [] ∷ []) in
+pub one-later : {T M : Type 0} (f : Line T M → Line T M) (old p0 p1 : BufferedLines T M) (from n : ℕ) (ls : List (Line T M)) →
+    p0 ≡ record { lines = old.lines ++ map f (drop from (take n ls)); line = [] } →
+    p1 ≡ record { lines = p0.lines ++ (p0.line ++ f (get_or ls n [])) ∷ []; line = [] } → from ≤ n → n < length ls →
+    p1 ≡ record { lines = old.lines ++ map f (drop from (take (n + 1) ls)); line = [] }
+one-later {T} {M} f old p0 p1 from n ls e0 e1 p h =
+    let more : map f (drop from (take (n + 1) ls)) ≡ map f (drop from (take n ls)) ++ f (get_or ls n []) ∷ [] =
+    ap (map f) (part-more ls from n [] p h) ∙ map-append f (drop from (take n ls)) (get_or ls n [] ∷ []) in
     rw (e1, e0, more)
-    (ap (λ (y : List (Line T M)). record { lines = y; line = [] }) (append_assoc old.lines (map f (drop 1 (take n ls))) (f (get_or ls n []) ∷ [])))
+    (ap (λ (y : List (Line T M)). record { lines = y; line = [] }) (append_assoc old.lines (map f (drop from (take n ls))) (f (get_or ls n []) ∷ [])))
 
 pub one-copied : {T M : Type 0} (old p0 p1 p2 : BufferedLines T M) (n : ℕ) (ls : List (Line T M)) →
     p0 ≡ record { lines = old.lines ++ drop 1 (take n ls); line = [] } →
@@ -48,13 +53,13 @@ pub one-copied : {T M : Type 0} (old p0 p1 p2 : BufferedLines T M) (n : ℕ) (ls
     p2 ≡ record { lines = p1.lines ++ p1.line ∷ []; line = [] } → 0 < n → n < length ls →
     p2 ≡ record { lines = old.lines ++ drop 1 (take (n + 1) ls); line = [] }
 one-copied {T} {M} old p0 p1 p2 n ls e0 e1 e2 p h =
-    rw (e2, e1, e0, rest-more ls n [] p h)
+    rw (e2, e1, e0, part-more ls 1 n [] p h)
     (ap (λ (y : List (Line T M)). record { lines = y; line = [] }) (append_assoc old.lines (drop 1 (take n ls)) (get_or ls n [] ∷ [])))
 
 pub behind : {T M : Type 0} (old p1 p2 : BufferedLines T M) (first later : Line T M) (ls : List (Line T M)) → 0 < length ls →
     p1 ≡ record { lines = old.lines ++ (old.line ++ (first ++ get_or ls 0 [])) ∷ []; line = [] } →
     p2 ≡ record { lines = p1.lines ++ map (λ (l : Line T M). later ++ l) (drop 1 ls); line = [] } →
-    p2 ≡ record { lines = old.lines ++ after_prefixes (old.line ++ first) later ls; line = [] }
+    p2 ≡ record { lines = old.lines ++ prefixed (old.line ++ first) later ls; line = [] }
 behind old p1 p2 first later [] h e1 e2 = absurd (omega arith)
 behind {T} {M} old p1 p2 first later (x ∷ ls) h e1 e2 =
     let others : List (Line T M) = map (λ (l : Line T M). later ++ l) ls in
@@ -63,15 +68,15 @@ behind {T} {M} old p1 p2 first later (x ∷ ls) h e1 e2 =
     ∙ ap (λ y. old.lines ++ y ∷ others) (sym (append_assoc old.line first x))))
 
 pub line-filled : {T M : Type 0} (old a b c : BufferedLines T M) (l : Line T M) (tag : T) (width missing : ℕ) →
-    a ≡ record { lines = old.lines; line = old.line ++ l } → b ≡ record { lines = a.lines; line = a.line ++ spaces tag missing } →
+    a ≡ record { lines = old.lines; line = old.line ++ l } → b ≡ record { lines = a.lines; line = a.line ++ repeated tag 32 missing } →
     c ≡ record { lines = b.lines ++ b.line ∷ []; line = [] } → missing ≡ width - columns l →
     c ≡ record { lines = old.lines ++ (old.line ++ filled_line tag width l) ∷ []; line = [] }
 line-filled {T} {M} old a b c l tag width missing e f g h =
-    rw (g, f, e, h) (ap (λ (y : Line T M). record { lines = old.lines ++ y ∷ []; line = [] }) (append_assoc old.line l (spaces tag (width - columns l))))
+    rw (g, f, e, h) (ap (λ (y : Line T M). record { lines = old.lines ++ y ∷ []; line = [] }) (append_assoc old.line l (repeated tag 32 (width - columns l))))
 
 -- ---- spaces
 
-pub under-spaces : {T : Type 0} (M : Type 0) (tag : T) (n : ℕ) → under {M = M} tag (replicate n 32) ≡ spaces tag n
+pub under-spaces : {T : Type 0} (M : Type 0) (tag : T) (n : ℕ) → under {M = M} tag (replicate n 32) ≡ repeated tag 32 n
 under-spaces M tag zero = refl
 under-spaces {T} M tag (suc n) =
     let one : Element T M = element.Character 32 tag in
@@ -87,9 +92,9 @@ pub spaces_parted : {T M : Type 0} (b : BufferedLines T M) (tag : T) (next left 
 spaces_parted {T} {M} b tag next left h =
     let one : Element T M = element.Character 32 tag in
     let sum : next + (left - next) ≡ left = omega (arith, h) in
-    let all : spaces {M = M} tag next ++ spaces tag (left - next) ≡ spaces tag left =
+    let all : repeated {M = M} tag 32 next ++ repeated tag 32 (left - next) ≡ repeated tag 32 left =
     replicate-append-replicate next (left - next) one ∙ ap (λ n. replicate n one) sum in
-    ap (λ (y : Line T M). record { lines = b.lines; line = y }) (append_assoc b.line (spaces tag next) (spaces tag (left - next)) ∙ ap (λ y. b.line ++ y) all)
+    ap (λ (y : Line T M). record { lines = b.lines; line = y }) (append_assoc b.line (repeated tag 32 next) (repeated tag 32 (left - next)) ∙ ap (λ y. b.line ++ y) all)
 
 -- none is left
 pub spaces_done : {T M : Type 0} (b : BufferedLines T M) (tag : T) → with_spaces b tag 0 ≡ b
@@ -137,32 +142,32 @@ none-is {T} {M} b e f =
 
 -- ---- marks
 
-pub marked-last : {T M : Type 0} (ms : List M) (ls : List (Line T M)) (l : Line T M) → marks_last ms (ls ++ l ∷ []) ≡ ls ++ (l ++ marks_line ms) ∷ []
+pub marked-last : {T M : Type 0} (ms : List M) (ls : List (Line T M)) (l : Line T M) → marked_behind ms (ls ++ l ∷ []) ≡ ls ++ (l ++ marks_line ms) ∷ []
 marked-last ms [] l = refl
 marked-last ms (x ∷ []) l = refl
 marked-last ms (x ∷ y ∷ ls) l = ap (λ r. x ∷ r) (marked-last ms (y ∷ ls) l)
 
 pub last-marked : {T M : Type 0} (old p1 p2 p3 : BufferedLines T M) (ms : List M) → old ≡ record { lines = p1.lines ++ p1.line ∷ []; line = [] } →
     p2 ≡ record { lines = p1.lines; line = p1.line ++ marks_line ms } → p3 ≡ record { lines = p2.lines ++ p2.line ∷ []; line = [] } →
-    p3 ≡ record { lines = marks_last ms old.lines; line = [] }
+    p3 ≡ record { lines = marked_behind ms old.lines; line = [] }
 last-marked {T} {M} old p1 p2 p3 ms e0 e1 e2 =
     rw (e2, e1, e0) (ap (λ (y : List (Line T M)). record { lines = y; line = [] }) (sym (marked-last ms p1.lines p1.line)))
 
 pub first-marked : {T M : Type 0} (p1 p2 p3 p4 : BufferedLines T M) (ms : List M) (ls : List (Line T M)) → 0 < length ls →
     p1 ≡ record { lines = []; line = marks_line ms } → p2 ≡ record { lines = p1.lines; line = p1.line ++ get_or ls 0 [] } →
     p3 ≡ record { lines = p2.lines ++ p2.line ∷ []; line = [] } → p4 ≡ record { lines = p3.lines ++ drop 1 ls; line = [] } →
-    p4 ≡ record { lines = marks_first ms ls; line = [] }
+    p4 ≡ record { lines = marked_before ms ls; line = [] }
 first-marked p1 p2 p3 p4 ms [] h e1 e2 e3 e4 = absurd (omega arith)
 first-marked p1 p2 p3 p4 ms (x ∷ ls) h e1 e2 e3 e4 = rw (e4, e3, e2, e1) refl
 
-pub no-marks : {T M : Type 0} (b : BufferedLines T M) (ms : List M) → length b.lines ≡ 0 → b.line ≡ [] → b ≡ record { lines = marks_last ms b.lines; line = [] }
+pub no-marks : {T M : Type 0} (b : BufferedLines T M) (ms : List M) → length b.lines ≡ 0 → b.line ≡ [] → b ≡ record { lines = marked_behind ms b.lines; line = [] }
 no-marks {T} {M} b ms e f =
     let none : b ≡ record { lines = []; line = [] } = none-is b e f in
-    none ∙ sym (ap (λ (c : BufferedLines T M). record { lines = marks_last ms c.lines; line = [] }) none)
+    none ∙ sym (ap (λ (c : BufferedLines T M). record { lines = marked_behind ms c.lines; line = [] }) none)
 
-pub no-marks-first : {T M : Type 0} (b : BufferedLines T M) (ms : List M) → length b.lines ≡ 0 → b.line ≡ [] → b ≡ record { lines = marks_first ms b.lines; line = [] }
+pub no-marks-first : {T M : Type 0} (b : BufferedLines T M) (ms : List M) → length b.lines ≡ 0 → b.line ≡ [] → b ≡ record { lines = marked_before ms b.lines; line = [] }
 no-marks-first {T} {M} b ms e f =
     let none : b ≡ record { lines = []; line = [] } = none-is b e f in
-    none ∙ sym (ap (λ (c : BufferedLines T M). record { lines = marks_first ms c.lines; line = [] }) none)
+    none ∙ sym (ap (λ (c : BufferedLines T M). record { lines = marked_before ms c.lines; line = [] }) none)
 
 pub ruleset no_marks = (no-marks, no-marks-first)

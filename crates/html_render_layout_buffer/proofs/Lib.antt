@@ -2,3 +2,5 @@ pub mod TagLists
 pub mod Stored
 pub mod Growing
 pub mod WordParts
+pub mod PieceLines
+pub mod PartLines

@@ -38,7 +38,7 @@ read-character {T} {M} c tag cs (suc n) ss e =
     ap (λ (y : Line T M). element.Character c tag ∷ y)
     (ap (λ i. elements_read i cs (replicate n (slot.Byte tag) ++ ss)) k ∙ read-skipped n tag cs ss)
 
-line-read : {T M : Type 0} (l : Line T M) → IsUtf8 (text_bytes l) → elements_read 0 (chars (text_bytes l)) (line_slots l) ≡ l
+pub line-read : {T M : Type 0} (l : Line T M) → IsUtf8 (text_bytes l) → elements_read 0 (chars (text_bytes l)) (line_slots l) ≡ l
 line-read [] utf8 = refl
 line-read {T} {M} (element.Mark m ∷ l) utf8 = ap (λ (y : Line T M). element.Mark m ∷ y) (line-read l utf8)
 line-read {T} {M} (element.Character c tag ∷ l) utf8 =
@@ -474,14 +474,14 @@ added-ended {T} {M} f ls l m bs ss es count end last is utf8 e g h p q k =
     (added f ls l m (f.text ++ text_bytes m) ss count is utf8 refl g h) (e ∙ sym (append_assoc f.text (text_bytes m) (10 ∷ []))) p q k
 
 -- another's line after a prefix
-pub prefixed : {T M : Type 0} (f : Fields T M) (ls : List (Line T M)) (l m : Line T M) (bs : List ℕ) (ss : List (Slot T M)) (es : List LineEnd)
+pub line-prefixed : {T M : Type 0} (f : Fields T M) (ls : List (Line T M)) (l m : Line T M) (bs : List ℕ) (ss : List (Slot T M)) (es : List LineEnd)
     (count : Option ℕ) (end last : ℕ) (text ended : List ℕ) (tag : T) (slots : List (Slot T M)) → IsStored f ls l → IsUtf8 text → IsUtf8 (text_bytes m) →
     ended ≡ text_bytes m ++ 10 ∷ [] → slots ≡ line_slots m → bs ≡ f.text ++ (text ++ ended) →
     ss ≡ f.slots ++ (replicate (length text) (slot.Byte tag) ++ slots) → count ≡ counted (columns l + text_columns (chars text) + columns m) →
     end ≡ length bs → last ≡ length ss → es ≡ f.ends ++ record { text = end; slots = last; columns = count } ∷ [] →
     IsStored (record { text = bs; slots = ss; ends = es; start = end; slot_start = last; columns = Some 0 })
     (ls ++ (l ++ (under tag (chars text) ++ m)) ∷ []) []
-prefixed {T} {M} f ls l m bs ss es count end last text ended tag slots is utf8 own a b e g h p q k =
+line-prefixed {T} {M} f ls l m bs ss es count end last text ended tag slots is utf8 own a b e g h p q k =
     let front : Line T M = under tag (chars text) in
     let bytes : text_bytes front ≡ text = bytes-under M tag text utf8 in
     let all : text_bytes (front ++ m) ≡ text ++ text_bytes m = bytes-append front m ∙ ap (λ y. y ++ text_bytes m) bytes in

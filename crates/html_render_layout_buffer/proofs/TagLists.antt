@@ -1,12 +1,12 @@
 -- Tags in runs.
 use Rattle.std.proofs.Common.{◌≡◌, ℕ, zero, suc, inl, inr, ◌+◌, ◌-◌, ◌<◌, ◌≤◌, List, [], ◌∷◌, ◌++◌, Option, Some, None, take, drop, length, get_or, refl, sym, ap, ◌∙◌, subst, arith, append_assoc, append-nil, length-append}
 use Rattle.std.specs.Prelude.{min, max, replicate}
-use Rattle.std.proofs.lemmas.List.{take-append-le, length-replicate, replicate-append-replicate, take-replicate, drop-replicate, take_all, drop_all, take_rest}
+use Rattle.std.proofs.lemmas.List.{take-append-le, length-replicate, replicate-append-replicate, take-replicate, drop-replicate, take_all, drop_all, take_rest, at_drop_more}
 use Rattle.std.proofs.lemmas.Bool.{cases_lt}
 use Rattle.std.specs.List.{AllWithin}
 use Rattle.std.specs.List.Sorted.{IsNonDecreasingBy}
 use Rattle.html_render_layout_buffer.specs.declared.runs.TagRun.{TagRun}
-use Rattle.html_render_layout_buffer.specs.Runs.{tags_from, AreRuns, last_as_closed, tags_between}
+use Rattle.html_render_layout_buffer.specs.Runs.{copies_of, tags_from, AreRuns, last_as_closed, tags_between}
 
 pub length-tags : {T : Type 0} (rs : List (TagRun T)) (tag : Option T) (s n : ℕ) → AreRuns s rs tag n →
     length (tags_from s rs tag n) + s ≡ n
@@ -225,3 +225,73 @@ pub part-is : {T : Type 0} (rs qs : List (TagRun T)) (tag : Option T) (from to n
     tags_between from to (take (length qs - i) (drop i qs)) tag ≡ drop from (take to ts)
 part-is {T} rs qs tag from to n i ts is e f h k all within =
     ap (λ (y : List (TagRun T)). tags_between from to y tag) (take_rest qs i) ∙ between-later qs tag from to i all within h ∙ between_is rs qs tag from to n ts is e f h k
+
+-- ---- the run at a place
+
+reach-end : {T : Type 0} (rs : List (TagRun T)) (tag : Option T) (s n : ℕ) → AreRuns s rs tag n → s ≤ n
+reach-end [] None s n is = omega (arith, is)
+reach-end [] (Some t) s n is = is
+reach-end (r ∷ rs) tag s n is = omega (arith, is.0, reach-end rs tag r.end n is.1)
+
+ends-within : {T : Type 0} (rs : List (TagRun T)) (tag : Option T) (s n k : ℕ) (d : TagRun T) → AreRuns s rs tag n → k < length rs → (get_or rs k d).end ≤ n
+ends-within [] tag s n k d is h = absurd (omega (arith, h))
+ends-within (r ∷ rs) tag s n zero d is h = reach-end rs tag r.end n is.1
+ends-within (r ∷ rs) tag s n (suc k) d is h =
+    let l : k < length rs = omega (arith, h) in
+    ends-within rs tag r.end n k d is.1 l
+
+pub span-within : {T : Type 0} (rs qs : List (TagRun T)) (own : Option T) (n i : ℕ) (ts : List T) (run : TagRun T) → AreRuns 0 rs own n →
+    tags_from 0 rs own n ≡ ts → qs ≡ rs → i < length qs → run ≡ get_or qs i run → run.end ≤ length ts
+span-within rs qs own n i ts run is e f h at =
+    let l : i < length rs = omega (arith, h, ap length f) in
+    let same : run.end ≡ (get_or rs i run).end = ap (λ r. r.end) at ∙ ap (λ y. (get_or y i run).end) f in
+    omega (arith, same, ends-within rs own 0 n i run is l, length-is rs own n ts is e)
+
+pub span-closed : {T : Type 0} (rs qs : List (TagRun T)) (own : Option T) (place n i : ℕ) (ts : List T) (run : TagRun T) → AreRuns 0 rs own n →
+    tags_from 0 rs own n ≡ ts → qs ≡ rs → AllWithin (λ (r : TagRun T). r.end ≤ place) qs 0 i → i < length qs → run ≡ get_or qs i run → place < run.end →
+    drop place (take run.end ts) ≡ replicate (run.end - place) run.tag
+span-closed {T} rs qs own place n i ts run is e f all h at after =
+    let k : place ≤ run.end = omega (arith, after) in
+    let l : i ≤ length qs = omega (arith, h) in
+    let rest : List (TagRun T) = drop (i + 1) qs in
+    let a : min run.end run.end ≡ run.end = omega arith in
+    let b : max place run.end ≡ run.end = omega (arith, k) in
+    let here : tags_between place run.end (run ∷ rest) own ≡ replicate (run.end - place) run.tag =
+    ap (λ m. replicate (m - place) run.tag ++ tags_between (max place m) run.end rest own) a
+    ∙ ap (λ m. replicate (run.end - place) run.tag ++ tags_between m run.end rest own) b
+    ∙ ap (λ (y : List T). replicate (run.end - place) run.tag ++ y) (between-empty rest own run.end run.end refl)
+    ∙ append-nil (replicate (run.end - place) run.tag) in
+    sym (between_is rs qs own place run.end n ts is e f k (span-within rs qs own n i ts run is e f h at))
+    ∙ sym (between-later qs own place run.end i all l k)
+    ∙ at_drop_more (λ (y : List (TagRun T)). tags_between place run.end y own) qs i run h
+    ∙ ap (λ (r : TagRun T). tags_between place run.end (r ∷ rest) own) (sym at) ∙ here
+
+pub span-open : {T : Type 0} (rs qs : List (TagRun T)) (own : Option T) (tag : T) (place n i : ℕ) (ts : List T) → AreRuns 0 rs own n →
+    tags_from 0 rs own n ≡ ts → qs ≡ rs → AllWithin (λ (r : TagRun T). r.end ≤ place) qs 0 i → i ≡ length qs → own ≡ Some tag → place < length ts →
+    drop place (take n ts) ≡ replicate (n - place) tag
+span-open {T} rs qs own tag place n i ts is e f all h some below =
+    let size : n ≡ length ts = length-is rs own n ts is e in
+    let k : place ≤ n = omega (arith, size, below) in
+    let l : i ≤ length qs = omega (arith, h) in
+    let m : n ≤ length ts = omega (arith, size) in
+    let q : length qs ≤ i = omega (arith, h) in
+    sym (between_is rs qs own place n n ts is e f k m) ∙ sym (between-later qs own place n i all l k)
+    ∙ ap (λ (y : List (TagRun T)). tags_between place n y own) (drop_all i qs q) ∙ ap (λ (o : Option T). copies_of o (n - place)) some
+
+closed-end : {T : Type 0} (rs : List (TagRun T)) (own : Option T) (s n place : ℕ) → AreRuns s rs own n → own ≡ None →
+    AllWithin (λ (r : TagRun T). r.end ≤ place) rs 0 (length rs) → s ≤ place → n ≤ place
+closed-end [] None s n place is e all h = omega (arith, is, h)
+closed-end [] (Some t) s n place is e all h = cc
+closed-end (r ∷ rs) own s n place is e all h =
+    let here : r.end ≤ place = all 0 r (omega arith) (omega arith) in
+    closed-end rs own r.end n place is.1 e (λ j d p q. all (suc j) d (omega arith) (omega arith)) here
+
+-- without a last run, a place has a closed one
+pub span-some : {T : Type 0} (rs qs : List (TagRun T)) (own : Option T) (place n i : ℕ) (ts : List T) → AreRuns 0 rs own n → tags_from 0 rs own n ≡ ts → qs ≡ rs →
+    AllWithin (λ (r : TagRun T). r.end ≤ place) qs 0 i → i ≡ length qs → own ≡ None → place < length ts → ⊥
+span-some {T} rs qs own place n i ts is e f all h none below =
+    let whole : AllWithin (λ (r : TagRun T). r.end ≤ place) rs 0 (length rs) =
+    subst (λ (y : List (TagRun T)). AllWithin (λ (r : TagRun T). r.end ≤ place) y 0 (length y)) f
+    (subst (λ k. AllWithin (λ (r : TagRun T). r.end ≤ place) qs 0 k) h all) in
+    let low : 0 ≤ place = omega arith in
+    omega (arith, closed-end rs own 0 n place is none whole low, length-is rs own n ts is e, below)

@@ -1,6 +1,6 @@
 //! A buffer of lines: ended lines and an open one, stored in one text.
 
-ghost use Rattle.std.specs.Prelude.{◌≡◌, ◌+◌, ◌==◌, ◌≤◌, ◌<◌, ℕ, [], ◌∷◌, ◌++◌, Some, encode_utf8, length, drop, replicate, OnOk, OnErr, IfOk};
+ghost use Rattle.std.specs.Prelude.{◌≡◌, ◌+◌, ◌==◌, ◌≤◌, ◌<◌, ℕ, [], ◌∷◌, ◌++◌, Some, encode_utf8, length, drop, replicate, reverse, OnOk, OnErr, IfOk};
 ghost use Rattle.std.specs.Bool.{OnTrue};
 ghost use Rattle.std.specs.Str.{chars, IsUtf8, IsCharBoundary};
 ghost use Rattle.std.specs.String.{string_bytes};
@@ -12,6 +12,7 @@ ghost use Rattle.html_render_layout_buffer.specs.Lines.{no_lines, all_bytes};
 use crate::ends::LineEnd;
 use crate::runs::TagRuns;
 use crate::slot::Slot;
+use html_render_layout_lines::character::width_of;
 use html_render_layout_lines::line::Element;
 use html_render_layout_lines::tag::Tag;
 use std::alloc::{AllocError, Global};
@@ -19,9 +20,13 @@ use std::marker::Model;
 
 mod append;
 mod marks;
+pub mod parts;
+mod sizes;
 mod spaces;
 mod stored;
 mod word;
+
+pub(crate) use sizes::{columns_missing, is_within};
 
 /// Ended lines and an open line, each of tagged characters and marks.
 #[derive(Drop)]
@@ -101,6 +106,12 @@ impl<T: Tag, M: Copy> LineBuffer<T, M> {
     {
         self.text.reserve(bytes)?;
         self.ends.reserve(lines)
+    }
+
+    /// Returns the allocator.
+    #[inline]
+    pub(crate) fn alloc(&self) -> Global {
+        *self.ends.allocator()
     }
 
     /// Returns the number of ended lines.
@@ -199,6 +210,36 @@ impl<T: Tag, M: Copy> LineBuffer<T, M> {
         put
     }
 
+    /// Appends a character or a mark to the open line.
+    ///
+    /// # Errors
+    ///
+    /// `AllocError`. The buffer then has no lines.
+    fn push_element(&mut self, element: Element<T, M>) -> Result<(), AllocError>
+        ensures ok { OnOk result (self.new ≡ record { lines = self.old.lines; line = self.old.line ++ element ∷ [] }) }
+        ensures err { OnErr result (self.new ≡ no_lines) }
+    {
+        match element {
+            Element::Character(c, tag) => self.push_char(c, width_of(c), tag),
+            Element::Mark(mark) => self.push_mark(mark),
+        }
+    }
+
+    /// Appends elements to the open line, the last one first.
+    ///
+    /// # Errors
+    ///
+    /// `AllocError`. The buffer then has no lines.
+    pub(crate) fn push_reversed(&mut self, elements: &[Element<T, M>]) -> Result<(), AllocError>
+        ensures ok { OnOk result (self.new ≡ record { lines = self.old.lines; line = self.old.line ++ reverse elements.now }) }
+        ensures err { OnErr result (self.new ≡ no_lines) }
+    {
+        for element in elements.iter().rev() {
+            self.push_element(*element)?;
+        }
+        Ok(())
+    }
+
     /// Appends a mark to the open line.
     ///
     /// # Errors
@@ -292,7 +333,7 @@ fn known(width: usize) -> Option<usize>
 
 /// Returns the sum of two numbers of columns. `None` if it passes a machine word.
 #[inline]
-fn counted_sum(count: Option<usize>, more: Option<usize>) -> Option<usize>
+pub(crate) fn counted_sum(count: Option<usize>, more: Option<usize>) -> Option<usize>
     ensures { (n m : ℕ) → count ≡ counted n → more ≡ counted m → result ≡ counted (n + m) }
 {
     count?.checked_add(more?)

@@ -1,8 +1,12 @@
-//! Lines of tagged characters and marks, stored together in one text.
+//! Lines in few buffers: line by line they take no memory of their own.
+//!
+//! - [`LineBuffer`](buffer::LineBuffer) holds ended lines and an open one in one text.
+//! - [`FinishedLines`](finished::FinishedLines) holds ended lines alone, in one buffer or in several.
 #![tactic(auto)]
 
 pub mod buffer;
-pub mod ends;
+mod ends;
+pub mod finished;
 pub mod prefix;
-pub mod runs;
-pub mod slot;
+mod runs;
+mod slot;

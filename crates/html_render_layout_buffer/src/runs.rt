@@ -12,11 +12,13 @@ use html_render_layout_lines::tag::Tag;
 use std::alloc::{AllocError, Global};
 use std::marker::Model;
 
-/// A closed run: equal tags.
+/// A run of equal tags.
 #[derive(Clone, Copy)]
 pub struct TagRun<T> {
-    end: usize,
-    tag: T,
+    /// Place after its last tag.
+    pub end: usize,
+    /// Tag of all places.
+    pub tag: T,
 }
 
 /// A list of tags.
@@ -136,6 +138,23 @@ impl<T: Tag> TagRuns<T> {
         }
     }
 
+    /// Returns the tag at a place, and where its run ends.
+    pub fn span_at(&self, place: usize) -> TagRun<T>
+        requires { place < length self.now }
+        ensures tags { drop place (take result.end self.now) ≡ replicate (result.end - place) result.tag }
+        ensures after { place < result.end }
+        ensures within { result.end ≤ length self.now }
+    {
+        let runs = self.closed.as_slice();
+        match runs.get(first_after(runs, place)) {
+            Some(run) => *run,
+            None => match self.tag {
+                Some(tag) => TagRun { end: self.len, tag },
+                None => unreachable!(),
+            },
+        }
+    }
+
     /// Appends another list's tags from the place `from` to the place `to`.
     ///
     /// # Errors
@@ -164,6 +183,7 @@ fn first_after<T>(runs: &[TagRun<T>], place: usize) -> usize
     requires { IsNonDecreasingBy (λ (r : TagRun T). r.end) runs.now }
     ensures bound { result ≤ length runs.now }
     ensures ended { AllWithin (λ (r : TagRun T). r.end ≤ place) runs.now 0 result }
+    ensures later { AllWithin (λ (r : TagRun T). place < r.end) runs.now result (length runs.now) }
 {
     runs.partition_point(|run| run.end <= place)
 }

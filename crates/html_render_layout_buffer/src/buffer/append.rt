@@ -5,7 +5,8 @@ ghost use Rattle.std.specs.List.{All, slice_index_or};
 ghost use Rattle.std.specs.Str.{chars, IsUtf8};
 ghost use Rattle.std.specs.String.{string_bytes};
 ghost use Rattle.html_render_layout_lines.specs.TaggedText.{under};
-ghost use Rattle.html_render_layout_buffer.specs.Lines.{no_lines, after_prefixes};
+ghost use Rattle.html_render_layout_buffer.specs.Lines.{no_lines};
+ghost use Rattle.html_render_layout_buffer.specs.Prefixed.{prefixed};
 ghost use Rattle.html_render_layout_buffer.specs.Moved.{moved};
 
 use super::stored::{StoredLine, put_line};
@@ -142,22 +143,27 @@ impl<T: Tag, M: Copy> LineBuffer<T, M> {
         reserved
     }
 
-    /// Appends copies of another buffer's ended lines from line 1 on, each after a prefix.
-    fn append_later(
+    /// Appends copies of another buffer's ended lines from line `from` on, each after a prefix.
+    ///
+    /// # Errors
+    ///
+    /// `AllocError`. The buffer then has no lines.
+    pub(crate) fn append_each_behind(
         &mut self,
         other: &LineBuffer<T, M>,
-        later: &Prefix<'_, T>,
+        from: usize,
+        prefix: &Prefix<'_, T>,
     ) -> Result<(), AllocError>
-        requires some { 0 < length other.now.lines }
+        requires within { from ≤ length other.now.lines }
         requires open { self.old.line ≡ [] }
         ensures ok { OnOk result (self.new ≡ record {
-          lines = self.old.lines ++ map (λ l. under later.now.tag (chars later.now.text.now) ++ l) (drop 1 other.now.lines);
+          lines = self.old.lines ++ map (λ l. under prefix.now.tag (chars prefix.now.text.now) ++ l) (drop from other.now.lines);
           line = [];
         }) }
         ensures err { OnErr result (self.new ≡ no_lines) }
     {
-        for n in 1..other.line_count() {
-            self.append_line_after(later, other, n)?;
+        for n in from..other.line_count() {
+            self.append_line_after(prefix, other, n)?;
         }
         Ok(())
     }
@@ -199,7 +205,7 @@ impl<T: Tag, M: Copy> LineBuffer<T, M> {
     ) -> Result<(), AllocError>
         requires { 0 < length other.now.lines }
         ensures ok { OnOk result (self.new ≡ record {
-          lines = self.old.lines ++ after_prefixes (self.old.line ++ under first.now.tag (chars first.now.text.now))
+          lines = self.old.lines ++ prefixed (self.old.line ++ under first.now.tag (chars first.now.text.now))
               (under later.now.tag (chars later.now.text.now)) other.now.lines;
           line = [];
         }) }
@@ -210,7 +216,7 @@ impl<T: Tag, M: Copy> LineBuffer<T, M> {
         let bytes = other.text.as_str().len().saturating_add(prefixes);
         self.reserve_or_clear(bytes.saturating_add(first.text.len()), lines)?;
         self.append_line_after(first, other, 0)?;
-        self.append_later(other, later)?;
+        self.append_each_behind(other, 1, later)?;
         Ok(())
     }
 }

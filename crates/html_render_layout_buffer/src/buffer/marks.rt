@@ -3,7 +3,8 @@
 ghost use Rattle.std.specs.Prelude.{◌≡◌, ◌+◌, ◌-◌, ◌<◌, [], ◌∷◌, ◌++◌, drop, take, length, OnOk, OnErr};
 ghost use Rattle.std.specs.String.{string_bytes};
 ghost use Rattle.html_render_layout_buffer.specs.Fields.{IsTextPlace};
-ghost use Rattle.html_render_layout_buffer.specs.Lines.{no_lines, marks_first, marks_last};
+ghost use Rattle.html_render_layout_buffer.specs.Lines.{no_lines};
+ghost use Rattle.html_render_layout_buffer.specs.Marked.{marked_before, marked_behind};
 
 use super::LineBuffer;
 use crate::ends::{LineEnd, LinePlace, columns_at, place_of};
@@ -32,7 +33,7 @@ impl<T: Tag, M: Copy> LineBuffer<T, M> {
     fn mark_line(&mut self, marks: &[M]) -> Result<(), AllocError>
         requires open { self.old.line ≡ [] }
         requires some { 0 < length self.old.lines }
-        ensures ok { OnOk result (self.new ≡ record { lines = marks_last marks.now self.old.lines; line = [] }) }
+        ensures ok { OnOk result (self.new ≡ record { lines = marked_behind marks.now self.old.lines; line = [] }) }
         ensures err { OnErr result (self.new ≡ no_lines) }
     {
         self.reopen();
@@ -49,7 +50,7 @@ impl<T: Tag, M: Copy> LineBuffer<T, M> {
     #[tactic(auto, using(crate::proofs::Growing::no_marks))]
     pub fn mark_last(&mut self, marks: &[M]) -> Result<(), AllocError>
         requires { self.old.line ≡ [] }
-        ensures ok { OnOk result (self.new ≡ record { lines = marks_last marks.now self.old.lines; line = [] }) }
+        ensures ok { OnOk result (self.new ≡ record { lines = marked_behind marks.now self.old.lines; line = [] }) }
         ensures err { OnErr result (self.new ≡ no_lines) }
     {
         if self.line_count() == 0 {
@@ -59,7 +60,7 @@ impl<T: Tag, M: Copy> LineBuffer<T, M> {
     }
 
     /// Appends copies of another buffer's ended lines from line 1 on.
-    fn append_rest(&mut self, other: &LineBuffer<T, M>) -> Result<(), AllocError>
+    pub(crate) fn append_rest(&mut self, other: &LineBuffer<T, M>) -> Result<(), AllocError>
         requires some { 0 < length other.now.lines }
         requires open { self.old.line ≡ [] }
         ensures { OnOk result (self.new ≡ record { lines = self.old.lines ++ drop 1 other.now.lines; line = [] }) }
@@ -75,7 +76,7 @@ impl<T: Tag, M: Copy> LineBuffer<T, M> {
     fn append_marked(&mut self, marks: &[M], other: &LineBuffer<T, M>) -> Result<(), AllocError>
         requires some { 0 < length other.now.lines }
         requires open { self.old ≡ no_lines }
-        ensures { OnOk result (self.new ≡ record { lines = marks_first marks.now other.now.lines; line = [] }) }
+        ensures { OnOk result (self.new ≡ record { lines = marked_before marks.now other.now.lines; line = [] }) }
     {
         self.push_marks(marks)?;
         self.append_line(other, 0)?;
@@ -94,7 +95,7 @@ impl<T: Tag, M: Copy> LineBuffer<T, M> {
     #[tactic(auto, using(crate::proofs::Growing::no_marks))]
     pub fn mark_first(&mut self, marks: &[M]) -> Result<(), AllocError>
         requires { self.old.line ≡ [] }
-        ensures ok { OnOk result (self.new ≡ record { lines = marks_first marks.now self.old.lines; line = [] }) }
+        ensures ok { OnOk result (self.new ≡ record { lines = marked_before marks.now self.old.lines; line = [] }) }
         ensures err { OnErr result (self.new ≡ self.old) }
     {
         if self.line_count() == 0 {

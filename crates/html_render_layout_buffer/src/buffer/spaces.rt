@@ -1,13 +1,14 @@
 //! Spaces: those that fill lines, and those to a tab stop.
 
-ghost use Rattle.std.specs.Prelude.{◌≡◌, ◌+◌, ◌-◌, ◌%◌, ◌≤◌, ◌<◌, ℕ, [], ◌∷◌, ◌++◌, length, replicate, OnOk, OnErr};
+ghost use Rattle.std.specs.Prelude.{◌≡◌, ◌+◌, ◌-◌, ◌%◌, ◌≤◌, ◌<◌, ℕ, [], ◌∷◌, ◌++◌, Some, length, replicate, OnOk, OnErr};
 ghost use Rattle.std.specs.List.{slice_index_or};
 ghost use Rattle.std.specs.Str.{chars};
 ghost use Rattle.html_render_layout_lines.specs.Line.{columns};
 ghost use Rattle.html_render_layout_lines.specs.TaggedText.{counted, text_columns};
-ghost use Rattle.html_render_layout_buffer.specs.Lines.{no_lines, with_spaces, filled_line, filled_lines};
+ghost use Rattle.html_render_layout_buffer.specs.Lines.{no_lines, with_spaces};
+ghost use Rattle.html_render_layout_buffer.specs.Padding.{filled_line, filled};
 
-use super::LineBuffer;
+use super::{LineBuffer, columns_missing};
 use html_render_layout_lines::character::width_of;
 use html_render_layout_lines::tag::Tag;
 use std::alloc::AllocError;
@@ -91,7 +92,7 @@ impl<T: Tag, M: Copy> LineBuffer<T, M> {
         }) }
         ensures err { OnErr result (self.new ≡ no_lines) }
     {
-        let missing = missing(other.line_columns(n), width);
+        let missing = columns_missing(other.line_columns(n), width);
         self.append_line(other, n)?;
         self.push_spaces(missing, tag)?;
         self.end_line()?;
@@ -110,7 +111,7 @@ impl<T: Tag, M: Copy> LineBuffer<T, M> {
         tag: T,
     ) -> Result<(), AllocError>
         requires { self.old.line ≡ [] }
-        ensures ok { OnOk result (self.new ≡ record { lines = self.old.lines ++ filled_lines tag width other.now.lines; line = [] }) }
+        ensures ok { OnOk result (self.new ≡ record { lines = self.old.lines ++ filled (Some tag) width other.now.lines; line = [] }) }
         ensures err { OnErr result (self.new ≡ no_lines) }
     {
         for n in 0..other.line_count() {
@@ -119,17 +120,20 @@ impl<T: Tag, M: Copy> LineBuffer<T, M> {
         Ok(())
     }
 
-    /// Fills each ended line with spaces up to `width` columns, under a tag.
+    /// Fills each ended line with spaces up to `width` columns, under a tag. Does nothing where each has as many.
     ///
     /// # Errors
     ///
     /// `AllocError`. The lines are then unchanged.
     pub fn fill(&mut self, width: usize, tag: T) -> Result<(), AllocError>
         requires { self.old.line ≡ [] }
-        ensures ok { OnOk result (self.new ≡ record { lines = filled_lines tag width self.old.lines; line = [] }) }
+        ensures ok { OnOk result (self.new ≡ record { lines = filled (Some tag) width self.old.lines; line = [] }) }
         ensures err { OnErr result (self.new ≡ self.old) }
     {
-        let mut filled = LineBuffer::new(*self.ends.allocator());
+        if self.least_columns() >= width {
+            return Ok(());
+        }
+        let mut filled = LineBuffer::new(self.alloc());
         filled.append_filled(self, width, tag)?;
         mem::swap(self, &mut filled);
         Ok(())
@@ -143,17 +147,6 @@ fn few_spaces(text: &'static str, count: usize) -> &'static str
     ensures { chars result.now ≡ replicate count 32 }
 {
     &text[..count]
-}
-
-/// Returns how many columns a line has less than `width`.
-#[inline]
-fn missing(count: Option<usize>, width: usize) -> usize
-    ensures { (n : ℕ) → count ≡ counted n → result ≡ width - n }
-{
-    match count {
-        Some(columns) => width.saturating_sub(columns),
-        None => 0,
-    }
 }
 
 /// Returns how many columns a text ends past a multiple of 8.

@@ -1,5 +1,5 @@
 use Rattle.std.proofs.Common.{◌<◌, length, arith}
-use Rattle.html_render_layout_buffer.specs.Lines.{filled_line}
+use Rattle.html_render_layout_buffer.specs.Padding.{filled_line}
 use Rattle.html_render_layout_buffer.proofs.Growing.{one-more}
 use Rattle.html_render_layout_buffer.proofs.buffer.LineBuffer.append_filled.Goals as goal
 

@@ -1,0 +1,15 @@
+use Rattle.std.proofs.Common.{◌≡◌, [], ◌++◌, map, length}
+use Rattle.std.specs.Str.{chars}
+use Rattle.html_render_layout_lines.specs.TaggedText.{under}
+use Rattle.html_render_layout_buffer.proofs.finished.FinishedLines.push_rest_behind.Given as goal
+
+-- the lines so far, and those that are left behind the prefix
+abbrev pub invariant-loop-piece : goal.invariant-loop-piece
+invariant-loop-piece g l = record {
+  lines : l.self ++ map (λ y. under l.prefix.tag (chars l.prefix.text.now) ++ y) (l.other-inside.pieces ++ l.other-inside.last.lines)
+      ≡ l.initial.self ++ map (λ y. under l.prefix.tag (chars l.prefix.text.now) ++ y) l.fn.other;
+  closed : l.other-inside.last.line ≡ [];
+}
+
+abbrev pub decreases-loop-piece : goal.decreases-loop-piece
+decreases-loop-piece g l = length l.other-inside.pieces

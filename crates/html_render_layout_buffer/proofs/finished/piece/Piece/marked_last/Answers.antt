@@ -1,0 +1,12 @@
+use Rattle.std.proofs.Common.{reverse, ap, ◌∙◌}
+use Rattle.html_render_layout_buffer.specs.Marked.{marked_behind}
+use Rattle.html_render_layout_buffer.specs.Pieces.{with_front}
+use Rattle.html_render_layout_buffer.proofs.PieceLines.{front-marked}
+use Rattle.html_render_layout_buffer.proofs.finished.piece.Piece.marked_last.Goals as goal
+
+pub returns : goal.returns
+returns g c =
+    let ms = c.args.marks.now in
+    let front = reverse c.self.inside.front.items in
+    ap (λ q. with_front front q.lines) c.in_ok-mark_last.ensures.ok ∙ front-marked front ms c.self.inside.lines.lines
+    ∙ ap (λ y. marked_behind ms y) c.self.view_is

@@ -1,0 +1,139 @@
+//! Finished lines behind prefixes.
+
+ghost use Rattle.std.specs.Prelude.{◌≡◌, ◌==◌, ◌<◌, ◌++◌, [], ◌∷◌, length, map, OnOk};
+ghost use Rattle.std.specs.List.{slice_index_or};
+ghost use Rattle.std.specs.Str.{chars};
+ghost use Rattle.html_render_layout_lines.specs.Line.{marks_line};
+ghost use Rattle.html_render_layout_lines.specs.TaggedText.{under};
+ghost use Rattle.html_render_layout_buffer.specs.Prefixed.{prefixed};
+
+use super::piece::{LONG, Piece};
+use super::{FinishedLines, settle};
+use crate::buffer::LineBuffer;
+use crate::prefix::Prefix;
+use html_render_layout_lines::tag::Tag;
+use std::alloc::AllocError;
+use std::mem;
+
+impl<T: Tag, M: Copy> FinishedLines<T, M> {
+    /// Appends a copy of a buffer's ended line `n`.
+    fn push_copy(&mut self, lines: &LineBuffer<T, M>, n: usize) -> Result<(), AllocError>
+        requires { n < length lines.now.lines }
+        ensures { OnOk result (self.new ≡ self.old ++ slice_index_or lines.now.lines n [] ∷ []) }
+    {
+        if lines.line_bytes(n) <= LONG {
+            self.last.append_line(lines, n)?;
+            self.last.end_line()?;
+            return Ok(());
+        }
+        settle(&mut self.pieces, &mut self.last)?;
+        let mut line = LineBuffer::new(lines.alloc());
+        line.append_line(lines, n)?;
+        line.end_line()?;
+        self.pieces.push(Piece::new(line))?;
+        Ok(())
+    }
+
+    /// Makes each long line of the last lines a piece of its own.
+    pub(super) fn separate(&mut self) -> Result<(), AllocError>
+        ensures { OnOk result (self.new ≡ self.old) }
+    {
+        if !self.last.has_longer_line(LONG) {
+            return Ok(());
+        }
+        let none = LineBuffer::new(self.last.alloc());
+        let lines = mem::replace(&mut self.last, none);
+        self.push_copies(&lines)
+    }
+
+    /// Appends copies of a buffer's ended lines.
+    fn push_copies(&mut self, lines: &LineBuffer<T, M>) -> Result<(), AllocError>
+        ensures { OnOk result (self.new ≡ self.old ++ lines.now.lines) }
+    {
+        for n in 0..lines.line_count() {
+            self.push_copy(lines, n)?;
+        }
+        Ok(())
+    }
+
+    /// Appends the lines of a piece, the first after marks and the prefix `first` and each other one after the prefix
+    /// `later`.
+    fn push_first_behind(
+        &mut self,
+        piece: Piece<T, M>,
+        marks: &[M],
+        first: &Prefix<'_, T>,
+        later: &Prefix<'_, T>,
+    ) -> Result<(), AllocError>
+        ensures { OnOk result (self.new ≡ self.old ++ prefixed (marks_line marks.now ++ under first.now.tag (chars first.now.text.now))
+            (under later.now.tag (chars later.now.text.now)) piece) }
+    {
+        if piece.is_long() {
+            let piece = piece.with_prefix(first)?;
+            settle(&mut self.pieces, &mut self.last)?;
+            return self.pieces.push(piece.marked_first(marks)?);
+        }
+        let lines = piece.into_buffer()?;
+        self.last.push_marks(marks)?;
+        self.last.append_behind(&lines, first, later)?;
+        Ok(())
+    }
+
+    /// Appends the lines of a piece, each after a prefix.
+    fn push_behind(&mut self, piece: Piece<T, M>, prefix: &Prefix<'_, T>) -> Result<(), AllocError>
+        ensures { OnOk result (self.new ≡ self.old ++ map (λ l. under prefix.now.tag (chars prefix.now.text.now) ++ l) piece) }
+    {
+        if piece.is_long() {
+            settle(&mut self.pieces, &mut self.last)?;
+            return self.pieces.push(piece.with_prefix(prefix)?);
+        }
+        let lines = piece.into_buffer()?;
+        self.last.append_each_behind(&lines, 0, prefix)?;
+        Ok(())
+    }
+
+    /// Moves other lines to the end, each after a prefix.
+    fn push_rest_behind(
+        &mut self,
+        other: &mut FinishedLines<T, M>,
+        prefix: &Prefix<'_, T>,
+    ) -> Result<(), AllocError>
+        ensures { OnOk result (self.new ≡ self.old ++ map (λ l. under prefix.now.tag (chars prefix.now.text.now) ++ l) other.old) }
+    {
+        while let Some(piece) = other.pieces.pop_first() {
+            self.push_behind(piece, prefix)?;
+        }
+        self.last.append_each_behind(&other.last, 0, prefix)?;
+        Ok(())
+    }
+
+    /// Moves other lines to the end: the first after marks and the prefix `first`, and each other one after the prefix `later`.
+    ///
+    /// # Errors
+    ///
+    /// `AllocError`. Lines may be lost.
+    pub fn append_behind(
+        &mut self,
+        other: &mut FinishedLines<T, M>,
+        marks: &[M],
+        first: &Prefix<'_, T>,
+        later: &Prefix<'_, T>,
+    ) -> Result<(), AllocError>
+        requires { 0 < length other.old }
+        ensures { OnOk result (self.new ≡ self.old ++ prefixed (marks_line marks.now ++ under first.now.tag (chars first.now.text.now))
+            (under later.now.tag (chars later.now.text.now)) other.old) }
+    {
+        other.separate()?;
+        match other.pieces.pop_first() {
+            Some(piece) => {
+                self.push_first_behind(piece, marks, first, later)?;
+                self.push_rest_behind(other, later)
+            }
+            None => {
+                self.last.push_marks(marks)?;
+                self.last.append_behind(&other.last, first, later)?;
+                Ok(())
+            }
+        }
+    }
+}
