@@ -194,31 +194,31 @@ module _ (e : Element) (p : OpenElement) (ps : List OpenElement) (rs : List Resu
       by (Some t) None = refl
       by (Some t) (Some u) = refl
 
-  rows-left : (behind : Bool) (i : Insertion) (g : Option Insertion) (q : OpenElement) →
-      closed (all_come rs (carrier (open_kind.Rows behind []) (without_style Container) e i g) ∷ (q ∷ ps))
+  rows-left : (i : Insertion) (g : Option Insertion) (q : OpenElement) →
+      closed (all_come rs (carrier (open_kind.Rows []) (without_style Container) e i g) ∷ (q ∷ ps))
       ≡ Some (received_any (if vanishes e.if_empty (is_filled rs) then mark_left e.texts.mark
-      else Some (closed_result (record (rows_over behind (members row_of rs)) { below = option_map (filled 2 i) (beside (members row_of rs)) })))
+      else Some (closed_result (record (rows_over (members row_of rs)) { below = option_map (filled 2 i) (beside (members row_of rs)) })))
       (with_given (if is_filled (members row_of rs) then None else g) q) ∷ ps)
-  rows-left behind i g q =
+  rows-left i g q =
       ap (λ x. closed (x ∷ (q ∷ ps)))
-      (members-come (open_kind.Rows behind) row_of 1 (λ g. None) (λ s x r. rows-one behind s x.role x r) (λ g. refl) rs []
-      (carrier (open_kind.Rows behind []) (without_style Container) e i g))
+      (members-come (open_kind.Rows) row_of 1 (λ g. None) (λ s x r. rows-one s x.role x r) (λ g. refl) rs []
+      (carrier (open_kind.Rows []) (without_style Container) e i g))
       ∙ simp (nil-appended, map-map)
 
-  given-back : (b : Bool) → with_given (if b then None else Some p.due) (without_due p) ≡ record p { due = if b then nothing else p.due }
-  given-back true = refl
-  given-back false = refl
+  given-back : is_table p.kind ≡ true → (b : Bool) → with_given (if b then None else Some p.due) (without_due p) ≡ record p { due = if b then nothing else p.due }
+  given-back h true = refl
+  given-back h false = rw h
 
-  rows-close : (behind b : Bool) → is_table p.kind ≡ b → (k : ElementKind) → level_in k (inserts e) false ≡ Some 2 →
-      closed_over rs (begun_rows behind b (of_kind e k) p ++ ps)
-      ≡ Some (comes_any (left_of (of_kind e k) (vanishes e.if_empty (is_filled rs)) false (rows_over behind (members row_of rs))) p ∷ ps)
-  rows-close behind true h k two =
-      rows-left behind (within p.due (insertion_of e)) (Some p.due) (without_due p)
-      ∙ ap (λ x. Some (x ∷ ps)) (left-comes (of_kind e k) _ false _ (rows_over behind (members row_of rs)) p
-      (with_given (if is_filled (members row_of rs) then None else Some p.due) (without_due p)) (λ v. rw (vanish-empty e.if_empty rs v)) (rw (two, h) (simp (filled-twice, take-filled (insertion_of e) (members row_of rs), given-back))))
-  rows-close behind false h k two =
-      rows-left behind (insertion_of e) None p
-      ∙ ap (λ x. Some (x ∷ ps)) (left-comes (of_kind e k) _ false _ (rows_over behind (members row_of rs)) p
+  rows-close : (b : Bool) → is_table p.kind ≡ b → (k : ElementKind) → level_in k (inserts e) false ≡ Some 2 →
+      closed_over rs (begun_rows b (of_kind e k) p ++ ps)
+      ≡ Some (comes_any (left_of (of_kind e k) (vanishes e.if_empty (is_filled rs)) false (rows_over (members row_of rs))) p ∷ ps)
+  rows-close true h k two =
+      rows-left (within p.due (insertion_of e)) (Some p.due) (without_due p)
+      ∙ ap (λ x. Some (x ∷ ps)) (left-comes (of_kind e k) _ false _ (rows_over (members row_of rs)) p
+      (with_given (if is_filled (members row_of rs) then None else Some p.due) (without_due p)) (λ v. rw (vanish-empty e.if_empty rs v, h)) (rw (two, h) (simp (filled-twice, take-filled (insertion_of e) (members row_of rs), given-back h))))
+  rows-close false h k two =
+      rows-left (insertion_of e) None p
+      ∙ ap (λ x. Some (x ∷ ps)) (left-comes (of_kind e k) _ false _ (rows_over (members row_of rs)) p
       (with_given (if is_filled (members row_of rs) then None else None) p) (λ v. simp if-same) (rw (two, h) (simp if-same)))
 
   -- ---- an element of any kind but a table
@@ -231,8 +231,8 @@ module _ (e : Element) (p : OpenElement) (ps : List OpenElement) (rs : List Resu
   pub closes : (k : ElementKind) → is_table_kind k ≡ false → closed_over rs (begun k (of_kind e k) p ++ ps) ≡ after_result p ps (made (of_kind e k) [] rs)
   closes (element.Node kind) h = node-closes kind (not (inserts e) || holds_insertions kind) refl
   closes (element.Part part.Table) h = cc
-  closes (element.Part part.Body) h = rows-close false (is_table p.kind) refl (element.Part part.Body) refl
-  closes (element.Part part.Foot) h = rows-close true (is_table p.kind) refl (element.Part part.Foot) refl
+  closes (element.Part part.Body) h = rows-close (is_table p.kind) refl (element.Part part.Body) refl
+  closes (element.Part part.Foot) h = rows-close (is_table p.kind) refl (element.Part part.Foot) refl
   closes (element.Part part.Row) h = row-closes (is_rows p.kind) refl
   closes (element.Part (part.Cell span)) h = cell-closes span (is_row p.kind) refl
   closes (element.Part part.Caption) h = caption-closes

@@ -1,236 +1,255 @@
 -- What elements leave in their parents, as code closes them; and the innermost open element closes in that outside it.
-use Rattle.std.proofs.Common.{◌≡◌, ℕ, Bool, true, false, ◌||◌, if◌then◌else◌, Option, Some, None, option_map, List, [], ◌∷◌, ◌++◌, refl, ap, subst, ◌∙◌, append-nil, ◌+◌, ◌<◌, ◌≤◌, length, take, get_or, set, reverse, sym, arith}
+use Rattle.std.proofs.Common.{◌≡◌, ℕ, Bool, true, false, ◌||◌, if◌then◌else◌, Option, Some, None, option_map, List, [], ◌∷◌, ◌++◌, refl, ap, subst, ◌∙◌, append_assoc, ◌+◌, ◌<◌, ◌≤◌, length, take, drop, get_or, set, reverse, sym, arith, take_at, drop_at}
 use Rattle.std.proofs.Math.Bool.{or-false, or-true}
 use Rattle.std.specs.Prelude.{Result, OnOk, IfErr}
 use Rattle.std.proofs.lemmas.Result.{IfOk-weaker, IfErr-weaker}
 use Rattle.html_render_dom_values.specs.declared.errors.Error.{Error}
 use Rattle.html_render_layout_nodes.specs.declared.tree.Entry.{Entry}
-use Rattle.html_render_layout_nodes.specs.declared.tree.NodeKind.TheVariants.{Table}
+use Rattle.html_render_layout_nodes.specs.declared.tree.NodeKind.TheVariants.{Container, Table}
 use Rattle.html_render_layout_nodes.specs.declared.tree.RenderNode.{RenderNode}
 use Rattle.html_render_layout_nodes.specs.Tables.{TableParts}
 use Rattle.html_render_tree_mapping.specs.Conversion.{vanishes}
 use Rattle.html_render_tree_mapping.specs.Results.{Role}
 use Rattle.html_render_tree_mapping.specs.Results as results
-use Rattle.html_render_tree_convert.specs.Closing.{ClosesInto, ClosesStanding, Gridded, PutsMark, Stands, are_rows, closed_entries, closed_with, is_completed, is_parts, role_left, with_given_of, without_given, ClosedIn, ClosesLast, FailsToClose}
-use Rattle.html_render_tree_convert.specs.Held.{due_of}
-use Rattle.html_render_tree_convert.specs.Levels.{added, dropped}
-use Rattle.html_render_tree_convert.specs.OpenElements.{leaves, Insertion, OpenElement}
-use Rattle.html_render_tree_convert.specs.Seen.{Holds, element_seen, has_entry, is_root, AllHold, seen}
-use Rattle.html_render_tree_convert.specs.Steps.{Closed, closed_node, left_by, mark_left, received, received_any, unless_vanished, with_given, closed_once, is_table}
+use Rattle.html_render_tree_convert.specs.Closing.{ClosedIn, ClosesInto, ClosesLast, ClosesNode, ClosesStanding, FailsToClose, Gridded, are_rows, closed_entries, closed_with, gives_to, is_completed, is_parts, role_left, with_given_of, without_given}
+use Rattle.html_render_tree_convert.specs.Held.{Held, due_of}
+use Rattle.html_render_tree_convert.specs.OpenElements.{OpenElement, leaves, nothing, sized}
+use Rattle.html_render_tree_convert.specs.Opening.{Becomes}
+use Rattle.html_render_tree_convert.specs.Seen.{Holds, IsSound, Level, element_seen, given_in, is_none, is_root, seen}
+use Rattle.html_render_tree_convert.specs.Steps.{Closed, closed_node, closed_once, left_by, mark_left, received, received_any, unless_vanished, with_given}
 use Rattle.html_render_tree_convert.specs.declared.elements.Open.{Open}
 use Rattle.html_render_tree_convert.specs.declared.elements.OpenKind.{OpenKind}
 use Rattle.html_render_tree_convert.specs.declared.elements.OpenKind.TheVariants.{Root, Parts, Rows, Row}
 use Rattle.std.proofs.lemmas.List.{reverse-append, length-reverse}
+use Rattle.std.proofs.Math.Seq.{get_or_at}
 use Rattle.html_render_dom_values.specs.declared.errors.Error.TheVariants.{TooNarrow, Fail, OutOfMemory}
 use Rattle.html_render_parts.specs.Refusal.{Fails}
-use Rattle.html_render_tree_convert.specs.Opening.{AllGiveTo, AllMayGive, GivesTo, IsSound, MayGive}
-use Rattle.html_render_tree_convert.proofs.SeenLemmas.{Entries, Levels, Holds-root, received-gives, received-gives_to}
+use Rattle.html_render_tree_convert.proofs.Entries.{Entries}
+use Rattle.html_render_tree_convert.proofs.Receiving.{result_seen}
+use Rattle.html_render_tree_convert.proofs.SeenLemmas.{becomes-given, received-level, sound-level}
 use Rattle.html_render_tree_convert.proofs.Stacks.{last-set, last-split}
 
--- ---- an element that doesn't vanish
+-- ---- an element with a node of its own that doesn't vanish
 
 completed-same : (r : Role) (e : Entry RenderNode) (es back : Entries) (has_children is_stray : Bool) →
-    closed_entries true r (has_children || false) is_stray ((e ∷ es) ++ back)
+    closed_entries r (has_children || false) is_stray e (es ++ back)
     ≡ closed_node r e.node has_children (option_map (λ l. l ++ back) (if is_stray then None else Some es))
 completed-same r e es back has_children true = simp or-false
 completed-same r e es back has_children false = simp or-false
 
 node-same : (r : Role) (e : Entry RenderNode) (es : Entries) (has_children is_stray : Bool) →
-    closed_entries true r has_children is_stray (e ∷ es) ≡ closed_node r e.node has_children (if is_stray then None else Some es)
+    closed_entries r has_children is_stray e es ≡ closed_node r e.node has_children (if is_stray then None else Some es)
 node-same r e es has_children true = refl
 node-same r e es has_children false = refl
 
--- levels once an element has written what is due after its children
-abbrev pub completed_levels : Open → Levels → Levels
-completed_levels o levels = if is_completed o.kind then added (leaves (due_of o.due).back) levels else levels
+-- entries once an element of a kind has written what is due after its children
+abbrev pub completed : OpenKind → Open → Entries → Entries
+completed k o es = if is_completed k then es ++ leaves (due_of o.due).back else es
 
-module _ (P : Closed → Type 0) (rest : Levels) where
-  abbrev AsNode : (r : Role) (has_children is_stray : Bool) (levels : Levels) → Type 0
-  AsNode r has_children is_stray levels =
-      (own : Entry RenderNode) (inside : Entries) → levels ≡ (own ∷ inside) ∷ rest → P (closed_entries true r has_children is_stray (own ∷ inside))
+completed-after : (k : OpenKind) (o : Open) (before own : Entries) → completed k o (before ++ own) ≡ before ++ completed k o own
+completed-after k o before own = by (is_completed k)
+  where
+    by : (b : Bool) → (let l : Entries = if b then (before ++ own) ++ leaves (due_of o.due).back else before ++ own in l)
+        ≡ before ++ (if b then own ++ leaves (due_of o.due).back else own)
+    by true = append_assoc before own (leaves (due_of o.due).back)
+    by false = refl
 
-  abbrev AsRows : (r : Role) (has_children is_stray : Bool) (levels : Levels) → Type 0
-  AsRows r has_children is_stray levels = (top : Entries) → levels ≡ top ∷ rest → P (closed_entries false r has_children is_stray top)
+-- what is closed of an element of a kind
+record AsClosed (k : OpenKind) (o : Open) (own : Entries) : Type 0 where
+  first : Entry RenderNode
+  others : Entries
+  entries_are : completed k o own ≡ first ∷ others
+  closed_is : closed_entries (role_left k) (o.has_children || is_parts k) o.is_stray first others
+      ≡ closed_with (element_seen (record o { kind = k }) own).kind (element_seen (record o { kind = k }) own)
 
-  node-by : (k : OpenKind) (o : Open) (top : Entries) → has_entry k ≡ true → Holds k top →
-      AsNode (role_left k) (o.has_children || is_parts k) o.is_stray (completed_levels (record o { kind = k }) (top ∷ rest)) →
-      P (closed_with (element_seen (record o { kind = k }) top).kind (element_seen (record o { kind = k }) top))
-  node-by Root o top e h f = cc
-  node-by (Rows behind rows) o top e h f = cc
-  node-by (Parts spans) o [] e h f = absurd h
-  node-by (Parts spans) o (x ∷ xs) e h f =
-      subst P (node-same results.Contents x xs true o.is_stray) (rw or-true at (f x xs refl))
-  node-by (Row cells) o [] e h f = absurd h
-  node-by (Row cells) o (x ∷ xs) e h f = subst P (node-same (results.Row cells) x xs o.has_children o.is_stray) (rw or-false at (f x xs refl))
-  node-by k o [] e h f = absurd h
-  node-by k o (x ∷ xs) e h f =
-      subst P (completed-same (role_left k) x xs (leaves (due_of o.due).back) o.has_children o.is_stray) (f x (xs ++ leaves (due_of o.due).back) refl)
+as-closed : (k : OpenKind) (o : Open) (own : Entries) → is_root k ≡ false → are_rows k ≡ false → Holds k own → AsClosed k o own
+as-closed Root o own root rows h = cc
+as-closed (Rows l) o own root rows h = cc
+as-closed k o [] root rows h = absurd h
+as-closed (Parts spans) o (x ∷ xs) root rows h =
+    record { first = x; others = xs; entries_are = refl; closed_is = simp or-true (node-same results.Contents x xs true o.is_stray) }
+as-closed (Row cells) o (x ∷ xs) root rows h =
+    record { first = x; others = xs; entries_are = refl; closed_is = simp or-false (node-same (results.Row cells) x xs o.has_children o.is_stray) }
+as-closed k o (x ∷ xs) root rows h = record {
+  first = x;
+  others = xs ++ leaves (due_of o.due).back;
+  entries_are = refl;
+  closed_is = completed-same (role_left k) x xs (leaves (due_of o.due).back) o.has_children o.is_stray;
+}
 
-  rows-by : (k : OpenKind) (o : Open) (top : Entries) → has_entry k ≡ false → is_root k ≡ false →
-      AsRows (role_left k) (o.has_children || is_parts k) o.is_stray (completed_levels (record o { kind = k }) (top ∷ rest)) →
-      P (closed_with (element_seen (record o { kind = k }) top).kind (element_seen (record o { kind = k }) top))
-  rows-by (Rows behind rows) o top e h f = rw or-false at (f top refl)
-  rows-by k o top e h f = cc
+pub node-standing : (o parent new : Open) (old written after : Entries) (r : Role) (has_children : Bool) (result : Result (Unit {0}) Error) →
+    are_rows o.kind ≡ false → written ≡ completed o.kind o old → r ≡ role_left o.kind → has_children ≡ (o.has_children || is_parts o.kind) →
+    OnOk result (ClosesNode r has_children o.is_stray o.start parent written new after) → OnOk result (ClosesStanding o parent old new after)
+node-standing o parent new old written after r has_children result rows done is_role is_filled =
+    IfOk-weaker result (λ _. ClosesNode r has_children o.is_stray o.start parent written new after) (λ _. ClosesStanding o parent old new after)
+    (λ _ closes is_outermost before below p q l m.
+    let a = as-closed o.kind o l.own l.root rows l.holds in
+    let c : closed_entries r has_children o.is_stray a.first a.others ≡ closed_with p.kind p =
+    ap (λ b. closed_entries r b o.is_stray a.first a.others) is_filled
+    ∙ ap (λ x. closed_entries x (o.has_children || is_parts o.kind) o.is_stray a.first a.others) is_role
+    ∙ a.closed_is ∙ ap (λ (x : OpenElement). closed_with x.kind x) l.is_seen in
+    let entries : written ≡ before ++ a.first ∷ a.others =
+    done ∙ ap (completed o.kind o) l.entries_are ∙ completed-after o.kind o before l.own ∙ ap (λ x. before ++ x) a.entries_are in
+    subst (λ x. Level new is_outermost below after (received x q)) c (closes is_outermost before below a.first a.others q entries l.start_is m))
 
-  -- what is closed of an element with a node of its own
-  node-closed : (o : Open) (top : Entries) (old levels : Levels) (r : Role) (has_children : Bool) →
-      levels ≡ completed_levels o old → r ≡ role_left o.kind → has_children ≡ (o.has_children || is_parts o.kind) → has_entry o.kind ≡ true →
-      AsNode r has_children o.is_stray levels → old ≡ top ∷ rest → Holds o.kind top →
-      P (closed_with (element_seen o top).kind (element_seen o top))
-  node-closed o top old levels r has_children done is_role is_filled e f at h =
-      node-by o.kind o top e h
-      (λ own inside same. subst P (ap (λ b. closed_entries true r b o.is_stray (own ∷ inside)) is_filled ∙ ap (λ q. closed_entries true q (o.has_children || is_parts o.kind) o.is_stray (own ∷ inside)) is_role)
-      (f own inside (done ∙ ap (completed_levels o) at ∙ same)))
-
-  -- and of a part of a table
-  rows-closed : (o : Open) (top : Entries) (old levels : Levels) (r : Role) (has_children : Bool) →
-      levels ≡ completed_levels o old → r ≡ role_left o.kind → has_children ≡ (o.has_children || is_parts o.kind) → has_entry o.kind ≡ false →
-      is_root o.kind ≡ false → AsRows r has_children o.is_stray levels → old ≡ top ∷ rest →
-      P (closed_with (element_seen o top).kind (element_seen o top))
-  rows-closed o top old levels r has_children done is_role is_filled e root f at =
-      rows-by o.kind o top e root
-      (λ xs same. subst P (ap (λ b. closed_entries false r b o.is_stray xs) is_filled ∙ ap (λ q. closed_entries false q (o.has_children || is_parts o.kind) o.is_stray xs) is_role)
-      (f xs (done ∙ ap (completed_levels o) at ∙ same)))
-
-module _ (o parent new : Open) (old written levels : Levels) (r : Role) (has_children : Bool) (done : written ≡ completed_levels o old)
-    (is_role : r ≡ role_left o.kind) (is_filled : has_children ≡ (o.has_children || is_parts o.kind)) (result : Result (Unit {0}) Error) where
-  abbrev Passes : (below : Levels) (outer : Entries) → Closed → Type 0
-  Passes below outer x = Stands (received x (element_seen parent outer)) (is_root parent.kind) below new levels
-
-  abbrev PassesNode : Type 0
-  PassesNode =
-      (own : Entry RenderNode) (inside outer : Entries) (below : Levels) → written ≡ (own ∷ inside) ∷ (outer ∷ below) → Holds parent.kind outer →
-      Passes below outer (closed_entries true r has_children o.is_stray (own ∷ inside))
-
-  abbrev PassesRows : Type 0
-  PassesRows =
-      (top outer : Entries) (below : Levels) → written ≡ top ∷ (outer ∷ below) → Holds parent.kind outer →
-      Passes below outer (closed_entries false r has_children o.is_stray top)
-
-  -- an element with a node of its own closes
-  pub node-standing : has_entry o.kind ≡ true → OnOk result PassesNode → OnOk result (ClosesStanding o parent old new levels)
-  node-standing e =
-      IfOk-weaker result (λ _. PassesNode) (λ _. ClosesStanding o parent old new levels)
-      (λ _ closes. λ top outer below at root holds outer_holds.
-      node-closed (Passes below outer) (outer ∷ below) o top old written r has_children done is_role is_filled e
-      (λ own inside same. closes own inside outer below same outer_holds) at holds)
-
-  -- a part of a table closes
-  pub rows-standing : has_entry o.kind ≡ false → OnOk result PassesRows → OnOk result (ClosesStanding o parent old new levels)
-  rows-standing e =
-      IfOk-weaker result (λ _. PassesRows) (λ _. ClosesStanding o parent old new levels)
-      (λ _ closes. λ top outer below at root holds outer_holds.
-      rows-closed (Passes below outer) (outer ∷ below) o top old written r has_children done is_role is_filled e root
-      (λ xs same. closes xs outer below same outer_holds) at)
+-- a node at `start` closes in a parent that receives it
+pub node-received : (parent new : Open) (old after : Entries) (e : Entry RenderNode) (r : Role) (has_children is_stray kept : Bool) (start : ℕ) →
+    e ≡ get_or old start e → new.start ≡ parent.start → is_root new.kind ≡ is_root parent.kind →
+    ((own entries : Entries) → Holds parent.kind own → element_seen new (if kept then own ++ entries else own)
+    ≡ received (result_seen r e.node.kind has_children is_stray entries) (element_seen parent own)) →
+    ((own : Entries) → Holds parent.kind own → Holds new.kind own) →
+    after ≡ (if kept then take start old ++ sized (drop start old) else take start old) → ClosesNode r has_children is_stray start parent old new after
+node-received parent new old after e r has_children is_stray kept start is same root sees holds done is_outermost before below own inside q entries starts =
+    let front : take start old ≡ before = ap (take start) entries ∙ take_at before (own ∷ inside) start (sym starts) in
+    let rest : drop start old ≡ own ∷ inside = ap (drop start) entries ∙ drop_at before (own ∷ inside) start (sym starts) in
+    let first : e ≡ own = is ∙ ap (λ l. get_or l start e) entries ∙ get_or_at before own inside e start (sym starts) in
+    received-level (closed_entries r has_children is_stray own inside) parent new kept (sized (own ∷ inside)) before after same root
+    (λ es h. sees es (sized (own ∷ inside)) h
+    ∙ ap (λ (x : Entry RenderNode). received (result_seen r x.node.kind has_children is_stray (sized (own ∷ inside))) (element_seen parent es)) first)
+    holds (done ∙ ap (λ l. if kept then l ++ sized (drop start old) else l) front ∙ ap (λ l. if kept then before ++ sized l else before) rest)
+    is_outermost below q
 
 -- ---- a table's grid
 
--- An element whose grid is in its node, if it is a table:
--- * entries: its entries then;
--- * left: what it is defined to leave.
-pub record InGrid (o : Open) (top : Entries) (rest levels : Levels) : Type 0 where
-  pub entries : Entries
-  pub levels_are : levels ≡ entries ∷ rest
-  pub holds : Holds o.kind entries
-  pub left : left_by (element_seen o top).kind (element_seen o top)
-      ≡ Some (unless_vanished (element_seen o top) (closed_with (element_seen o entries).kind (element_seen o entries)))
+-- an element whose grid is in its node, if it is a table
+record InGrid (o : Open) (before es : Entries) (p : OpenElement) : Type 0 where
+  now : OpenElement
+  level : Level o false before es now
+  left : left_by p.kind p ≡ Some (unless_vanished p (closed_with now.kind now))
 
-grid-by : (k : OpenKind) (o : Open) (top : Entries) (rest levels : Levels) → is_root k ≡ false → Holds k top → Gridded k (top ∷ rest) levels →
-    InGrid (record o { kind = k }) top rest levels
-grid-by Root o top rest levels e h g = cc
-grid-by (Parts spans) o [] rest levels e h g = absurd h
-grid-by (Parts spans) o (x ∷ xs) rest levels e h g = record {
-  entries = record x { node = record x.node { kind = Table g.0 } } ∷ xs;
-  levels_are = g.2;
-  holds = tt;
-  left =
-      let p = element_seen (record o { kind = Parts spans }) (x ∷ xs) in
-      ap (option_map (λ (grid : TableParts). unless_vanished p (closed_node results.Contents (record p.node { kind = Table grid }) true p.written))) g.1;
+grid-by : (k : OpenKind) (o : Open) (own before old new : Entries) → is_root k ≡ false → are_rows k ≡ false → Holds k own → old ≡ before ++ own →
+    o.start ≡ length before → Gridded k o.start old new → InGrid (record o { kind = k }) before new (element_seen (record o { kind = k }) own)
+grid-by Root o own before old new root rows h is start g = cc
+grid-by (Rows l) o own before old new root rows h is start g = cc
+grid-by (Parts spans) o [] before old new root rows h is start g = absurd h
+grid-by (Parts spans) o (x ∷ xs) before old new root rows h is start g =
+    let own : Entries = record x { node = record x.node { kind = Table g.0 } } ∷ xs in
+    let p = element_seen (record o { kind = Parts spans }) (x ∷ xs) in record {
+      now = element_seen (record o { kind = Parts spans }) own;
+      level = record { own = own; entries_are = g.2 before (x ∷ xs) is start; start_is = start; root = refl; holds = tt; is_seen = refl };
+      left = ap (option_map (λ (grid : TableParts). unless_vanished p (closed_node results.Contents (record p.node { kind = Table grid }) true p.written))) g.1;
+    }
+grid-by k o own before old new root rows h is start g = record {
+  now = element_seen (record o { kind = k }) own;
+  level = record { own = own; entries_are = g ∙ is; start_is = start; root = root; holds = h; is_seen = refl };
+  left = refl;
 }
-grid-by k o top rest levels e h g = record { entries = top; levels_are = g; holds = h; left = refl }
 
--- ---- an insertion is given back
+none-given : (k : OpenKind) (g : Bool) (o : Open) → are_rows k ≡ false → given_in k g o.due.outer ≡ None
+none-given (Rows rows) g o e = cc
+none-given k true o e = refl
+none-given k false o e = refl
 
-given-seen : (g parent_given : Bool) (o parent : Open) (outer : Entries) → (g ≡ true → parent_given ≡ false) →
-    element_seen (with_given_of (record o { is_given = g }) (record parent { is_given = parent_given })) outer
-    ≡ with_given (element_seen (record o { is_given = g }) outer).given (element_seen (record parent { is_given = parent_given }) outer)
-given-seen false b o parent outer h = refl
-given-seen true true o parent outer h = absurd (let e : true ≡ false = h refl in cc)
-given-seen true false o parent outer h =
-    ap (λ (xs : List RenderNode). record (element_seen (record parent { is_given = false }) outer) { due = record { front = xs; back = o.due.outer.back } })
-    (append-nil o.due.outer.front)
+-- ---- an element with a node of its own closes
 
-given-closed : (k : OpenKind) (g : Bool) (o : Open) (es : Entries) → (g ≡ true → are_rows k ≡ true) →
-    closed_with (element_seen (without_given (record o { kind = k; is_given = g })) es).kind (element_seen (without_given (record o { kind = k; is_given = g })) es)
-    ≡ closed_with (element_seen (record o { kind = k; is_given = g }) es).kind (element_seen (record o { kind = k; is_given = g }) es)
-given-closed k false o es h = refl
-given-closed (Rows behind rows) true o es h = refl
-given-closed k true o es h = let e : false ≡ true = h refl in cc
+module _ (o parent new : Open) (old grid after : Entries) (rows : are_rows o.kind ≡ false) (gridded : Gridded o.kind o.start old grid) where
+  in-grid : (before own : Entries) → is_root o.kind ≡ false → Holds o.kind own → old ≡ before ++ own → o.start ≡ length before →
+      InGrid o before grid (element_seen o own)
+  in-grid before own root holds is start = grid-by o.kind o own before old grid root rows holds is start gridded
 
-mark-kept : (g : Bool) (o : Open) → (without_given (record o { is_given = g })).due.mark ≡ o.due.mark
-mark-kept true o = refl
-mark-kept false o = refl
+  nothing-given : (own : Entries) (q : OpenElement) → q ≡ with_given (element_seen o own).given q
+  nothing-given own q = sym (ap (λ given. with_given given q) (none-given o.kind o.is_given o rows))
 
--- ---- an element closes
-
-module _ (o parent : Open) (old grid : Levels) (gridded : Gridded o.kind old grid) (new : Open) (levels : Levels) where
-  vanished : (dropping : Levels) → vanishes o.if_empty o.has_results ≡ true → dropping ≡ dropped grid →
-      PutsMark (without_given o).due.mark (with_given_of o parent) dropping new levels → ClosesInto o parent old new levels
-  vanished dropping v is_dropped puts = λ top outer below at root holds outer_holds given.
-      let g = grid-by o.kind o top (outer ∷ below) grid root holds (subst (λ l. Gridded o.kind l grid) at gridded) in
-      let p = element_seen o top in
-      let q = element_seen parent outer in
-      record {
+  pub vanished-into : (result : Result (Unit {0}) Error) (dropping : Entries) (mark : Option (List ℕ)) → vanishes o.if_empty o.has_results ≡ true →
+      dropping ≡ take o.start grid → mark ≡ o.due.mark → OnOk result (Becomes (received_any (mark_left mark)) parent new dropping after) →
+      OnOk result (ClosesInto o parent old new after)
+  vanished-into result dropping mark v is_dropped mark_is =
+      IfOk-weaker result (λ _. Becomes (received_any (mark_left mark)) parent new dropping after) (λ _. ClosesInto o parent old new after)
+      (λ _ puts is_outermost before below p q l m. subst (λ x. ClosedIn x q is_outermost below new after) l.is_seen
+      (let g = in-grid before l.own l.root l.holds l.entries_are l.start_is in
+      let left : dropping ≡ before = is_dropped ∙ ap (take o.start) g.level.entries_are ∙ take_at before g.level.own o.start (sym l.start_is) in record {
         left = mark_left o.due.mark;
-        is_left = g.left ∙ ap (λ b. Some (if b then mark_left o.due.mark else Some (closed_with (element_seen o g.entries).kind (element_seen o g.entries)))) v;
+        is_left = g.left ∙ ap (λ b. Some (if b then mark_left o.due.mark else Some (closed_with g.now.kind g.now))) v;
         parent =
-            subst (λ x. Stands x (is_root parent.kind) below new levels)
-            (ap (received_any (mark_left (without_given o).due.mark)) (given-seen o.is_given parent.is_given o parent outer (λ e. (given e).1))
-            ∙ ap (λ m. received_any (mark_left m) (with_given p.given q)) (mark-kept o.is_given o))
-            (puts outer below (is_dropped ∙ ap dropped g.levels_are) outer_holds);
-      }
+            subst (λ x. Level new is_outermost below after (received_any (mark_left o.due.mark) x)) (nothing-given l.own q)
+            (subst (λ x. Level new is_outermost below after (received_any (mark_left x) q)) mark_is
+            (puts is_outermost below q (subst (λ x. Level parent is_outermost below x q) (sym left) m)));
+      }))
 
-  standing : vanishes o.if_empty o.has_results ≡ false →
-      ClosesStanding (without_given o) (with_given_of o parent) grid new levels → ClosesInto o parent old new levels
-  standing v closes = λ top outer below at root holds outer_holds given.
-      let g = grid-by o.kind o top (outer ∷ below) grid root holds (subst (λ l. Gridded o.kind l grid) at gridded) in
-      let p = element_seen o top in
-      let q = element_seen parent outer in
-      let c = closed_with (element_seen o g.entries).kind (element_seen o g.entries) in
-      record {
+  pub standing-into : (result : Result (Unit {0}) Error) → vanishes o.if_empty o.has_results ≡ false →
+      OnOk result (ClosesStanding o parent grid new after) → OnOk result (ClosesInto o parent old new after)
+  standing-into result v =
+      IfOk-weaker result (λ _. ClosesStanding o parent grid new after) (λ _. ClosesInto o parent old new after)
+      (λ _ closes is_outermost before below p q l m. subst (λ x. ClosedIn x q is_outermost below new after) l.is_seen
+      (let g = in-grid before l.own l.root l.holds l.entries_are l.start_is in
+      let c = closed_with g.now.kind g.now in record {
         left = Some c;
         is_left = g.left ∙ ap (λ b. Some (if b then mark_left o.due.mark else Some c)) v;
         parent =
-            subst (λ x. Stands x (is_root parent.kind) below new levels)
-            (ap (λ x. received x (element_seen (with_given_of o parent) outer)) (given-closed o.kind o.is_given o g.entries (λ e. (given e).0))
-            ∙ ap (received c) (given-seen o.is_given parent.is_given o parent outer (λ e. (given e).1)))
-            (closes g.entries outer below g.levels_are root g.holds outer_holds);
-      }
+            subst (λ x. Level new is_outermost below after (received c x)) (nothing-given l.own q)
+            (closes is_outermost before below g.now q g.level m);
+      }))
 
-  -- an element that vanishes closes
-  pub vanished-into : (result : Result (Unit {0}) Error) (dropping : Levels) (o_given parent_given : Open) (mark : Option (List ℕ)) →
-      vanishes o.if_empty o.has_results ≡ true → dropping ≡ dropped grid → o_given ≡ without_given o → parent_given ≡ with_given_of o parent →
-      mark ≡ o_given.due.mark → OnOk result (PutsMark mark parent_given dropping new levels) → OnOk result (ClosesInto o parent old new levels)
-  vanished-into result dropping o_given parent_given mark v is_dropped given_is parent_is mark_is =
-      IfOk-weaker result (λ _. PutsMark mark parent_given dropping new levels) (λ _. ClosesInto o parent old new levels)
-      (λ _ puts. vanished dropping v is_dropped
-      (subst (λ m. PutsMark m (with_given_of o parent) dropping new levels) (mark_is ∙ ap (λ (x : Open). x.due.mark) given_is)
-      (subst (λ q. PutsMark mark q dropping new levels) parent_is puts)))
+-- ---- a part of a table closes
 
-  -- an element that stands closes
-  pub standing-into : (result : Result (Unit {0}) Error) (o_given parent_given : Open) →
-      vanishes o.if_empty o.has_results ≡ false → o_given ≡ without_given o → parent_given ≡ with_given_of o parent →
-      OnOk result (ClosesStanding o_given parent_given grid new levels) → OnOk result (ClosesInto o parent old new levels)
-  standing-into result o_given parent_given v given_is parent_is =
-      IfOk-weaker result (λ _. ClosesStanding o_given parent_given grid new levels) (λ _. ClosesInto o parent old new levels)
-      (λ _ closes. standing v
-      (subst (λ x. ClosesStanding x (with_given_of o parent) grid new levels) given_is
-      (subst (λ q. ClosesStanding o_given q grid new levels) parent_is closes)))
+-- the result of a part of a table with these entries
+abbrev rows_closed : Open → Entries → Closed
+rows_closed o own = result_seen (role_left o.kind) Container o.has_children o.is_stray own
+
+rows-left : (k : OpenKind) (o : Open) (own : Entries) → are_rows k ≡ true →
+    left_by (element_seen (record o { kind = k }) own).kind (element_seen (record o { kind = k }) own)
+    ≡ Some (if vanishes o.if_empty o.has_results then mark_left o.due.mark else Some (rows_closed (record o { kind = k }) own))
+rows-left (Rows rows) o own e = refl
+rows-left k o own e = cc
+
+-- a part of a table keeps its mark, whether or not it gives its insertion back
+mark-kept : (o parent : Open) → (without_given o parent).due.mark ≡ o.due.mark
+mark-kept o parent = by (gives_to o parent)
+  where
+    by : (b : Bool) → (let d : Held = if b then record o.due { outer = nothing } else o.due in d.mark) ≡ o.due.mark
+    by true = refl
+    by false = refl
+
+-- Where a part of a table closes in a parent, `element` is the part once its insertion is given back, and `given` the parent.
+module _ (o parent element given new : Open) (old after : Entries) (rows : are_rows o.kind ≡ true) (element_is : element ≡ without_given o parent)
+    (given_is : given ≡ with_given_of o parent) where
+  given-level : (is_outermost : Bool) (below es own : Entries) (q : OpenElement) → Level parent is_outermost below es q →
+      Level given is_outermost below es (with_given (element_seen o own).given q)
+  given-level is_outermost below es own q m = becomes-given o parent given es rows given_is is_outermost below q m
+
+  front : (before own : Entries) → old ≡ before ++ own → o.start ≡ length before → take element.start old ≡ before
+  front before own is start = ap (λ (x : Open). take x.start old) element_is ∙ ap (take o.start) is ∙ take_at before own o.start (sym start)
+
+  empty : vanishes o.if_empty o.has_results ≡ vanishes element.if_empty element.has_results
+  empty = sym (ap (λ (x : Open). vanishes x.if_empty x.has_results) element_is)
+
+  pub rows-vanished : (result : Result (Unit {0}) Error) (dropping : Entries) (mark : Option (List ℕ)) →
+      vanishes element.if_empty element.has_results ≡ true → dropping ≡ take element.start old → mark ≡ element.due.mark →
+      OnOk result (Becomes (received_any (mark_left mark)) given new dropping after) → OnOk result (ClosesInto o parent old new after)
+  rows-vanished result dropping mark v is_dropped mark_is =
+      IfOk-weaker result (λ _. Becomes (received_any (mark_left mark)) given new dropping after) (λ _. ClosesInto o parent old new after)
+      (λ _ puts is_outermost before below p q l m. subst (λ x. ClosedIn x q is_outermost below new after) l.is_seen
+      (let left : dropping ≡ before = is_dropped ∙ front before l.own l.entries_are l.start_is in
+      let back = with_given (element_seen o l.own).given q in
+      let is_mark : mark ≡ o.due.mark = mark_is ∙ ap (λ (x : Open). x.due.mark) element_is ∙ mark-kept o parent in record {
+        left = mark_left o.due.mark;
+        is_left = rows-left o.kind o l.own rows ∙ ap (λ b. Some (if b then mark_left o.due.mark else Some (rows_closed o l.own))) (empty ∙ v);
+        parent =
+            subst (λ x. Level new is_outermost below after (received_any (mark_left x) back)) is_mark
+            (puts is_outermost below back (given-level is_outermost below dropping l.own q (subst (λ x. Level parent is_outermost below x q) (sym left) m)));
+      }))
+
+  pub rows-standing : (r : Role) (kept : Bool) → vanishes element.if_empty element.has_results ≡ false → r ≡ role_left element.kind →
+      new.start ≡ given.start → is_root new.kind ≡ is_root given.kind →
+      ((own entries : Entries) → Holds given.kind own → element_seen new (if kept then own ++ entries else own)
+      ≡ received (result_seen r Container element.has_children element.is_stray entries) (element_seen given own)) →
+      ((own : Entries) → Holds given.kind own → Holds new.kind own) → after ≡ (if kept then old else take element.start old) → ClosesInto o parent old new after
+  rows-standing r kept v is_role start root sees holds done is_outermost before below p q l m =
+      let c = rows_closed o l.own in
+      let is_closed : result_seen r Container element.has_children element.is_stray l.own ≡ c =
+      ap (λ x. result_seen x Container element.has_children element.is_stray l.own) is_role ∙ ap (λ x. rows_closed x l.own) element_is in
+      subst (λ x. ClosedIn x q is_outermost below new after) l.is_seen (record {
+        left = Some c;
+        is_left = rows-left o.kind o l.own rows ∙ ap (λ b. Some (if b then mark_left o.due.mark else Some c)) (empty ∙ v);
+        parent =
+            received-level c given new kept l.own before after start root
+            (λ es h. sees es l.own h ∙ ap (λ x. received x (element_seen given es)) is_closed) holds
+            (done ∙ ap (λ x. if kept then x else take element.start old) l.entries_are
+            ∙ ap (λ x. if kept then before ++ l.own else x) (front before l.own l.entries_are l.start_is))
+            is_outermost below (with_given (element_seen o l.own).given q) (given-level is_outermost below before l.own q m);
+      })
 
 -- ---- the last elements of a list
-
-abbrev Reversed : (os : List Open) (o : Open) (rest : List Open) → Type 0
-Reversed os o rest = reverse os ≡ o ∷ rest
 
 last-first : (o p : Open) (rest more : List Open) → o ∷ rest ≡ p ∷ more → (o ≡ p) × (rest ≡ more)
 last-first o p rest more e = (cc, cc)
@@ -239,11 +258,11 @@ reversed-popped : (os popped : List Open) (o : Open) → os ≡ popped ++ o ∷ 
 reversed-popped os popped o e = ap reverse e ∙ reverse-append popped (o ∷ [])
 
 -- the last element closes in that before it, which is written back
-pub closed-last : (result : Result (Unit {0}) Error) (os popped : List Open) (n : ℕ) (o parent new : Open) (old levels : Levels) → os ≡ popped ++ o ∷ [] →
-    n + 1 ≡ length popped → parent ≡ get_or popped n parent → OnOk result (ClosesInto o parent old new levels) →
-    OnOk result (ClosesLast os old (set popped n new) levels)
-closed-last result os popped n o parent new old levels is_popped many is_last =
-    IfOk-weaker result (λ _. ClosesInto o parent old new levels) (λ _. ClosesLast os old (set popped n new) levels)
+pub closed-last : (result : Result (Unit {0}) Error) (os popped : List Open) (n : ℕ) (o parent new : Open) (old after : Entries) → os ≡ popped ++ o ∷ [] →
+    n + 1 ≡ length popped → parent ≡ get_or popped n parent → OnOk result (ClosesInto o parent old new after) →
+    OnOk result (ClosesLast os old (set popped n new) after)
+closed-last result os popped n o parent new old after is_popped many is_last =
+    IfOk-weaker result (λ _. ClosesInto o parent old new after) (λ _. ClosesLast os old (set popped n new) after)
     (λ _ closes. λ p q rest e.
     let front = take n popped in
     let was = last-first p o (q ∷ rest) (reverse popped) (sym e ∙ reversed-popped os popped o is_popped) in
@@ -251,7 +270,7 @@ closed-last result os popped n o parent new old levels is_popped many is_last =
       new,
       (
         reversed-popped (set popped n new) front new (last-set popped n parent new many is_last) ∙ ap (λ l. new ∷ l) (sym before.1),
-        subst (λ x. ClosesInto x q old new levels) (sym was.0) (subst (λ x. ClosesInto o x old new levels) (sym before.0) closes),
+        subst (λ x. ClosesInto x q old new after) (sym was.0) (subst (λ x. ClosesInto o x old new after) (sym before.0) closes),
       ),
     ))
 
@@ -263,147 +282,65 @@ fails-last result os popped o is_popped =
     let was = last-first p o (q ∷ rest) (reverse popped) (sym same ∙ reversed-popped os popped o is_popped) in
     subst (λ x. FailsToClose x e) (sym was.0) fails)
 
--- ---- what may be given back
-
-given-back : (given : Option Insertion) (p : OpenElement) → MayGive p → MayGive (with_given given p)
-given-back None p h = h
-given-back (Some due) p h = h
-
-received-back : (left : Option Closed) (p : OpenElement) → MayGive p → MayGive (received_any left p)
-received-back None p h = h
-received-back (Some c) p h = received-gives c p h
-
-given-back_to : (given : Option Insertion) (p : OpenElement) (ps : List OpenElement) → GivesTo p ps → GivesTo (with_given given p) ps
-given-back_to None p ps h = h
-given-back_to (Some due) p ps h = h
-
-received-back_to : (left : Option Closed) (p : OpenElement) (ps : List OpenElement) → GivesTo p ps → GivesTo (received_any left p) ps
-received-back_to None p ps h = h
-received-back_to (Some c) p ps h = received-gives_to c p ps h
-
--- what is given back is given to a table
-gives-table : (g : Bool) (o : Open) (top : Entries) (q : OpenElement) (ps : List OpenElement) →
-    GivesTo (element_seen (record o { is_given = g }) top) (q ∷ ps) → g ≡ true → is_table q.kind ≡ true
-gives-table true o top q ps h e = h
-gives-table false o top q ps h e = cc
-
--- which gives nothing back itself
-table-apart : (k : OpenKind) (o : Open) (es : Entries) (g : Bool) → is_table (element_seen (record o { kind = k; is_given = g }) es).kind ≡ true →
-    MayGive (element_seen (record o { kind = k; is_given = g }) es) → g ≡ false
-table-apart Root o es true e h = cc
-table-apart k o es true e h = cc
-table-apart k o es false e h = refl
-
--- only a part of a table gives back
-gives-rows : (k : OpenKind) (o : Open) (top : Entries) (g : Bool) → MayGive (element_seen (record o { kind = k; is_given = g }) top) → g ≡ true → are_rows k ≡ true
-gives-rows (Rows behind rows) o top g h e = refl
-gives-rows k o top false h e = cc
-gives-rows k o top true h e = cc
-
 -- ---- the innermost of open elements closes
 
 -- what holds of the open elements that are left, and what they are seen as
-abbrev pub ClosedOnce : (rs : List Open) (levels : Levels) (new : List Open) (after : Levels) → Type 0
-ClosedOnce rs levels new after = IsSound new after × (Some (seen new after) ≡ closed_once (seen rs levels))
+abbrev pub ClosedOnce : (rs : List Open) (es : Entries) (new : List Open) (after : Entries) → Type 0
+ClosedOnce rs es new after = IsSound new after × (Some (seen new after) ≡ closed_once (seen rs es))
 
--- one open element, and those outside it
-pub record Outer (o : Open) (rest : List Open) (levels : Levels) : Type 0 where
-  own : Entries
-  below : Levels
-  levels_are : levels ≡ own ∷ below
-  holds : Holds o.kind own
-  with_root : (new : Open) (es : Entries) → is_root new.kind ≡ is_root o.kind → Holds new.kind es → AllHold (new ∷ rest) (es ∷ below)
+closed-two : (o parent q : Open) (rest : List Open) (es after : Entries) → IsSound (o ∷ (parent ∷ rest)) es → ClosesInto o parent es q after →
+    ClosedOnce (o ∷ (parent ∷ rest)) es (q ∷ rest) after
+closed-two o parent q rest es after h closes =
+    let outer = take o.start es in
+    let below = take parent.start outer in
+    let p = element_seen o (drop o.start es) in
+    let r = element_seen parent (drop parent.start outer) in
+    let x = closes (is_none rest) outer below p r h.0 h.1.0 in
+    let back = with_given p.given r in
+    let y = sound-level q rest below after (received_any x.left back) x.parent h.1.1 in
+    (y.0, ap Some y.1 ∙ sym (ap (option_map (λ left. received_any left back ∷ seen rest below)) x.is_left))
 
-outer-of : (o : Open) (rest : List Open) (levels : Levels) → AllHold (o ∷ rest) levels → Outer o rest levels
-outer-of o [] [] h = absurd h
-outer-of o [] (es ∷ []) h =
-    record { own = es; below = []; levels_are = refl; holds = Holds-root o.kind es h; with_root = λ new xs root holds. root ∙ h }
-outer-of o [] (es ∷ (fs ∷ ls)) h = absurd h
-outer-of o (q ∷ qs) [] h = absurd h
-outer-of o (q ∷ qs) (es ∷ ls) h =
-    record { own = es; below = ls; levels_are = refl; holds = h.1.0; with_root = λ new xs root holds. (root ∙ h.0, (holds, h.1.1)) }
-
-closed-in : (o parent q : Open) (rest : List Open) (top outer : Entries) (below after : Levels) → MayGive (element_seen parent outer) →
-    AllMayGive (seen rest below) → AllGiveTo (element_seen parent outer ∷ seen rest below) → ((new : Open) (es : Entries) → is_root new.kind ≡ is_root parent.kind → Holds new.kind es → AllHold (new ∷ rest) (es ∷ below)) →
-    ClosedIn (element_seen o top) (element_seen parent outer) (is_root parent.kind) below q after →
-    ClosedOnce (o ∷ (parent ∷ rest)) (top ∷ (outer ∷ below)) (q ∷ rest) after
-closed-in o parent q rest top outer below after gives others gives_to holds closes =
-    let s = closes.parent in
-    let p = element_seen o top in
-    let back = with_given p.given (element_seen parent outer) in (
-      subst (IsSound (q ∷ rest)) (sym s.levels_are) (
-        holds q s.entries s.root s.holds,
-        (subst MayGive (sym s.seen) (received-back closes.left back (given-back p.given (element_seen parent outer) gives)), others),
-        (
-          subst (λ x. GivesTo x (seen rest below)) (sym s.seen)
-              (received-back_to closes.left back (seen rest below) (given-back_to p.given (element_seen parent outer) (seen rest below) gives_to.0)),
-          gives_to.1,
-        ),
-      ),
-      ap (λ l. Some (seen (q ∷ rest) l)) s.levels_are ∙ ap (λ x. Some (x ∷ seen rest below)) s.seen
-          ∙ sym (ap (option_map (λ left. received_any left back ∷ seen rest below)) closes.is_left),
-    )
-
-closed-two : (o parent q : Open) (rest : List Open) (ls after : Levels) → IsSound (o ∷ (parent ∷ rest)) ls → ClosesInto o parent ls q after →
-    ClosedOnce (o ∷ (parent ∷ rest)) ls (q ∷ rest) after
-closed-two o parent q rest [] after h closes = absurd h.0
-closed-two o parent q rest (top ∷ ls) after h closes =
-    let x = outer-of parent rest ls h.0.1.1 in
-    let all : AllMayGive (element_seen o top ∷ (element_seen parent x.own ∷ seen rest x.below)) =
-    subst (λ l. AllMayGive (element_seen o top ∷ seen (parent ∷ rest) l)) x.levels_are h.1 in
-    let all_to : AllGiveTo (element_seen o top ∷ (element_seen parent x.own ∷ seen rest x.below)) =
-    subst (λ l. AllGiveTo (element_seen o top ∷ seen (parent ∷ rest) l)) x.levels_are h.2 in
-    subst (λ l. ClosedOnce (o ∷ (parent ∷ rest)) (top ∷ l) (q ∷ rest) after) (sym x.levels_are)
-    (closed-in o parent q rest top x.own x.below after all.1.0 all.1.1 all_to.1 x.with_root
-    (closes top x.own x.below (ap (λ l. top ∷ l) x.levels_are) h.0.0 h.0.1.0 x.holds
-    (λ e. (
-      gives-rows o.kind o top o.is_given all.0 e,
-      table-apart parent.kind parent x.own parent.is_given (gives-table o.is_given o top (element_seen parent x.own) (seen rest x.below) all_to.0 e) all.1.0,
-    ))))
-
-closed-rest : (rs new : List Open) (ls after : Levels) → 2 ≤ length rs → IsSound rs ls →
-    ((o parent : Open) (rest : List Open) → rs ≡ o ∷ (parent ∷ rest) → (q : Open) × ((new ≡ q ∷ rest) × ClosesInto o parent ls q after)) →
-    ClosedOnce rs ls new after
-closed-rest [] new ls after many h closes = absurd (omega (arith, many))
-closed-rest (o ∷ []) new ls after many h closes = absurd (omega (arith, many))
-closed-rest (o ∷ (parent ∷ rest)) new ls after many h closes =
+closed-rest : (rs new : List Open) (es after : Entries) → 2 ≤ length rs → IsSound rs es →
+    ((o parent : Open) (rest : List Open) → rs ≡ o ∷ (parent ∷ rest) → (q : Open) × ((new ≡ q ∷ rest) × ClosesInto o parent es q after)) →
+    ClosedOnce rs es new after
+closed-rest [] new es after many h closes = absurd (omega (arith, many))
+closed-rest (o ∷ []) new es after many h closes = absurd (omega (arith, many))
+closed-rest (o ∷ (parent ∷ rest)) new es after many h closes =
     let x = closes o parent rest refl in
-    subst (λ l. ClosedOnce (o ∷ (parent ∷ rest)) ls l after) (sym x.1.0) (closed-two o parent x.0 rest ls after h x.1.1)
+    subst (λ l. ClosedOnce (o ∷ (parent ∷ rest)) es l after) (sym x.1.0) (closed-two o parent x.0 rest es after h x.1.1)
 
 -- the innermost of these open elements closes
-pub closed-innermost : (os new : List Open) (ls after : Levels) → 2 ≤ length os → IsSound (reverse os) ls → ClosesLast os ls new after →
-    ClosedOnce (reverse os) ls (reverse new) after
-closed-innermost os new ls after many = closed-rest (reverse os) (reverse new) ls after (omega (arith, many, length-reverse os))
+pub closed-innermost : (os new : List Open) (es after : Entries) → 2 ≤ length os → IsSound (reverse os) es → ClosesLast os es new after →
+    ClosedOnce (reverse os) es (reverse new) after
+closed-innermost os new es after many = closed-rest (reverse os) (reverse new) es after (omega (arith, many, length-reverse os))
 
 -- fewer than two stay open
-pub closed-few : (os : List Open) (ls : Levels) → length os < 2 → Some (seen (reverse os) ls) ≡ closed_once (seen (reverse os) ls)
-closed-few os ls few = by (reverse os) ls (omega (arith, few, length-reverse os))
+pub closed-few : (os : List Open) (es : Entries) → length os < 2 → Some (seen (reverse os) es) ≡ closed_once (seen (reverse os) es)
+closed-few os es few = by (reverse os) (omega (arith, few, length-reverse os))
   where
-    by : (rs : List Open) (ls : Levels) → length rs < 2 → Some (seen rs ls) ≡ closed_once (seen rs ls)
-    by [] ls few = refl
-    by (o ∷ []) [] few = refl
-    by (o ∷ []) (es ∷ ls) few = refl
-    by (o ∷ (q ∷ qs)) ls few = absurd (omega (arith, few))
+    by : (rs : List Open) → length rs < 2 → Some (seen rs es) ≡ closed_once (seen rs es)
+    by [] few = refl
+    by (o ∷ []) few = refl
+    by (o ∷ (q ∷ qs)) few = absurd (omega (arith, few))
 
 -- ---- it fails
 
-fails-in : (e : Error) (p q : OpenElement) (ps : List OpenElement) → Fails e (left_by p.kind p) →
-    Fails e (closed_once (p ∷ (q ∷ ps)))
+fails-in : (e : Error) (p q : OpenElement) (ps : List OpenElement) → Fails e (left_by p.kind p) → Fails e (closed_once (p ∷ (q ∷ ps)))
 fails-in TooNarrow p q ps h = h
 fails-in Fail p q ps h = ap (option_map (λ left. received_any left (with_given p.given q) ∷ ps)) h
 fails-in OutOfMemory p q ps h = tt
 
 -- the innermost of these open elements doesn't close
-pub fails-innermost : (os : List Open) (ls : Levels) (e : Error) → 2 ≤ length os → IsSound (reverse os) ls →
-    ((o parent : Open) (rest : List Open) → reverse os ≡ o ∷ (parent ∷ rest) → FailsToClose o e) → Fails e (closed_once (seen (reverse os) ls))
-fails-innermost os ls e many = by (reverse os) ls (omega (arith, many, length-reverse os))
+pub fails-innermost : (os : List Open) (es : Entries) (e : Error) → 2 ≤ length os → IsSound (reverse os) es →
+    ((o parent : Open) (rest : List Open) → reverse os ≡ o ∷ (parent ∷ rest) → FailsToClose o e) → Fails e (closed_once (seen (reverse os) es))
+fails-innermost os es e many = by (reverse os) (omega (arith, many, length-reverse os))
   where
-    by : (rs : List Open) (ls : Levels) → 2 ≤ length rs → IsSound rs ls → ((o parent : Open) (rest : List Open) → rs ≡ o ∷ (parent ∷ rest) → FailsToClose o e) →
-        Fails e (closed_once (seen rs ls))
-    by [] ls many h fails = absurd (omega (arith, many))
-    by (o ∷ []) ls many h fails = absurd (omega (arith, many))
-    by (o ∷ (parent ∷ rest)) [] many h fails = absurd h.0
-    by (o ∷ (parent ∷ rest)) (top ∷ ls) many h fails =
-        let x = outer-of parent rest ls h.0.1.1 in
-        subst (λ l. Fails e (closed_once (element_seen o top ∷ seen (parent ∷ rest) l))) (sym x.levels_are)
-        (fails-in e (element_seen o top) (element_seen parent x.own) (seen rest x.below) (fails o parent rest refl top h.0.1.0))
+    by : (rs : List Open) → 2 ≤ length rs → IsSound rs es → ((o parent : Open) (rest : List Open) → rs ≡ o ∷ (parent ∷ rest) → FailsToClose o e) →
+        Fails e (closed_once (seen rs es))
+    by [] many h fails = absurd (omega (arith, many))
+    by (o ∷ []) many h fails = absurd (omega (arith, many))
+    by (o ∷ (parent ∷ rest)) many h fails =
+        let l = h.0 in
+        let outer = take o.start es in
+        fails-in e (element_seen o (drop o.start es)) (element_seen parent (drop parent.start outer)) (seen rest (take parent.start outer))
+        (subst (λ (p : OpenElement). Fails e (left_by p.kind p)) l.is_seen (fails o parent rest refl l.own l.holds))

@@ -25,7 +25,7 @@ use Rattle.html_render_tree_convert.proofs.Entries.{Entries, appended-nil, appen
 
 -- the trees of a result: of rows those below it
 abbrev pub own_trees : Role → RenderNode → (below : Nodes) → Nodes
-own_trees (role.Rows behind rows) n below = below
+own_trees (role.Rows rows) n below = below
 own_trees _ n below = node n below none
 
 -- what closes as a result
@@ -61,7 +61,7 @@ take_due _ = true
 abbrev pub comes_as : Role → Result → OpenElement → OpenElement
 comes_as role.Contents r p = received (closed_result r) p
 comes_as role.Caption r p = received (closed_result (as_caption p.kind r)) p
-comes_as (role.Rows behind rows) r p =
+comes_as (role.Rows rows) r p =
     if is_table p.kind then received (closed_result (filled_result 2 p.due r)) (record p { due = if take_due r.below then nothing else p.due })
     else received (closed_result r) p
 comes_as (role.Row cells) r p =
@@ -257,10 +257,10 @@ module _ {S : Type 0} (K : List S → OpenKind) (of : Role → Option S) (level 
         ∙ rw e (simp or-true)
   ]
 
-pub rows-one : (behind : Bool) (s : List (List CellSpan)) (y : Role) (x : Result) (q : OpenElement) →
-    comes_as y (record x { role = y }) (record q { kind = open_kind.Rows behind s }) ≡ holds_one (open_kind.Rows behind) row_of 1 (λ g. None) s y x q
-rows-one behind s (role.Row cells) x q = simp map-map
-rows-one behind s y x q = refl
+pub rows-one : (s : List (List CellSpan)) (y : Role) (x : Result) (q : OpenElement) →
+    comes_as y (record x { role = y }) (record q { kind = open_kind.Rows s }) ≡ holds_one (open_kind.Rows) row_of 1 (λ g. None) s y x q
+rows-one s (role.Row cells) x q = simp map-map
+rows-one s y x q = refl
 
 pub row-one : (s : List CellSpan) (y : Role) (x : Result) (q : OpenElement) →
     comes_as y (record x { role = y }) (record q { kind = open_kind.Row s }) ≡ holds_one open_kind.Row cell_of 0 (λ g. g) s y x q
@@ -310,7 +310,7 @@ part-one : (s : List (List Span)) (y : Role) (x : Result) (q : OpenElement) → 
       has_children = true;
       written = appended q.written (option_map (λ t. flatten (filled 2 q.due t)) x.below);
     } else record q { kind = open_kind.Parts s; has_results = q.has_results || (x.has_children && false) })
-part-one s (role.Rows behind rows) x q = simp map-map
+part-one s (role.Rows rows) x q = simp map-map
 part-one s y x q = refl
 
 pub parts-come : (rs : List Result) (s : List (List Span)) (q : OpenElement) → all_come rs (record q { kind = open_kind.Parts s }) ≡ record q {

@@ -1,5 +1,4 @@
 pub mod Stacks
-pub mod LevelLemmas
 pub mod Entries
 pub mod Coming
 pub mod Closing
@@ -7,7 +6,6 @@ pub mod Running
 pub mod Receiving
 pub mod VisitRuns
 pub mod VisitsLeft
-pub mod TopEntries
 pub mod SeenLemmas
 pub mod ClosingElements
 pub mod ValidSpans

@@ -5,9 +5,10 @@ use Rattle.html_render_layout_nodes.specs.declared.tree.NodeKind.TheVariants.{Ol
 use Rattle.html_render_layout_nodes.specs.declared.tree.RenderNode.{RenderNode}
 use Rattle.html_render_tree_mapping.specs.Results.{Role, keeps, counts}
 use Rattle.html_render_tree_convert.specs.Keeping.{keeping_of, keeps_by, counts_by}
+use Rattle.html_render_tree_convert.specs.OpenElements.{Insertion}
 use Rattle.html_render_tree_convert.specs.OpenElements as elements
 use Rattle.html_render_tree_convert.specs.Receiving.{keeps_in, counts_for, places, Gathers}
-use Rattle.html_render_tree_convert.specs.Seen.{Holds, element_seen, has_entry, inside, kind_seen, own_node}
+use Rattle.html_render_tree_convert.specs.Seen.{Holds, element_seen, given_in, has_entry, inside, kind_seen, own_node}
 use Rattle.html_render_tree_convert.specs.Held.{due_of}
 use Rattle.html_render_tree_convert.specs.Steps.{Closed, accepts, appended, counted, counts_in, gathered, has_place, received, with_child}
 use Rattle.html_render_tree_convert.proofs.Entries.{Entries, or-false, or-true}
@@ -50,15 +51,15 @@ has_place-seen _ r own = refl
 
 -- ---- entries after those that an open element has
 
-own_node-more : (kind : OpenKind) (own entries : Entries) → Holds kind own → own_node (has_entry kind) (own ++ entries) ≡ own_node (has_entry kind) own
+pub own_node-more : (kind : OpenKind) (own entries : Entries) → Holds kind own → own_node (has_entry kind) (own ++ entries) ≡ own_node (has_entry kind) own
 own_node-more Root own entries h = refl
-own_node-more (Rows behind rows) own entries h = refl
+own_node-more (Rows rows) own entries h = refl
 own_node-more _ (e ∷ es) entries h = refl
 own_node-more _ [] entries h = absurd h
 
-inside-more : (kind : OpenKind) (own entries : Entries) → Holds kind own → inside (has_entry kind) (own ++ entries) ≡ inside (has_entry kind) own ++ entries
+pub inside-more : (kind : OpenKind) (own entries : Entries) → Holds kind own → inside (has_entry kind) (own ++ entries) ≡ inside (has_entry kind) own ++ entries
 inside-more Root own entries h = refl
-inside-more (Rows behind rows) own entries h = refl
+inside-more (Rows rows) own entries h = refl
 inside-more _ (e ∷ es) entries h = refl
 inside-more _ [] entries h = absurd h
 
@@ -91,15 +92,15 @@ with_results r child has_children o = record o { has_results = o.has_results || 
 abbrev pub with_child_in : Role → (is_stray : Bool) → Open → Open
 with_child_in r is_stray o = record o { has_children = true; is_stray = o.is_stray || (is_stray || not (places o.kind r)) }
 
--- an open element of this kind and node, with these results and entries
-abbrev seen_as : Open → elements.OpenKind → RenderNode → (has_results has_children : Bool) → Option Entries → elements.OpenElement
-seen_as o kind node has_results has_children written = record {
+-- an open element of this kind and node, with what it gives back, its results and its entries
+abbrev seen_as : Open → elements.OpenKind → RenderNode → (given : Option Insertion) → (has_results has_children : Bool) → Option Entries → elements.OpenElement
+seen_as o kind node given has_results has_children written = record {
   kind = kind;
   node = node;
   if_empty = o.if_empty;
   mark = o.due.mark;
   due = due_of o.due;
-  given = if o.is_given then Some o.due.outer else None;
+  given = given;
   has_results = has_results;
   has_children = has_children;
   is_wrapped = o.is_wrapped;
@@ -117,16 +118,21 @@ kept-seen o kind r child has_children is_stray own entries e g h =
     let n = own_node b own in
     let was = o.has_results in
     let strays : Bool = o.is_stray || (is_stray || not (places o.kind r)) in
-    let made = λ (node : RenderNode) (es : Entries). seen_as o (kind_seen kind node.kind) node (was || counts_for o.kind r child has_children) true (if strays then None else Some es) in
+    let outer = o.due.outer in
+    let given = given_in o.kind o.is_given outer in
+    let made_with = λ (node : RenderNode) (es : Entries) (g : Option Insertion).
+    seen_as o (kind_seen kind node.kind) node g (was || counts_for o.kind r child has_children) true (if strays then None else Some es) in
+    let made = λ (node : RenderNode) (es : Entries). made_with node es given in
     let more : appended p.written (if places o.kind r then c.entries else None) ≡ (if strays then None else Some (inside b own ++ entries)) =
     sym (written-more o.is_stray is_stray (places o.kind r) (inside b own) entries) in
-    ap (λ x. made (own_node x (own ++ entries)) (inside x (own ++ entries))) g.entry
+    ap (made_with (own_node (has_entry kind) (own ++ entries)) (inside (has_entry kind) (own ++ entries))) (g.given o.is_given outer)
+    ∙ ap (λ x. made (own_node x (own ++ entries)) (inside x (own ++ entries))) g.entry
     ∙ ap (λ x. made x (inside b (own ++ entries))) (own_node-more o.kind own entries h)
     ∙ ap (made n) (inside-more o.kind own entries h)
-    ∙ ap (λ k. seen_as o k n (was || counts_for o.kind r child has_children) true (if strays then None else Some (inside b own ++ entries))) (g.seen n.kind)
-    ∙ ap (λ x. seen_as o (gathered p.kind r) n (was || x) true (if strays then None else Some (inside b own ++ entries)))
+    ∙ ap (λ k. seen_as o k n given (was || counts_for o.kind r child has_children) true (if strays then None else Some (inside b own ++ entries))) (g.seen n.kind)
+    ∙ ap (λ x. seen_as o (gathered p.kind r) n given (was || x) true (if strays then None else Some (inside b own ++ entries)))
     (sym (counts-seen o.kind r child has_children own h))
-    ∙ ap (seen_as o (gathered p.kind r) n (was || counts_in p.kind r child has_children) true)
+    ∙ ap (seen_as o (gathered p.kind r) n given (was || counts_in p.kind r child has_children) true)
     (sym more ∙ ap (λ x. appended p.written (if x then c.entries else None)) (sym (has_place-seen o.kind r n.kind)))
     ∙ ap (λ x. if x then with_child c (counted c p) else counted c p) (sym (accepts-seen o.kind r child own h ∙ e))
 

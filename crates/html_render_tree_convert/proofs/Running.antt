@@ -80,17 +80,17 @@ close-run ev os runs (q ∷ qs) h made p ps closes es =
 
 -- ---- an element
 
-rows-filled : (b behind : Bool) (e : Element) (p : OpenElement) (ps : Stack) → is_filled (begun_rows behind b e p ++ ps) ≡ true
-rows-filled true behind e p ps = refl
-rows-filled false behind e p ps = refl
+rows-filled : (b : Bool) (e : Element) (p : OpenElement) (ps : Stack) → is_filled (begun_rows b e p ++ ps) ≡ true
+rows-filled true e p ps = refl
+rows-filled false e p ps = refl
 
 module _ (inside_events : Pick → List Event) (inside : (Content → Bool) → Option (List Result))
     (runs : (pick : Pick) → Runs (inside_events pick) (inside (picks pick))) (e : Element) (p : OpenElement) (ps : Stack) (es : List Event) where
   begun-filled : (k : ElementKind) → is_filled (begun k (of_kind e k) p ++ ps) ≡ true
   begun-filled (element.Node kind) = elim (not (inserts e) || holds_insertions kind)
       as (λ b. is_filled ((begun_node b kind (of_kind e (element.Node kind)) ++ p ∷ []) ++ ps) ≡ true) [ true ↦ refl | false ↦ refl ]
-  begun-filled (element.Part part.Body) = rows-filled (is_table p.kind) false (of_kind e (element.Part part.Body)) p ps
-  begun-filled (element.Part part.Foot) = rows-filled (is_table p.kind) true (of_kind e (element.Part part.Foot)) p ps
+  begun-filled (element.Part part.Body) = rows-filled (is_table p.kind) (of_kind e (element.Part part.Body)) p ps
+  begun-filled (element.Part part.Foot) = rows-filled (is_table p.kind) (of_kind e (element.Part part.Foot)) p ps
   begun-filled (element.Part part.Row) =
       elim (is_rows p.kind) as (λ b. is_filled (begun_row b (of_kind e (element.Part part.Row)) p ++ ps) ≡ true) [ true ↦ refl | false ↦ refl ]
   begun-filled (element.Part (part.Cell span)) =

@@ -1,5 +1,5 @@
 -- What an element that closes leaves in its parent, as code closes it.
-use Rattle.std.specs.Prelude.{◌≡◌, ℕ, Bool, true, false, List, [], ◌∷◌, Option, Some, None, option_map, reverse, if◌then◌else◌}
+use Rattle.std.specs.Prelude.{◌≡◌, ℕ, Bool, true, false, ◌&&◌, List, [], ◌∷◌, ◌++◌, length, Option, Some, None, option_map, reverse, if◌then◌else◌}
 use Rattle.html_render_dom_values.specs.declared.errors.Error.{Error}
 use Rattle.html_render_layout_nodes.specs.Tables.{TableParts, unmeasured_table}
 use Rattle.html_render_layout_nodes.specs.declared.tree.Entry.{Entry}
@@ -9,22 +9,25 @@ use Rattle.html_render_parts.specs.Refusal.{Fails}
 use Rattle.html_render_parts.specs.TableCells.{cell_grid_of}
 use Rattle.html_render_tree_mapping.specs.Results.{Role}
 use Rattle.html_render_tree_mapping.specs.Results as results
-use Rattle.html_render_tree_convert.specs.OpenElements.{OpenElement, nothing}
+use Rattle.html_render_tree_convert.specs.OpenElements.{OpenElement, nothing, sized, with_kind}
 use Rattle.html_render_tree_convert.specs.OpenElements as elements
-use Rattle.html_render_tree_convert.specs.Levels.{sized, with_kind}
-use Rattle.html_render_tree_convert.specs.Seen.{Holds, element_seen, is_root, own_node}
-use Rattle.html_render_tree_convert.specs.Steps.{Closed, closed_as, closed_node, left_by, mark_left, received, received_any, with_given}
+use Rattle.html_render_tree_convert.specs.Seen.{Holds, Level, element_seen}
+use Rattle.html_render_tree_convert.specs.Steps.{Closed, closed_as, closed_node, left_by, received, received_any, with_given}
 use Rattle.html_render_tree_convert.specs.declared.elements.Open.{Open}
 use Rattle.html_render_tree_convert.specs.declared.elements.OpenKind.{OpenKind}
 use Rattle.html_render_tree_convert.specs.declared.elements.OpenKind.TheVariants.{Parts, Rows, Row, Cell, Caption}
 
+abbrev pub Entries : Type 0
+Entries = List (Entry RenderNode)
+
 -- ---- the grid of a table
 
--- levels once the grid of a table is in its node
-abbrev pub Gridded : OpenKind → (old new : List (List (Entry RenderNode))) → Type 0
-Gridded (Parts spans) old new =
-    (grid : TableParts) × (option_map unmeasured_table (cell_grid_of spans) ≡ Some grid) × (new ≡ with_kind (Table grid) old)
-Gridded _ old new = new ≡ old
+-- entries once the grid of a table is in its node, which is at `start`
+abbrev pub Gridded : OpenKind → (start : ℕ) → (old new : Entries) → Type 0
+Gridded (Parts spans) start old new =
+    (grid : TableParts) × (option_map unmeasured_table (cell_grid_of spans) ≡ Some grid)
+    × ((below own : Entries) → old ≡ below ++ own → start ≡ length below → new ≡ below ++ with_kind (Table grid) own)
+Gridded _ start old new = new ≡ old
 
 -- why there is no grid
 abbrev pub FailsGrid : OpenKind → Error → Type 0
@@ -35,7 +38,7 @@ FailsGrid _ e = ⊥
 
 -- role of what an open element of a kind becomes
 abbrev pub role_left : OpenKind → Role
-role_left (Rows behind rows) = results.Rows behind rows
+role_left (Rows rows) = results.Rows rows
 role_left (Row cells) = results.Row cells
 role_left (Cell span) = results.Cell span
 role_left Caption = results.Caption
@@ -44,7 +47,7 @@ role_left _ = results.Contents
 -- whether an element writes what is due after its children
 abbrev pub is_completed : OpenKind → Bool
 is_completed (Parts spans) = false
-is_completed (Rows behind rows) = false
+is_completed (Rows rows) = false
 is_completed (Row cells) = false
 is_completed _ = true
 
@@ -53,22 +56,16 @@ is_parts (Parts spans) = true
 is_parts _ = false
 
 abbrev pub are_rows : OpenKind → Bool
-are_rows (Rows behind rows) = true
+are_rows (Rows rows) = true
 are_rows _ = false
 
--- entries that close, their own first if there is one
-abbrev pub closed_entries : (has_entry : Bool) → Role → (has_children is_stray : Bool) → List (Entry RenderNode) → Closed
-closed_entries true r has_children is_stray es = record {
+-- entries that close, an element's own first
+abbrev pub closed_entries : Role → (has_children is_stray : Bool) → (own : Entry RenderNode) → (inside : Entries) → Closed
+closed_entries r has_children is_stray own inside = record {
   role = r;
-  kind = (own_node true es).kind;
+  kind = own.node.kind;
   has_children = has_children;
-  entries = if is_stray then None else Some (sized es);
-}
-closed_entries false r has_children is_stray es = record {
-  role = r;
-  kind = (own_node false es).kind;
-  has_children = has_children;
-  entries = if is_stray then None else Some es;
+  entries = if is_stray then None else Some (sized (own ∷ inside));
 }
 
 -- an element as it closes, a table with its grid in its node
@@ -76,68 +73,54 @@ abbrev pub closed_with : elements.OpenKind → OpenElement → Closed
 closed_with (elements.Parts spans) p = closed_node results.Contents p.node true p.written
 closed_with kind p = closed_as kind p
 
--- ---- the parent
+-- ---- what functions do
 
--- An open element and the levels of a tree, the innermost of which has its entries:
--- * entries: these entries;
--- * levels_are: the levels are these entries and those below;
--- * seen: it is seen as this element of the abstract machine;
--- * holds: the entries are those of its kind;
--- * root: whether it is the root.
-pub record Stands (p : OpenElement) (is_outermost : Bool) (below : List (List (Entry RenderNode))) (o : Open) (levels : List (List (Entry RenderNode))) : Type 0 where
-  pub entries : List (Entry RenderNode)
-  pub levels_are : levels ≡ entries ∷ below
-  pub seen : element_seen o entries ≡ p
-  pub holds : Holds o.kind entries
-  pub root : is_root o.kind ≡ is_outermost
+-- whether a part of a table gives its insertion back to its parent
+abbrev pub gives_to : (o parent : Open) → Bool
+gives_to o parent = o.is_given && is_parts parent.kind
 
--- An element closed in its parent:
+-- a part of a table once its insertion is given back
+abbrev pub without_given : (o parent : Open) → Open
+without_given o parent = record o { due = if gives_to o parent then record o.due { outer = nothing } else o.due }
+
+-- the parent of a part of a table once the part's insertion is given back
+abbrev pub with_given_of : (o parent : Open) → Open
+with_given_of o parent =
+    record parent { due = if gives_to o parent then record { mark = parent.due.mark; outer = o.due.outer; front = []; after = None } else parent.due }
+
+-- a node at `start` closes
+abbrev pub ClosesNode : Role → (has_children is_stray : Bool) → (start : ℕ) → (parent : Open) → (old : Entries) → (new : Open) → (after : Entries) → Type 0
+ClosesNode r has_children is_stray start parent old new after =
+    (is_outermost : Bool) (before below : Entries) (own : Entry RenderNode) (inside : Entries) (q : OpenElement) →
+    old ≡ before ++ own ∷ inside → start ≡ length before → Level parent is_outermost below before q →
+    Level new is_outermost below after (received (closed_entries r has_children is_stray own inside) q)
+
+-- an element closes that doesn't vanish
+abbrev pub ClosesStanding : (o parent : Open) (old : Entries) (new : Open) (after : Entries) → Type 0
+ClosesStanding o parent old new after = (is_outermost : Bool) (before below : Entries) (p q : OpenElement) →
+    Level o false before old p → Level parent is_outermost below before q →
+    Level new is_outermost below after (received (closed_with p.kind p) q)
+
+-- An element has closed in its parent:
 -- * left: what it leaves;
 -- * is_left: that is what it is defined to leave;
 -- * parent: the parent has received that.
-pub record ClosedIn (p outer : OpenElement) (is_outermost : Bool) (below : List (List (Entry RenderNode))) (new : Open) (levels : List (List (Entry RenderNode))) : Type 0 where
+pub record ClosedIn (p q : OpenElement) (is_outermost : Bool) (below : Entries) (new : Open) (after : Entries) : Type 0 where
   pub left : Option Closed
   pub is_left : left_by p.kind p ≡ Some left
-  pub parent : Stands (received_any left (with_given p.given outer)) is_outermost below new levels
+  pub parent : Level new is_outermost below after (received_any left (with_given p.given q))
 
--- ---- what functions do, with a tree of these levels
-
--- an element whose insertion is given back to its table
-abbrev pub without_given : Open → Open
-without_given o = record o { due = if o.is_given then record o.due { outer = nothing } else o.due }
-
--- its parent then
-abbrev pub with_given_of : (o parent : Open) → Open
-with_given_of o parent =
-    record parent { due = if o.is_given then record { mark = parent.due.mark; outer = o.due.outer; front = []; after = None } else parent.due }
-
--- the mark of an element that vanishes is put
-abbrev pub PutsMark : (mark : Option (List ℕ)) (parent : Open) (old : List (List (Entry RenderNode))) (new : Open) (levels : List (List (Entry RenderNode))) → Type 0
-PutsMark mark parent old new levels =
-    (outer : List (Entry RenderNode)) (below : List (List (Entry RenderNode))) → old ≡ outer ∷ below → Holds parent.kind outer →
-    Stands (received_any (mark_left mark) (element_seen parent outer)) (is_root parent.kind) below new levels
-
--- an element closes that doesn't vanish
-abbrev pub ClosesStanding : (o parent : Open) (old : List (List (Entry RenderNode))) (new : Open) (levels : List (List (Entry RenderNode))) → Type 0
-ClosesStanding o parent old new levels =
-    (top outer : List (Entry RenderNode)) (below : List (List (Entry RenderNode))) → old ≡ top ∷ (outer ∷ below) →
-    is_root o.kind ≡ false → Holds o.kind top → Holds parent.kind outer →
-    Stands (received (closed_with (element_seen o top).kind (element_seen o top)) (element_seen parent outer)) (is_root parent.kind) below new levels
-
--- an element closes; what it gives back is that of a part of a table, to a parent that gives nothing back
-abbrev pub ClosesInto : (o parent : Open) (old : List (List (Entry RenderNode))) (new : Open) (levels : List (List (Entry RenderNode))) → Type 0
-ClosesInto o parent old new levels =
-    (top outer : List (Entry RenderNode)) (below : List (List (Entry RenderNode))) → old ≡ top ∷ (outer ∷ below) →
-    is_root o.kind ≡ false → Holds o.kind top → Holds parent.kind outer →
-    (o.is_given ≡ true → (are_rows o.kind ≡ true) × (parent.is_given ≡ false)) →
-    ClosedIn (element_seen o top) (element_seen parent outer) (is_root parent.kind) below new levels
+-- an element closes
+abbrev pub ClosesInto : (o parent : Open) (old : Entries) (new : Open) (after : Entries) → Type 0
+ClosesInto o parent old new after = (is_outermost : Bool) (before below : Entries) (p q : OpenElement) →
+    Level o false before old p → Level parent is_outermost below before q → ClosedIn p q is_outermost below new after
 
 -- why it doesn't
 abbrev pub FailsToClose : Open → Error → Type 0
-FailsToClose o e = (top : List (Entry RenderNode)) → Holds o.kind top → Fails e (left_by (element_seen o top).kind (element_seen o top))
+FailsToClose o e = (own : Entries) → Holds o.kind own → Fails e (left_by (element_seen o own).kind (element_seen o own))
 
 -- the last of open elements closes in that before it
-abbrev pub ClosesLast : (elements : List Open) (old : List (List (Entry RenderNode))) (new : List Open) (levels : List (List (Entry RenderNode))) → Type 0
-ClosesLast elements old new levels =
+abbrev pub ClosesLast : (elements : List Open) (old : Entries) (new : List Open) (after : Entries) → Type 0
+ClosesLast elements old new after =
     (o parent : Open) (rest : List Open) → reverse elements ≡ o ∷ (parent ∷ rest) →
-    (q : Open) × ((reverse new ≡ q ∷ rest) × ClosesInto o parent old q levels)
+    (q : Open) × ((reverse new ≡ q ∷ rest) × ClosesInto o parent old q after)

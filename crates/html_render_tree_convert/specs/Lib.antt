@@ -6,9 +6,6 @@ pub mod Walk
 pub mod OpenElements
 -- what each event does to them
 pub mod Steps
--- trees that are being written
-pub mod Levels
-pub mod TopStart
 -- what code keeps of an open element, and what that is seen as
 pub mod Held
 pub mod Keeping

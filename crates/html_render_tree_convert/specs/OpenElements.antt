@@ -24,6 +24,19 @@ within outer inner = record { front = outer.front ++ inner.front; back = inner.b
 
 -- ---- entries
 
+abbrev pub leaf : RenderNode → Entry RenderNode
+leaf n = record { node = n; subtree_len = 1 }
+
+-- a closed node has the size of its subtree
+abbrev pub sized : List (Entry RenderNode) → List (Entry RenderNode)
+sized [] = []
+sized (e ∷ es) = record e { subtree_len = length es + 1 } ∷ es
+
+-- the first entry with a node of another kind
+abbrev pub with_kind : NodeKind → List (Entry RenderNode) → List (Entry RenderNode)
+with_kind k [] = []
+with_kind k (e ∷ es) = record e { node = record e.node { kind = k } } ∷ es
+
 abbrev pub leaves : List RenderNode → List (Entry RenderNode)
 leaves nodes = map (λ n. record { node = n; subtree_len = 1 }) nodes
 
@@ -37,14 +50,14 @@ over_entries n es = record { node = n; subtree_len = length es + 1 } ∷ es
 -- * Node: an element that becomes a node of this kind, or a container round one;
 -- * Captions: a table whose captions come;
 -- * Parts: a table whose rows come, with the spans of the cells so far;
--- * Rows: a part of a table, true for a `tfoot`, with its rows so far;
+-- * Rows: a part of a table, with its rows so far;
 -- * Row: a row, with its cells so far;
 -- * Cell, Caption.
 pub data OpenKind : Type 0 where
   Node : NodeKind → OpenKind
   Captions : OpenKind
   Parts : List (List Span) → OpenKind
-  Rows : (behind : Bool) → List (List CellSpan) → OpenKind
+  Rows : List (List CellSpan) → OpenKind
   Row : List CellSpan → OpenKind
   Cell : CellSpan → OpenKind
   Caption : OpenKind

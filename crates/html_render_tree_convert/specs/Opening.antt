@@ -1,49 +1,16 @@
 -- Elements that open, as code opens them.
-use Rattle.std.specs.Prelude.{◌≡◌, List, [], ◌∷◌, ◌++◌, Bool, true, false, not, ◌||◌, Option, Some, None, is_some, map, option_map}
+use Rattle.std.specs.Prelude.{◌≡◌, List, [], ◌∷◌, ◌++◌, Bool, true, false, Some, None, map, option_map, if◌then◌else◌}
 use Rattle.std.specs.Option.{option_map_or}
 use Rattle.html_render_layout_nodes.specs.declared.tree.Entry.{Entry}
 use Rattle.html_render_layout_nodes.specs.declared.tree.RenderNode.{RenderNode}
 use Rattle.html_render_layout_nodes.specs.declared.tree.NodeKind.{NodeKind}
-use Rattle.html_render_layout_nodes.specs.declared.tree.NodeKind.TheVariants.{Container, FragmentStart, Text}
-use Rattle.html_render_tree_convert.specs.OpenElements.{Insertion, OpenElement, OpenKind, Node, Captions, Parts, Rows, nothing, text_nodes}
-use Rattle.html_render_tree_convert.specs.Seen.{AllHold, Holds, element_seen, seen}
-use Rattle.html_render_tree_convert.specs.Steps.{begun_rows, caption_kind, is_row, is_rows, is_table}
+use Rattle.html_render_layout_nodes.specs.declared.tree.NodeKind.TheVariants.{Block, Container}
+use Rattle.html_render_tree_convert.specs.OpenElements.{Insertion, OpenElement, OpenKind, Node, Parts, nothing}
+use Rattle.html_render_tree_convert.specs.Seen.{Level, element_seen}
+use Rattle.html_render_tree_convert.specs.Steps.{is_captions, is_row, is_rows, is_table}
 use Rattle.html_render_tree_convert.specs.declared.elements.Open.{Open}
-use Rattle.html_render_tree_convert.specs.declared.elements.OpenKind.TheVariants as kind_in
-use Rattle.html_render_tree_mapping.specs.ElementTexts.{has_any}
-use Rattle.html_render_tree_mapping.specs.declared.mapping.IfEmpty.{IfEmpty}
-use Rattle.html_render_tree_mapping.specs.declared.plans.Element.{Element}
-use Rattle.html_render_tree_mapping.specs.declared.plans.ElementTexts.{ElementTexts}
-use Rattle.html_render_tree_mapping.specs.declared.tables.CellSpan.{CellSpan}
-
--- whether an open element of a kind may have an insertion to give back: only rows have one
-abbrev pub GivesBack : OpenKind → Option Insertion → Type 0
-GivesBack (Rows behind rows) given = Unit {0}
-GivesBack kind given = given ≡ None
-
-abbrev pub MayGive : OpenElement → Type 0
-MayGive p = GivesBack p.kind p.given
-
-abbrev pub AllMayGive : List OpenElement → Type 0
-AllMayGive [] = Unit {0}
-AllMayGive (p ∷ ps) = MayGive p × AllMayGive ps
-
-abbrev pub in_table : List OpenElement → Bool
-in_table [] = false
-in_table (p ∷ ps) = is_table p.kind
-
--- whether an open element has nothing to give back, or a table outside it to which it gives that
-abbrev pub GivesTo : OpenElement → (outside : List OpenElement) → Type 0
-GivesTo p ps = (not (is_some p.given) || in_table ps) ≡ true
-
-abbrev pub AllGiveTo : List OpenElement → Type 0
-AllGiveTo [] = Unit {0}
-AllGiveTo (p ∷ ps) = GivesTo p ps × AllGiveTo ps
-
--- whether entries are those of open elements, of which only rows in a table give back; after an error none is open
-abbrev pub IsSound : List Open → List (List (Entry RenderNode)) → Type 0
-IsSound [] levels = Unit {0}
-IsSound (o ∷ os) levels = AllHold (o ∷ os) levels × AllMayGive (seen (o ∷ os) levels) × AllGiveTo (seen (o ∷ os) levels)
+use Rattle.html_render_tree_convert.specs.declared.elements.Place.{Place}
+use Rattle.html_render_tree_convert.specs.declared.elements.Place.TheVariants as place
 
 -- whether an element is open
 abbrev pub IsOpen : List OpenElement → Type 0
@@ -60,26 +27,33 @@ abbrev pub innermost : (OpenElement → OpenElement) → List OpenElement → Li
 innermost f [] = []
 innermost f (p ∷ ps) = f p ∷ ps
 
--- whether an open element becomes another, and its entries, the innermost, become others, which are then seen as `f` of what was seen
-abbrev pub Becomes : (OpenElement → OpenElement) → (old new : Open) → (before after : List (List (Entry RenderNode))) → Type 0
-Becomes f old new before after =
-    (own : List (Entry RenderNode)) (below : List (List (Entry RenderNode))) → Holds old.kind own → before ≡ own ∷ below →
-    (es : List (Entry RenderNode)) × ((after ≡ es ∷ below) × (element_seen new es ≡ f (element_seen old own)) × Holds new.kind es)
+-- whether an open element and the tree become others, so that it is seen as `f` of what it was seen as
+abbrev pub Becomes : (OpenElement → OpenElement) → (old new : Open) → (before after : List (Entry RenderNode)) → Type 0
+Becomes f old new before after = (is_outermost : Bool) (below : List (Entry RenderNode)) (p : OpenElement) →
+    Level old is_outermost below before p → Level new is_outermost below after (f p)
+
+-- the innermost of open elements, those outside it, and its entries
+pub record Innermost (o : Open) (ps : List OpenElement) : Type 0 where
+  pub own : List (Entry RenderNode)
+  pub rest : List OpenElement
+  pub seen_is : ps ≡ element_seen o own ∷ rest
 
 -- ---- the parent of an element that opens
 
-abbrev pub in_rows : List OpenElement → Bool
-in_rows [] = false
-in_rows (p ∷ ps) = is_rows p.kind
+-- whether an open element is an element of a table
+abbrev pub is_place : Place → OpenKind → Bool
+is_place place.Captions kind = is_captions kind
+is_place place.Table kind = is_table kind
+is_place place.Rows kind = is_rows kind
+is_place place.Row kind = is_row kind
 
-abbrev pub in_row : List OpenElement → Bool
-in_row [] = false
-in_row (p ∷ ps) = is_row p.kind
+abbrev pub is_in : Place → List OpenElement → Bool
+is_in wanted [] = false
+is_in wanted (p ∷ ps) = is_place wanted p.kind
 
 -- kind of the node of a caption that opens
 abbrev pub kind_of_caption : List OpenElement → NodeKind
-kind_of_caption [] = Container
-kind_of_caption (p ∷ ps) = caption_kind p.kind
+kind_of_caption ps = if is_in place.Captions ps then Block else Container
 
 -- what is due in the innermost open element
 abbrev pub due_in : List OpenElement → Insertion
@@ -91,26 +65,15 @@ abbrev pub taken : (is_taken : Bool) → List OpenElement → Insertion
 taken true (p ∷ ps) = p.due
 taken is_taken ps = nothing
 
--- open elements once what is due in the innermost is taken for good
+-- an open element once what is due in it is taken for good
+abbrev pub once : OpenElement → OpenElement
+once p = record p { due = nothing; given = if is_rows p.kind then None else p.given }
+
 abbrev pub left_once : (is_taken : Bool) → List OpenElement → List OpenElement
-left_once true ps = innermost (λ p. record p { due = nothing; given = None }) ps
+left_once true ps = innermost once ps
 left_once false ps = ps
 
--- ---- elements that open
-
-abbrev pub rows_opened : (behind : Bool) → Element → List OpenElement → List OpenElement
-rows_opened behind e [] = []
-rows_opened behind e (p ∷ ps) = begun_rows behind (is_table p.kind) e p ++ ps
-
 -- ---- the captions of a table have come
-
-abbrev pub is_captions : OpenKind → Bool
-is_captions Captions = true
-is_captions kind = false
-
-abbrev pub in_captions : List OpenElement → Bool
-in_captions [] = false
-in_captions (p ∷ ps) = is_captions p.kind
 
 -- whether a result that counts has come in the innermost open element
 abbrev pub has_result : List OpenElement → Bool
@@ -126,23 +89,4 @@ without_captions p = record p {
   kind = Parts [];
   due = record { front = option_map_or (λ es. map (λ (e : Entry RenderNode). e.node) es) p.written []; back = p.due.back };
   written = Some [];
-}
-
--- ---- cells
-
--- nodes that an element inserts in front of its children
-abbrev pub own_front : ElementTexts → List RenderNode
-own_front texts = text_nodes FragmentStart texts.mark ++ text_nodes Text texts.before
-
--- a cell as it opens, with nodes from outside after its children
-abbrev pub cell_as_open : CellSpan → IfEmpty → ElementTexts → (back : List RenderNode) → Open
-cell_as_open span if_empty texts back = record {
-  kind = kind_in.Cell span;
-  due = record { mark = texts.mark; outer = record { front = []; back = back }; front = []; after = texts.after };
-  if_empty = if_empty;
-  is_given = false;
-  has_results = false;
-  has_children = has_any texts;
-  is_wrapped = false;
-  is_stray = false;
 }

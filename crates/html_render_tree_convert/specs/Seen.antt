@@ -1,5 +1,5 @@
 -- Open elements as code keeps them, and what they are seen as.
-use Rattle.std.specs.Prelude.{◌≡◌, Bool, true, false, List, [], ◌∷◌, drop, Some, None, if◌then◌else◌}
+use Rattle.std.specs.Prelude.{◌≡◌, Bool, true, false, List, [], ◌∷◌, ◌++◌, length, take, drop, Option, Some, None, if◌then◌else◌}
 use Rattle.html_render_layout_nodes.specs.RenderNodes.{without_style}
 use Rattle.html_render_layout_nodes.specs.declared.tree.Entry.{Entry}
 use Rattle.html_render_layout_nodes.specs.declared.tree.NodeKind.{NodeKind}
@@ -7,7 +7,7 @@ use Rattle.html_render_layout_nodes.specs.declared.tree.NodeKind.TheVariants.{Co
 use Rattle.html_render_layout_nodes.specs.declared.tree.RenderNode.{RenderNode}
 use Rattle.html_render_tree_mapping.specs.Results.{Role}
 use Rattle.html_render_tree_mapping.specs.Results as results
-use Rattle.html_render_tree_convert.specs.OpenElements.{OpenElement}
+use Rattle.html_render_tree_convert.specs.OpenElements.{Insertion, OpenElement}
 use Rattle.html_render_tree_convert.specs.OpenElements as elements
 use Rattle.html_render_tree_convert.specs.Held.{due_of}
 use Rattle.html_render_tree_convert.specs.Keeping.{keeping_of}
@@ -23,14 +23,14 @@ use Rattle.html_render_tree_convert.specs.declared.elements.Role.TheVariants as 
 abbrev pub meant : RoleIn → Role
 meant role.Contents = results.Contents
 meant role.Caption = results.Caption
-meant (role.Rows behind rows) = results.Rows behind rows
+meant (role.Rows rows) = results.Rows rows
 meant (role.Row cells) = results.Row cells
 meant (role.Cell span) = results.Cell span
 
 -- whether an open element of a kind has an entry of its own
 abbrev pub has_entry : OpenKind → Bool
 has_entry Root = false
-has_entry (Rows behind rows) = false
+has_entry (Rows rows) = false
 has_entry _ = true
 
 -- kind of an open element whose node is of a kind
@@ -39,7 +39,7 @@ kind_seen Root own = elements.Node Container
 kind_seen (Node keeping) own = elements.Node own
 kind_seen Captions own = elements.Captions
 kind_seen (Parts spans) own = elements.Parts spans
-kind_seen (Rows behind rows) own = elements.Rows behind rows
+kind_seen (Rows rows) own = elements.Rows rows
 kind_seen (Row cells) own = elements.Row cells
 kind_seen (Cell span) own = elements.Cell span
 kind_seen Caption own = elements.Caption
@@ -54,6 +54,11 @@ abbrev pub inside : (has_entry : Bool) → List (Entry RenderNode) → List (Ent
 inside true es = drop 1 es
 inside false es = es
 
+-- insertion that an open element of a kind gives back: only a part of a table does
+abbrev pub given_in : OpenKind → (is_given : Bool) → (outer : Insertion) → Option Insertion
+given_in (Rows rows) true outer = Some outer
+given_in _ _ _ = None
+
 -- AN OPEN ELEMENT with these entries
 abbrev pub element_seen : Open → List (Entry RenderNode) → OpenElement
 element_seen o es = let n = own_node (has_entry o.kind) es in record {
@@ -62,22 +67,22 @@ element_seen o es = let n = own_node (has_entry o.kind) es in record {
   if_empty = o.if_empty;
   mark = o.due.mark;
   due = due_of o.due;
-  given = if o.is_given then Some o.due.outer else None;
+  given = given_in o.kind o.is_given o.due.outer;
   has_results = o.has_results;
   has_children = o.has_children;
   is_wrapped = o.is_wrapped;
   written = if o.is_stray then None else Some (inside (has_entry o.kind) es);
 }
 
--- open elements with the entries of each, the innermost first
-abbrev pub seen : List Open → List (List (Entry RenderNode)) → List OpenElement
-seen (o ∷ os) (es ∷ levels) = element_seen o es ∷ seen os levels
-seen _ _ = []
+-- open elements of a tree, the innermost first: each has the entries from its start on
+abbrev pub seen : List Open → List (Entry RenderNode) → List OpenElement
+seen [] es = []
+seen (o ∷ os) es = element_seen o (drop o.start es) ∷ seen os (take o.start es)
 
 -- whether entries are those of an open element of a kind
 abbrev pub Holds : OpenKind → List (Entry RenderNode) → Type 0
 Holds Root es = Unit {0}
-Holds (Rows behind rows) es = Unit {0}
+Holds (Rows rows) es = Unit {0}
 Holds kind [] = ⊥
 Holds (Node keeping) (e ∷ es) = keeping ≡ keeping_of e.node.kind
 Holds Captions (e ∷ es) = e.node.kind ≡ Container
@@ -87,8 +92,30 @@ abbrev pub is_root : OpenKind → Bool
 is_root Root = true
 is_root _ = false
 
+-- An open element whose entries follow those outside it, and what it is seen as:
+-- * own: its entries;
+-- * entries_are, start_is: they follow the others, and start there;
+-- * root: whether it is the root;
+-- * holds: they are those of its kind;
+-- * is_seen: what it is seen as.
+pub record Level (o : Open) (is_outermost : Bool) (below es : List (Entry RenderNode)) (p : OpenElement) : Type 0 where
+  pub own : List (Entry RenderNode)
+  pub entries_are : es ≡ below ++ own
+  pub start_is : o.start ≡ length below
+  pub root : is_root o.kind ≡ is_outermost
+  pub holds : Holds o.kind own
+  pub is_seen : element_seen o own ≡ p
+
+abbrev pub is_none : List Open → Bool
+is_none [] = true
+is_none _ = false
+
 -- whether entries are those of open elements, of which the outermost alone is the root
-abbrev pub AllHold : List Open → List (List (Entry RenderNode)) → Type 0
-AllHold (o ∷ []) (es ∷ []) = is_root o.kind ≡ true
-AllHold (o ∷ (q ∷ os)) (es ∷ levels) = (is_root o.kind ≡ false) × (Holds o.kind es × AllHold (q ∷ os) levels)
-AllHold _ _ = ⊥
+abbrev pub AllHold : List Open → List (Entry RenderNode) → Type 0
+AllHold [] es = es ≡ []
+AllHold (o ∷ os) es = Level o (is_none os) (take o.start es) es (element_seen o (drop o.start es)) × AllHold os (take o.start es)
+
+-- whether entries are those of open elements; after an error none may be open, whatever the entries
+abbrev pub IsSound : List Open → List (Entry RenderNode) → Type 0
+IsSound [] es = Unit {0}
+IsSound (o ∷ os) es = AllHold (o ∷ os) es

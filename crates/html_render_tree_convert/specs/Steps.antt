@@ -42,10 +42,10 @@ begun_node false kind e =
     ∷ []
 
 -- Rows in a table take what is due there, until they end without a row.
-abbrev pub begun_rows : (behind in_table : Bool) → Element → (parent : OpenElement) → List OpenElement
-begun_rows behind true e p =
-    carrier (open_kind.Rows behind []) (without_style Container) e (within p.due (insertion_of e)) (Some p.due) ∷ record p { due = nothing } ∷ []
-begun_rows behind false e p = carrier (open_kind.Rows behind []) (without_style Container) e (insertion_of e) None ∷ p ∷ []
+abbrev pub begun_rows : (in_table : Bool) → Element → (parent : OpenElement) → List OpenElement
+begun_rows true e p =
+    carrier (open_kind.Rows []) (without_style Container) e (within p.due (insertion_of e)) (Some p.due) ∷ record p { due = nothing } ∷ []
+begun_rows false e p = carrier (open_kind.Rows []) (without_style Container) e (insertion_of e) None ∷ p ∷ []
 
 abbrev pub row_carrier : Element → (due : Insertion) → OpenElement
 row_carrier e due = record (carrier (open_kind.Row []) (node_in e.style TableRow) e due None) { if_empty = Stands }
@@ -68,24 +68,27 @@ is_table (open_kind.Parts spans) = true
 is_table _ = false
 
 abbrev pub is_rows : OpenKind → Bool
-is_rows (open_kind.Rows behind rows) = true
+is_rows (open_kind.Rows rows) = true
 is_rows _ = false
 
 abbrev pub is_row : OpenKind → Bool
 is_row (open_kind.Row cells) = true
 is_row _ = false
 
+abbrev pub is_captions : OpenKind → Bool
+is_captions open_kind.Captions = true
+is_captions _ = false
+
 -- kind of a caption's node
 abbrev pub caption_kind : (parent : OpenKind) → NodeKind
-caption_kind open_kind.Captions = Block
-caption_kind _ = Container
+caption_kind parent = if is_captions parent then Block else Container
 
 -- what opens with an element, and its parent
 abbrev pub begun : ElementKind → Element → (parent : OpenElement) → List OpenElement
 begun (element.Node kind) e p = begun_node (not (inserts e) || holds_insertions kind) kind e ++ p ∷ []
 begun (element.Part part.Table) e p = holder open_kind.Captions (node_in e.style Container) e.if_empty e.texts.mark (insertion_of e) true ∷ p ∷ []
-begun (element.Part part.Body) e p = begun_rows false (is_table p.kind) e p
-begun (element.Part part.Foot) e p = begun_rows true (is_table p.kind) e p
+begun (element.Part part.Body) e p = begun_rows (is_table p.kind) e p
+begun (element.Part part.Foot) e p = begun_rows (is_table p.kind) e p
 begun (element.Part part.Row) e p = begun_row (is_rows p.kind) e p
 begun (element.Part (part.Cell span)) e p = begun_cell span (is_row p.kind) e p
 begun (element.Part part.Caption) e p =
@@ -140,8 +143,8 @@ closed_table p grid = closed_node role.Contents (record p.node { kind = Table gr
 
 -- an open element of a kind as it closes, unless it vanishes
 abbrev pub closed_as : OpenKind → OpenElement → Closed
-closed_as (open_kind.Rows behind rows) p =
-    record { role = role.Rows behind rows; kind = p.node.kind; has_children = p.has_children; entries = p.written }
+closed_as (open_kind.Rows rows) p =
+    record { role = role.Rows rows; kind = p.node.kind; has_children = p.has_children; entries = p.written }
 closed_as (open_kind.Row cells) p = closed_node (role.Row cells) p.node p.has_children p.written
 closed_as (open_kind.Cell span) p = closed_node (role.Cell span) p.node p.has_children (completed_entries p)
 closed_as open_kind.Caption p = closed_node role.Caption p.node p.has_children (completed_entries p)
@@ -166,7 +169,7 @@ abbrev pub accepts : OpenKind → Role → NodeKind → Bool
 accepts (open_kind.Node parent) r kind = keeps parent kind
 accepts open_kind.Captions r kind = is_caption r
 accepts (open_kind.Parts spans) r kind = are_rows r
-accepts (open_kind.Rows behind rows) r kind = is_some (row_of r)
+accepts (open_kind.Rows rows) r kind = is_some (row_of r)
 accepts (open_kind.Row cells) r kind = is_some (cell_of r)
 accepts _ r kind = true
 
@@ -180,14 +183,14 @@ counts_in _ r kind has_children = true
 -- whether a result that is kept is in its place
 abbrev pub has_place : OpenKind → Role → Bool
 has_place (open_kind.Parts spans) r = true
-has_place (open_kind.Rows behind rows) r = true
+has_place (open_kind.Rows rows) r = true
 has_place (open_kind.Row cells) r = true
 has_place _ r = stands_alone r
 
 -- spans and cells of a table, of rows and of a row, with those of a result
 abbrev pub gathered : OpenKind → Role → OpenKind
-gathered (open_kind.Parts spans) (role.Rows behind rows) = open_kind.Parts (spans ++ spanned_in (greatest_width rows) rows)
-gathered (open_kind.Rows behind rows) (role.Row cells) = open_kind.Rows behind (rows ++ cells ∷ [])
+gathered (open_kind.Parts spans) (role.Rows rows) = open_kind.Parts (spans ++ spanned_in (greatest_width rows) rows)
+gathered (open_kind.Rows rows) (role.Row cells) = open_kind.Rows (rows ++ cells ∷ [])
 gathered (open_kind.Row cells) (role.Cell span) = open_kind.Row (cells ++ span ∷ [])
 gathered kind _ = kind
 
@@ -215,9 +218,10 @@ received c p = if accepts p.kind c.role c.kind then with_child c (counted c p) e
 abbrev pub received_any : Option Closed → OpenElement → OpenElement
 received_any c p = option_map_or (λ x. received x p) c p
 
--- the parent of a part of a table that has no row gets its insertion back
+-- a table gets the insertion back of a part that has no row
 abbrev pub with_given : Option Insertion → OpenElement → OpenElement
-with_given given p = option_map_or (λ due. record p { due = due }) given p
+with_given None p = p
+with_given (Some due) p = if is_table p.kind then record p { due = due } else p
 
 -- ---- events
 

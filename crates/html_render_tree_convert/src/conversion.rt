@@ -1,17 +1,16 @@
 //! The conversion of a document in one forward pass: what each event of a walk does to the open elements.
 
-ghost use Rattle.std.specs.Prelude.{◌≡◌, [], ◌∷◌, ◌++◌, IfErr, IfOk, OnOk, Some, false};
+ghost use Rattle.std.specs.Prelude.{◌≡◌, [], ◌∷◌, ◌++◌, IfErr, IfNone, IfOk, IfSome, OnOk, Some, false, length};
 ghost use Rattle.std.specs.Bool.{OnFalse};
 ghost use Rattle.html_render_dom_values.specs.Outcome.{OnlyOutOfMemory};
 ghost use Rattle.html_render_layout_nodes.specs.RenderNodes.{without_style};
 ghost use Rattle.html_render_parts.specs.Refusal.{Fails};
-ghost use Rattle.html_render_tree_convert.specs.Levels.{begun, begun_part, leaf};
-ghost use Rattle.html_render_tree_convert.specs.OpenElements.{OpenElement, nothing, root};
-ghost use Rattle.html_render_tree_convert.specs.Opening.{Becomes, GivesTo, IsOpen, MayGive, due_in};
+ghost use Rattle.html_render_tree_convert.specs.OpenElements.{OpenElement, leaf, nothing, root};
+ghost use Rattle.html_render_tree_convert.specs.Opening.{Becomes, Innermost, IsOpen, due_in};
 ghost use Rattle.html_render_tree_convert.specs.Seen.{Holds, element_seen, is_root};
 ghost use Rattle.html_render_tree_convert.specs.Steps.{closed_leaf, put, received};
 
-use crate::builder::TreeBuilder;
+use crate::builder::{Tree, put};
 use crate::due::Due;
 use crate::elements::{Open, OpenKind, Role};
 use html_render_dom_values::Error;
@@ -32,36 +31,18 @@ mod opening;
 #[inline(always)]
 fn begin_in(
     elements: &mut Vec<Open>,
-    tree: &mut TreeBuilder,
-    element: Open,
+    tree: &mut Tree,
+    mut element: Open,
     node: RenderNode,
 ) -> Result<(), Error>
-    ensures elements { OnOk result (elements.new.items ≡ elements.old.items ++ element ∷ []) }
-    ensures tree { OnOk result (tree.new ≡ begun node tree.old) }
+    ensures elements { OnOk result (elements.new.items ≡ elements.old.items ++ record element { start = length tree.old.items } ∷ []) }
+    ensures tree { OnOk result (tree.new.items ≡ tree.old.items ++ leaf node ∷ []) }
     ensures err { OnlyOutOfMemory result }
 {
+    element.start = tree.len();
     elements.reserve(1)?;
-    tree.begin(node)?;
+    put(node, tree)?;
     elements.push_reserved(element);
-    Ok(())
-}
-
-/// Appends an open element, and opens a part without a node of its own.
-///
-/// # Errors
-///
-/// `OutOfMemory` if an allocation is refused.
-fn begin_part_in(
-    elements: &mut Vec<Open>,
-    tree: &mut TreeBuilder,
-    element: Open,
-) -> Result<(), Error>
-    ensures elements { OnOk result (elements.new.items ≡ elements.old.items ++ element ∷ []) }
-    ensures tree { OnOk result (tree.new ≡ begun_part tree.old) }
-    ensures err { OnlyOutOfMemory result }
-{
-    tree.begin_part()?;
-    elements.push(element)?;
     Ok(())
 }
 
@@ -71,42 +52,35 @@ fn begin_part_in(
 ///
 /// `OutOfMemory` if an allocation is refused.
 #[inline(always)]
-fn put_in(
-    alloc: Global,
-    node: RenderNode,
-    parent: &mut Open,
-    tree: &mut TreeBuilder,
-) -> Result<(), Error>
-    ensures seen { OnOk result (Becomes (received (closed_leaf node)) parent.old parent.new tree.old tree.new) }
-    ensures root { OnOk result (is_root parent.new.kind ≡ is_root parent.old.kind) }
+fn put_in(node: RenderNode, parent: &mut Open, tree: &mut Tree) -> Result<(), Error>
+    ensures ok { OnOk result (Becomes (received (closed_leaf node)) parent.old parent.new tree.old.items tree.new.items) }
     ensures err { OnlyOutOfMemory result }
 {
-    if parent.receive(alloc, Role::Contents, &node.kind, false, false)? {
-        tree.put(node)?;
+    if parent.receive(Role::Contents, &node.kind, false, false)? {
+        put(node, tree)?;
         return Ok(());
     }
     Ok(())
 }
 
-/// A document whose nodes are being converted. Contracts see the open elements, the innermost first. After an error none is
-/// open.
+/// A document whose nodes are being converted. Contracts see the open elements, the innermost first. After an error none may
+/// be open.
 #[derive(Drop)]
 pub struct Conversion {
     elements: Vec<Open>,
-    tree: TreeBuilder,
+    tree: Tree,
 }
 
 impl Model for Conversion {
     ghost use Rattle.std.specs.Prelude.{List, reverse};
     ghost use Rattle.html_render_tree_convert.specs.OpenElements.{OpenElement};
-    ghost use Rattle.html_render_tree_convert.specs.Opening.{IsSound};
-    ghost use Rattle.html_render_tree_convert.specs.Seen.{seen};
+    ghost use Rattle.html_render_tree_convert.specs.Seen.{IsSound, seen};
 
     ghost Value = { List OpenElement };
 
-    ghost view = { λ c. seen (reverse c.elements.items) c.tree };
+    ghost view = { λ c. seen (reverse c.elements.items) c.tree.items };
 
-    ghost invariant = { λ c. IsSound (reverse c.elements.items) c.tree };
+    ghost invariant = { λ c. IsSound (reverse c.elements.items) c.tree.items };
 }
 
 impl Conversion {
@@ -123,7 +97,7 @@ impl Conversion {
         elements.push(Open::new(OpenKind::Root, Due::none(), IfEmpty::Stands, false))?;
         Ok(Conversion {
             elements,
-            tree: TreeBuilder::with_capacity(alloc, nodes)?,
+            tree: Tree::with_capacity(alloc, nodes)?,
         })
     }
 
@@ -138,14 +112,14 @@ impl Conversion {
     ///
     /// `OutOfMemory` if an allocation is refused.
     #[inline(always)]
-    pub fn put(&mut self, alloc: Global, node: RenderNode) -> Result<(), Error>
+    pub fn put(&mut self, node: RenderNode) -> Result<(), Error>
         ensures ok { OnOk result (self.new ≡ put node self.old) }
         ensures err { OnlyOutOfMemory result }
     {
         let Some(parent) = self.elements.last_mut() else {
             return Ok(());
         };
-        if let Err(error) = put_in(alloc, node, parent, &mut self.tree) {
+        if let Err(error) = put_in(node, parent, &mut self.tree) {
             self.elements.clear();
             return Err(error);
         }
@@ -158,12 +132,12 @@ impl Conversion {
     ///
     /// `OutOfMemory` if an allocation is refused.
     #[inline(always)]
-    pub fn put_text(&mut self, alloc: Global, contents: &NodeText) -> Result<(), Error>
+    pub fn put_text(&mut self, contents: &NodeText) -> Result<(), Error>
         ensures ok { OnOk result (self.new ≡ put (without_style (NodeKind.Text contents.now)) self.old) }
         ensures err { OnlyOutOfMemory result }
     {
         let text = contents.clone()?;
-        self.put(alloc, RenderNode::from(NodeKind::Text(text)))
+        self.put(RenderNode::from(NodeKind::Text(text)))
     }
 
     /// Opens an element with a node of its own.
@@ -175,8 +149,6 @@ impl Conversion {
     fn begin(&mut self, element: Open, node: RenderNode) -> Result<(), Error>
         requires root { is_root element.kind ≡ false }
         requires holds { Holds element.kind (leaf node ∷ []) }
-        requires given { MayGive (element_seen element (leaf node ∷ [])) }
-        requires given_to { GivesTo (element_seen element (leaf node ∷ [])) self.old }
         ensures ok { OnOk result (self.new ≡ element_seen element (leaf node ∷ []) ∷ self.old) }
         ensures open { OnOk result (IsOpen self.old) }
         ensures err { OnlyOutOfMemory result }
@@ -196,11 +168,9 @@ impl Conversion {
     /// # Errors
     ///
     /// `OutOfMemory` if an allocation is refused.
-    fn begin_part(&mut self, element: Open) -> Result<(), Error>
+    fn begin_part(&mut self, mut element: Open) -> Result<(), Error>
         requires root { is_root element.kind ≡ false }
         requires holds { Holds element.kind [] }
-        requires given { MayGive (element_seen element []) }
-        requires given_to { GivesTo (element_seen element []) self.old }
         ensures ok { OnOk result (self.new ≡ element_seen element [] ∷ self.old) }
         ensures open { OnOk result (IsOpen self.old) }
         ensures err { OnlyOutOfMemory result }
@@ -208,11 +178,21 @@ impl Conversion {
         if self.elements.is_empty() {
             return Err(Error::OutOfMemory);
         }
-        if let Err(error) = begin_part_in(&mut self.elements, &mut self.tree, element) {
-            self.elements.clear();
-            return Err(error);
-        }
+        element.start = self.tree.len();
+        self.elements.push(element)?;
         Ok(())
+    }
+
+    /// Returns the innermost open element.
+    #[inline(always)]
+    fn innermost(&self) -> Option<&Open>
+        ensures some { IfSome result (λ o. Innermost o.now self.now) }
+        ensures none { IfNone result (self.now ≡ []) }
+    {
+        match self.elements.last() {
+            Some(element) => Some(element),
+            None => None,
+        }
     }
 
     /// Reports whether the innermost open element may have something to write.
@@ -220,7 +200,7 @@ impl Conversion {
     fn may_have_due(&self) -> bool
         ensures { OnFalse result (due_in self.now ≡ nothing) }
     {
-        match self.elements.last() {
+        match self.innermost() {
             Some(parent) => !parent.due.is_none(),
             None => false,
         }
@@ -236,7 +216,7 @@ impl Conversion {
         ensures err { (p : OpenElement) → self ≡ p ∷ [] → IfErr result (λ e. Fails e p.written) }
     {
         match self.elements.first() {
-            Some(root) if !root.is_stray => Ok(self.tree.into_entries()),
+            Some(root) if !root.is_stray => Ok(self.tree),
             _ => Err(Error::Fail),
         }
     }

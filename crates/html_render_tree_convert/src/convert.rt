@@ -71,7 +71,7 @@ fn follow(
 {
     match plan {
         Plan::Nothing => Ok(()),
-        Plan::Alone(alone) => conversion.put(alloc, alone),
+        Plan::Alone(alone) => conversion.put(alone),
         Plan::Over {
             element,
             has_children,
@@ -158,7 +158,7 @@ fn convert_node(
 {
     let alloc = conversion.allocator();
     if let Some(text) = text_at(dom, node) {
-        return conversion.put_text(alloc, text);
+        return conversion.put_text(text);
     }
     if let Some((kind, if_empty)) = plain_element(rules, index, dom, node) {
         return enter_plain(alloc, kind, if_empty, node, cursor, conversion);

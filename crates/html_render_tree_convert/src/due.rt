@@ -5,10 +5,9 @@ ghost use Rattle.std.specs.Bool.{OnTrue};
 ghost use Rattle.html_render_dom_values.specs.Outcome.{OnlyOutOfMemory};
 ghost use Rattle.html_render_layout_nodes.specs.declared.tree.NodeKind.TheVariants.{FragmentStart};
 ghost use Rattle.html_render_tree_convert.specs.OpenElements.{leaves, nothing, text_nodes};
-ghost use Rattle.html_render_tree_convert.specs.Levels.{added};
 ghost use Rattle.html_render_tree_convert.specs.Held.{due_of, held_in, insertion_in, nothing_held};
 
-use crate::builder::TreeBuilder;
+use crate::builder::{Tree, put};
 use html_render_dom_values::Error;
 use html_render_layout_nodes::text::NodeText;
 use html_render_layout_nodes::tree::{NodeKind, RenderNode};
@@ -73,34 +72,9 @@ impl DueParts {
             back: mut outer_back,
         } = std::mem::replace(&mut self.outer, InsertedNodes::new(alloc));
         front.append(&mut self.front)?;
-        let mut back = nodes_after(alloc, self.after.take())?;
+        let mut back = front_nodes(alloc, &None, self.after.take())?;
         back.append(&mut outer_back)?;
         Ok(InsertedNodes { front, back })
-    }
-}
-
-impl DueParts {
-    /// Writes what is due after the children of an element that closes: its own text, and then the outer insertion's nodes.
-    ///
-    /// # Errors
-    ///
-    /// `OutOfMemory` if an allocation is refused.
-    fn write_back(self, tree: &mut TreeBuilder) -> Result<(), Error>
-        ensures ok { OnOk result (tree.new ≡ added (leaves (due_of (held_in (Some self))).back) tree.old) }
-        ensures err { OnlyOutOfMemory result }
-    {
-        let DueParts {
-            mark: _mark,
-            outer,
-            front: _front,
-            after,
-        } = self;
-        let InsertedNodes {
-            front: _outer_front,
-            back,
-        } = outer;
-        put_texts(None, after, tree)?;
-        put_all(back, tree)
     }
 }
 
@@ -156,8 +130,8 @@ impl Due {
         Ok(Due { parts: Some(parts) })
     }
 
-    /// Creates what an element has still to write that inserts only texts of its own, whose nodes in front of its children are
-    /// written.
+    /// Creates what an element has still to write whose nodes in front of its children are written: a text of its own after its
+    /// children, and then these nodes from outside.
     ///
     /// # Errors
     ///
@@ -166,19 +140,20 @@ impl Due {
         alloc: Global,
         mark: Option<NodeText>,
         after: Option<NodeText>,
+        back: Vec<RenderNode>,
     ) -> Result<Due, Error>
-        ensures ok { IfOk result (λ d. d ≡ record nothing_held { mark = mark; after = after }) }
+        ensures ok { IfOk result (λ d. d ≡ record { mark = mark; outer = record { front = []; back = back.items }; front = []; after = after }) }
         ensures err { OnlyOutOfMemory result }
     {
-        if mark.is_none() && after.is_none() {
-            return Ok(Due::none());
-        }
+        let front = Vec::new(alloc);
+        let outer = InsertedNodes { front, back };
+        let front = Vec::new(alloc);
         Due::new(
             alloc,
             DueParts {
                 mark,
-                outer: InsertedNodes::new(alloc),
-                front: Vec::new(alloc),
+                outer,
+                front,
                 after,
             },
         )
@@ -240,20 +215,31 @@ impl Due {
         }
     }
 
-    /// Writes what is due after the children of an element that closes.
+    /// Writes what is due after the children of an element that closes: its own text, and then the outer insertion's nodes.
     ///
     /// # Errors
     ///
     /// `OutOfMemory` if an allocation is refused.
     #[inline(never)]
-    pub fn write_back(self, tree: &mut TreeBuilder) -> Result<(), Error>
-        ensures ok { OnOk result (tree.new ≡ added (leaves (due_of self).back) tree.old) }
+    pub fn write_back(self, tree: &mut Tree) -> Result<(), Error>
+        ensures ok { OnOk result (tree.new.items ≡ tree.old.items ++ leaves (due_of self).back) }
         ensures err { OnlyOutOfMemory result }
     {
-        match self.parts {
-            Some(parts) => Box::into_inner(parts).write_back(tree),
-            None => Ok(()),
-        }
+        let Some(parts) = self.parts else {
+            return Ok(());
+        };
+        let DueParts {
+            mark: _mark,
+            outer,
+            front: _front,
+            after,
+        } = Box::into_inner(parts);
+        let InsertedNodes {
+            front: _outer_front,
+            back,
+        } = outer;
+        put_texts(None, after, tree)?;
+        put_all(back, tree)
     }
 
     /// Takes the insertion of the elements outside.
@@ -324,7 +310,7 @@ impl Due {
     }
 }
 
-/// Converts the texts in front of an element's children into nodes: its mark, and its content.
+/// Converts texts into nodes: a mark, and a content.
 ///
 /// # Errors
 ///
@@ -342,22 +328,6 @@ pub fn front_nodes(
         nodes.push(RenderNode::from(NodeKind::FragmentStart(name.clone()?)))?;
     }
     if let Some(text) = before {
-        nodes.push(RenderNode::from(NodeKind::Text(text)))?;
-    }
-    Ok(nodes)
-}
-
-/// Converts the text after an element's children into nodes.
-///
-/// # Errors
-///
-/// `OutOfMemory` if an allocation is refused.
-fn nodes_after(alloc: Global, after: Option<NodeText>) -> Result<Vec<RenderNode>, Error>
-    ensures ok { IfOk result (λ nodes. nodes.items ≡ text_nodes NodeKind.Text after) }
-    ensures err { OnlyOutOfMemory result }
-{
-    let mut nodes = Vec::new(alloc);
-    if let Some(text) = after {
         nodes.push(RenderNode::from(NodeKind::Text(text)))?;
     }
     Ok(nodes)
@@ -386,16 +356,16 @@ pub fn copy_of(text: &Option<NodeText>) -> Result<Option<NodeText>, Error>
 pub fn put_texts(
     mark: Option<NodeText>,
     before: Option<NodeText>,
-    tree: &mut TreeBuilder,
+    tree: &mut Tree,
 ) -> Result<(), Error>
-    ensures ok { OnOk result (tree.new ≡ added (leaves (text_nodes FragmentStart mark ++ text_nodes NodeKind.Text before)) tree.old) }
+    ensures ok { OnOk result (tree.new.items ≡ tree.old.items ++ leaves (text_nodes FragmentStart mark ++ text_nodes NodeKind.Text before)) }
     ensures err { OnlyOutOfMemory result }
 {
     if let Some(name) = mark {
-        tree.put(RenderNode::from(NodeKind::FragmentStart(name)))?;
+        put(RenderNode::from(NodeKind::FragmentStart(name)), tree)?;
     }
     if let Some(text) = before {
-        tree.put(RenderNode::from(NodeKind::Text(text)))?;
+        put(RenderNode::from(NodeKind::Text(text)), tree)?;
     }
     Ok(())
 }
@@ -406,12 +376,12 @@ pub fn put_texts(
 ///
 /// `OutOfMemory` if an allocation is refused.
 #[inline(never)]
-pub fn put_all(nodes: Vec<RenderNode>, tree: &mut TreeBuilder) -> Result<(), Error>
-    ensures ok { OnOk result (tree.new ≡ added (leaves nodes.items) tree.old) }
+pub fn put_all(nodes: Vec<RenderNode>, tree: &mut Tree) -> Result<(), Error>
+    ensures ok { OnOk result (tree.new.items ≡ tree.old.items ++ leaves nodes.items) }
     ensures err { OnlyOutOfMemory result }
 {
     for node in nodes {
-        tree.put(node)?;
+        put(node, tree)?;
     }
     Ok(())
 }

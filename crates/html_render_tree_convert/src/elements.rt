@@ -7,7 +7,8 @@ ghost use Rattle.html_render_layout_nodes.specs.declared.tree.RenderNode.{Render
 ghost use Rattle.html_render_tree_mapping.specs.Conversion.{vanishes};
 ghost use Rattle.html_render_tree_mapping.specs.Results.{stands_alone};
 ghost use Rattle.html_render_tree_convert.specs.Receiving.{Gathers, counts_for, keeps_in, places};
-ghost use Rattle.html_render_tree_convert.specs.Seen.{Holds, element_seen, has_entry, is_root, meant};
+ghost use Rattle.html_render_tree_convert.specs.Opening.{is_place};
+ghost use Rattle.html_render_tree_convert.specs.Seen.{Holds, element_seen, is_root, kind_seen, meant};
 ghost use Rattle.html_render_tree_convert.specs.Steps.{accepts, received};
 
 use crate::due::Due;
@@ -17,7 +18,6 @@ use html_render_dom_values::Error;
 use html_render_layout_nodes::tree::NodeKind;
 use html_render_tree_mapping::mapping::IfEmpty;
 use html_render_tree_mapping::tables::CellSpan;
-use std::alloc::Global;
 use std::mem::size_of;
 
 /// Role of a result for the element in which it comes.
@@ -27,8 +27,8 @@ pub enum Role {
     Contents,
     /// A caption.
     Caption,
-    /// Rows of a table; true for those of a `tfoot`.
-    Rows(bool, PartRows),
+    /// Rows of a table.
+    Rows(PartRows),
     /// A row of a table.
     Row(RowCells),
     /// A cell of a row.
@@ -55,8 +55,8 @@ pub enum OpenKind {
     Captions,
     /// A table whose rows come, with the spans of its cells.
     Parts(TableSpans),
-    /// A part of a table, true for a `tfoot`, with its rows.
-    Rows(bool, PartRows),
+    /// A part of a table, with its rows.
+    Rows(PartRows),
     /// A row of a table, with its cells.
     Row(RowCells),
     /// A cell of a row.
@@ -65,12 +65,30 @@ pub enum OpenKind {
     Caption,
 }
 
+/// Kind of an open element in which a part of a table is in its place.
+#[derive(Clone, Copy)]
+pub enum Place {
+    /// A table whose captions come.
+    Captions,
+    /// A table whose rows come.
+    Table,
+    /// A part of a table.
+    Rows,
+    /// A row of a table.
+    Row,
+}
+
 impl OpenKind {
-    /// Reports whether an open element of this kind has an entry of its own.
-    pub fn has_entry(&self) -> bool
-        ensures { result ≡ has_entry self.now }
+    /// Reports whether an open element of this kind is `place`.
+    pub fn is_place(&self, place: Place) -> bool
+        ensures { (own : NodeKind) → result ≡ is_place place (kind_seen self.now own) }
     {
-        !matches!(self, OpenKind::Root | OpenKind::Rows(..))
+        match place {
+            Place::Captions => matches!(self, OpenKind::Captions),
+            Place::Table => matches!(self, OpenKind::Parts(_)),
+            Place::Rows => matches!(self, OpenKind::Rows(_)),
+            Place::Row => matches!(self, OpenKind::Row(_)),
+        }
     }
 
     /// Reports whether it keeps a result of this role and kind.
@@ -81,8 +99,8 @@ impl OpenKind {
         match self {
             OpenKind::Node(keeping) => keeping.keeps(kind),
             OpenKind::Captions => matches!(role, Role::Caption),
-            OpenKind::Parts(_) => matches!(role, Role::Rows(..)),
-            OpenKind::Rows(..) => matches!(role, Role::Row(_)),
+            OpenKind::Parts(_) => matches!(role, Role::Rows(_)),
+            OpenKind::Rows(_) => matches!(role, Role::Row(_)),
             OpenKind::Row(_) => matches!(role, Role::Cell(_)),
             OpenKind::Root | OpenKind::Cell(_) | OpenKind::Caption => true,
         }
@@ -98,7 +116,7 @@ impl OpenKind {
                 !(role.stands_alone() && shows_nothing(kind, has_children))
             }
             OpenKind::Captions => matches!(role, Role::Caption),
-            OpenKind::Parts(_) => has_children && matches!(role, Role::Rows(..)),
+            OpenKind::Parts(_) => has_children && matches!(role, Role::Rows(_)),
             _ => true,
         }
     }
@@ -109,7 +127,7 @@ impl OpenKind {
         ensures { result ≡ places self.now (meant role.now) }
     {
         match self {
-            OpenKind::Parts(_) | OpenKind::Rows(..) | OpenKind::Row(_) => true,
+            OpenKind::Parts(_) | OpenKind::Rows(_) | OpenKind::Row(_) => true,
             _ => role.stands_alone(),
         }
     }
@@ -120,26 +138,28 @@ impl OpenKind {
     ///
     /// `OutOfMemory` if an allocation is refused.
     #[inline(always)]
-    fn gather(&mut self, alloc: Global, role: Role) -> Result<(), Error>
+    fn gather(&mut self, role: Role) -> Result<(), Error>
         ensures ok { OnOk result (Gathers self.old (meant role) self.new) }
         ensures err { OnlyOutOfMemory result }
     {
         match (self, role) {
-            (OpenKind::Parts(spans), Role::Rows(_, rows)) => push_part(alloc, &rows, spans),
-            (OpenKind::Rows(_, rows), Role::Row(row)) => rows.push(row),
+            (OpenKind::Parts(spans), Role::Rows(rows)) => push_part(&rows, spans),
+            (OpenKind::Rows(rows), Role::Row(row)) => rows.push(row),
             (OpenKind::Row(cells), Role::Cell(cell)) => cells.push(cell),
             _ => Ok(()),
         }
     }
 }
 
-/// An element that is open. Its node and the nodes of its children are in a [`TreeBuilder`](crate::TreeBuilder).
+/// An element that is open. Its node and the nodes of its children are the last of a [`Tree`](crate::builder::Tree).
 #[derive(Drop)]
 pub struct Open {
     /// Its kind.
     pub kind: OpenKind,
     /// What it has still to write.
     pub due: Due,
+    /// Index of its first entry in the tree.
+    pub start: usize,
     /// What becomes of it without a result that counts.
     pub if_empty: IfEmpty,
     /// Whether the outer insertion in `due` is given back to its table if it has no row.
@@ -155,14 +175,15 @@ pub struct Open {
 }
 
 // A deep document has many elements open.
-const _: () = prove!(size_of::<Open>() == 56);
+const _: () = prove!(size_of::<Open>() == 64);
 
 impl Open {
-    /// Creates an element to which no result has come.
+    /// Creates an element to which no result has come, at the start of a tree.
     pub fn new(kind: OpenKind, due: Due, if_empty: IfEmpty, has_children: bool) -> Open
         ensures { result ≡ record {
           kind = kind;
           due = due;
+          start = 0;
           if_empty = if_empty;
           is_given = false;
           has_results = false;
@@ -174,6 +195,7 @@ impl Open {
         Open {
             kind,
             due,
+            start: 0,
             if_empty,
             is_given: false,
             has_results: false,
@@ -201,7 +223,6 @@ impl Open {
     #[inline(always)]
     pub fn receive(
         &mut self,
-        alloc: Global,
         role: Role,
         kind: &NodeKind,
         has_children: bool,
@@ -217,6 +238,7 @@ impl Open {
             }) (element_seen self.old own)) }
         ensures holds { OnOk result ((own : List (Entry RenderNode)) → Holds self.old.kind own → Holds self.new.kind own) }
         ensures root { OnOk result (is_root self.new.kind ≡ is_root self.old.kind) }
+        ensures start { OnOk result (self.new.start ≡ self.old.start) }
         ensures err { OnlyOutOfMemory result }
     {
         if !self.has_results {
@@ -229,7 +251,7 @@ impl Open {
         if is_stray || !self.kind.has_place(&role) {
             self.is_stray = true;
         }
-        self.kind.gather(alloc, role)?;
+        self.kind.gather(role)?;
         Ok(true)
     }
 }

@@ -11,5 +11,4 @@ mod kinds;
 mod laws;
 mod spans;
 
-pub use builder::TreeBuilder;
 pub use cursor::{Cursor, Pick, Position, Visit};

@@ -201,10 +201,11 @@ impl TableSpans {
 /// # Errors
 ///
 /// `OutOfMemory` if an allocation is refused.
-pub fn push_part(alloc: Global, part: &PartRows, spans: &mut TableSpans) -> Result<(), Error>
+pub fn push_part(part: &PartRows, spans: &mut TableSpans) -> Result<(), Error>
     ensures ok { OnOk result (spans.new ≡ spans.old ++ spanned_in (greatest_width part.now) part.now) }
     ensures err { OnlyOutOfMemory result }
 {
+    let alloc = *spans.rows.allocator();
     push_rows(alloc, part.rows.as_slice(), &mut spans.rows)
 }
 

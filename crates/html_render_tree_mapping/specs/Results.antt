@@ -36,10 +36,10 @@ Nodes = Forest RenderNode
 
 -- ---- results
 
--- what a result is to a table: its caption; rows, which stand behind all others or don't; a row; a cell; or no part of it
+-- what a result is to a table: its caption; rows; a row; a cell; or no part of it
 pub data Role : Type 0 where
   Contents Caption : Role
-  Rows : (behind : Bool) → List (List CellSpan) → Role
+  Rows : List (List CellSpan) → Role
   Row : List CellSpan → Role
   Cell : CellSpan → Role
 
@@ -79,7 +79,7 @@ row_of _ = None
 
 -- whether a result is that of rows
 abbrev pub are_rows : Role → Bool
-are_rows (Rows behind rows) = true
+are_rows (Rows rows) = true
 are_rows _ = false
 
 -- whether a result may stand in no table: a caption is a container there
@@ -107,15 +107,15 @@ abbrev pub row_over : NodeStyle → (cells : List Result) → Result
 row_over style cells = record (over style TableRow cells) { role = Row (flat_map (λ r. option_to_list (cell_of r.role)) cells); below = beside cells }
 
 -- rows beside each other
-abbrev pub rows_over : (behind : Bool) → (rows : List Result) → Result
-rows_over behind rows =
-    record (over no_style Container rows) { role = Rows behind (flat_map (λ r. option_to_list (row_of r.role)) rows); below = beside rows }
+abbrev pub rows_over : (rows : List Result) → Result
+rows_over rows =
+    record (over no_style Container rows) { role = Rows (flat_map (λ r. option_to_list (row_of r.role)) rows); below = beside rows }
 
 -- ---- tables
 
 -- what the cells of rows span
 abbrev pub spans_of : Role → List (List Span)
-spans_of (Rows behind rows) = spanned_in (greatest_width rows) rows
+spans_of (Rows rows) = spanned_in (greatest_width rows) rows
 spans_of _ = []
 
 -- a table over these parts
@@ -166,8 +166,8 @@ counts _ role kind has_children = true
 -- its node, or its part of a table; none where a table has no grid
 abbrev pub built : ElementKind → NodeStyle → (captions others : List Result) → Option Result
 built (Part part.Table) style captions others = table_of style captions (of_role are_rows others)
-built (Part part.Body) style captions others = Some (rows_over false (of_role (λ x. is_some (row_of x)) others))
-built (Part part.Foot) style captions others = Some (rows_over true (of_role (λ x. is_some (row_of x)) others))
+built (Part part.Body) style captions others = Some (rows_over (of_role (λ x. is_some (row_of x)) others))
+built (Part part.Foot) style captions others = Some (rows_over (of_role (λ x. is_some (row_of x)) others))
 built (Part part.Row) style captions others = Some (row_over style (of_role (λ x. is_some (cell_of x)) others))
 built (Part (part.Cell span)) style captions others = Some (record (over style TableCell others) { role = Cell span })
 built (Part part.Caption) style captions others = Some (record (over style Container others) { role = Caption })

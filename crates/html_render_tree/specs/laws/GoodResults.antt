@@ -42,7 +42,7 @@ IsPlain kind = places_around Anywhere kind ≡ Some (record { below = Anywhere; 
 abbrev pub IsGood : Role → RenderNode → Nodes → Type 0
 IsGood Contents n t = are_good Anywhere (node n t none) ≡ true
 IsGood Caption n t = IsPlain n.kind × (are_good Anywhere t ≡ true)
-IsGood (Rows behind rows) n t = are_good (InTable (rows_like rows)) t ≡ true
+IsGood (Rows rows) n t = are_good (InTable (rows_like rows)) t ≡ true
 IsGood (Row cells) n t = are_good (InTable (cells_like cells ∷ [])) (node n t none) ≡ true
 IsGood (Cell span) n t = are_good (InRow (cells_like (span ∷ []))) (node n t none) ≡ true
 
@@ -167,7 +167,7 @@ rows-good = beside-good is_row rows_place refl (λ r rs t u row h k. by r.role r
 
 -- whether a role is that of rows of a table
 abbrev pub holds_rows : Role → Bool
-holds_rows (Rows behind rows) = true
+holds_rows (Rows rows) = true
 holds_rows _ = false
 
 pub joined-good : (parts : List Result) → AllGoodOf holds_rows parts →
@@ -181,9 +181,9 @@ joined-good (r ∷ rs) g = by r.role r.below (joined rs) g.0.1 g.0.0 (joined-goo
           below ← o
           others ← p
           Some (followed_by below others))
-    by (Rows behind rows) None p part h k = tt
-    by (Rows behind rows) (Some t) None part h k = tt
-    by (Rows behind rows) (Some t) (Some u) part h k =
+    by (Rows rows) None p part h k = tt
+    by (Rows rows) (Some t) None part h k = tt
+    by (Rows rows) (Some t) (Some u) part h k =
         let spans = spanned_in (greatest_width rows) rows in
         followed-rows spans (flat_map (λ r. spans_of r.role) rs) t u
         (ap (λ all. are_good (InTable all) t) (spanned_in-alike (greatest_width rows) rows) ∙ h) k
@@ -216,7 +216,7 @@ plain-holds kind h = refl
 abbrev pub level_of : Role → NodeKind → (has_texts : Bool) → Option ℕ
 level_of Contents (Table grid) has_texts = Some 2
 level_of Contents kind has_texts = if not has_texts || holds_insertions kind then Some 0 else None
-level_of (Rows behind rows) kind has_texts = Some 2
+level_of (Rows rows) kind has_texts = Some 2
 level_of (Row cells) kind has_texts = Some 1
 level_of _ kind has_texts = Some 0
 
@@ -292,8 +292,8 @@ module _ (e : Element) where
   inserted-good Contents n has o h = into_contents-good n.kind n.style n.estimate has o h
   inserted-good Caption n has o h =
       changed-good Caption Caption n n (in_first 0 front back) (λ t k. (k.0, between-good front back f b t k.1)) o h
-  inserted-good (Rows behind rows) n has o h =
-      changed-good (Rows behind rows) (Rows behind rows) n n (in_first 2 front back) (into_row-good front back f b (rows_like rows)) o h
+  inserted-good (Rows rows) n has o h =
+      changed-good (Rows rows) (Rows rows) n n (in_first 2 front back) (into_row-good front back f b (rows_like rows)) o h
   inserted-good (Row cells) n has o h =
       changed-good (Row cells) (Row cells) n n (in_first 1 front back)
       (λ t k. into_row-good front back f b (cells_like cells ∷ []) (node n t none) k) o h

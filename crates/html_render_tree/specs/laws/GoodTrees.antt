@@ -111,10 +111,10 @@ table_of-good style captions parts c g = by (positions_fit (placed_rows spans))
 -- ---- elements
 
 -- bodies and feet over rows are good, and rows over cells
-rows_over-good : (behind : Bool) (rs : List Result) → AllGoodOf is_row rs → IsGoodResult (rows_over behind rs)
-rows_over-good behind rs g =
+rows_over-good : (rs : List Result) → AllGoodOf is_row rs → IsGoodResult (rows_over rs)
+rows_over-good rs g =
     let spans = flat_map (λ r. row_spans r.role) rs in
-    below-good (InTable (rows_like spans)) (Rows behind spans) (without_style Container) (λ t h. h) (beside rs) (rows-good rs g)
+    below-good (InTable (rows_like spans)) (Rows spans) (without_style Container) (λ t h. h) (beside rs) (rows-good rs g)
 
 row_over-good : (style : NodeStyle) (rs : List Result) → AllGoodOf is_cell rs → IsGoodResult (row_over style rs)
 row_over-good style rs g =
@@ -157,8 +157,8 @@ built-good (Part part.Table) style captions others i c g =
     table_of-good style captions (of_role are_rows others) c
     (AllGoodOf-more are_rows holds_rows (λ role e. e) (of_role are_rows others) (of_role-good are_rows others g))
 built-good (Part part.Body) style captions others i c g =
-    (rows_over-good false (of_role is_row others) (of_role-good is_row others g), λ t. refl)
-built-good (Part part.Foot) style captions others i c g = (rows_over-good true (of_role is_row others) (of_role-good is_row others g), λ t. refl)
+    (rows_over-good (of_role is_row others) (of_role-good is_row others g), λ t. refl)
+built-good (Part part.Foot) style captions others i c g = (rows_over-good (of_role is_row others) (of_role-good is_row others g), λ t. refl)
 built-good (Part part.Row) style captions others i c g = (row_over-good style (of_role is_cell others) (of_role-good is_cell others g), λ t. refl)
 built-good (Part (part.Cell span)) style captions others i c g = (
   below-good Anywhere (Cell span) (in_style style TableCell) (λ t h. and_from _ _ h refl) (trees_of others) (trees_of-good others g),

@@ -1,19 +1,17 @@
 //! Elements that close: what is written of them, and what their parents keep.
 
-ghost use Rattle.std.specs.Prelude.{◌≡◌, ◌||◌, ◌∷◌, false, if◌then◌else◌, IfErr, List, OnOk, Some, reverse, true};
+ghost use Rattle.std.specs.Prelude.{◌≡◌, ◌||◌, ◌∷◌, ◌++◌, false, if◌then◌else◌, IfErr, List, OnOk, Some, reverse, true};
 ghost use Rattle.html_render_dom_values.specs.Outcome.{OnlyOutOfMemory};
-ghost use Rattle.html_render_layout_nodes.specs.declared.tree.Entry.{Entry};
-ghost use Rattle.html_render_layout_nodes.specs.declared.tree.RenderNode.{RenderNode};
 ghost use Rattle.html_render_parts.specs.Refusal.{Fails};
-ghost use Rattle.html_render_tree_convert.specs.Closing.{ClosesInto, ClosesLast, ClosesStanding, FailsGrid, FailsToClose, Gridded, PutsMark, Stands, closed_entries, is_completed, is_parts, role_left, with_given_of, without_given};
+ghost use Rattle.html_render_tree_convert.specs.Closing.{ClosesInto, ClosesLast, ClosesNode, ClosesStanding, FailsGrid, FailsToClose, Gridded, are_rows, is_completed, is_parts, role_left, with_given_of, without_given};
 ghost use Rattle.html_render_tree_convert.specs.Held.{due_of};
-ghost use Rattle.html_render_tree_convert.specs.Levels.{added};
 ghost use Rattle.html_render_tree_convert.specs.OpenElements.{leaves};
-ghost use Rattle.html_render_tree_convert.specs.Seen.{Holds, element_seen, is_root, meant};
-ghost use Rattle.html_render_tree_convert.specs.Steps.{closed, closed_once, is_wrapped, received};
+ghost use Rattle.html_render_tree_convert.specs.Opening.{Becomes};
+ghost use Rattle.html_render_tree_convert.specs.Seen.{meant};
+ghost use Rattle.html_render_tree_convert.specs.Steps.{closed, closed_once, is_wrapped, mark_left, received_any};
 
-use super::Conversion;
-use crate::builder::TreeBuilder;
+use super::{Conversion, put_in};
+use crate::builder::{Tree, set_kind, write_size};
 use crate::due::Due;
 use crate::elements::{Open, OpenKind, Role};
 use crate::spans::grid_of;
@@ -46,7 +44,7 @@ impl Conversion {
     fn is_wrapped(&self) -> bool
         ensures { result ≡ is_wrapped self.now }
     {
-        match self.elements.last() {
+        match self.innermost() {
             Some(element) => element.is_wrapped,
             None => false,
         }
@@ -81,8 +79,8 @@ impl Conversion {
 /// `Fail` exactly if it is a table and a cell ends after column or row `u128::MAX`, and `OutOfMemory` if an allocation is
 /// refused.
 #[inline(always)]
-fn close_last(alloc: Global, elements: &mut Vec<Open>, tree: &mut TreeBuilder) -> Result<(), Error>
-    ensures ok { OnOk result (ClosesLast elements.old.items tree.old elements.new.items tree.new) }
+fn close_last(alloc: Global, elements: &mut Vec<Open>, tree: &mut Tree) -> Result<(), Error>
+    ensures ok { OnOk result (ClosesLast elements.old.items tree.old.items elements.new.items tree.new.items) }
     ensures err { IfErr result (λ e. (o parent : Open) (rest : List Open) → reverse elements.old.items ≡ o ∷ (parent ∷ rest) →
         FailsToClose o e) }
 {
@@ -102,57 +100,43 @@ fn close_last(alloc: Global, elements: &mut Vec<Open>, tree: &mut TreeBuilder) -
 /// `Fail` exactly if it is a table and a cell ends after column or row `u128::MAX`, and `OutOfMemory` if an allocation is
 /// refused.
 #[inline(always)]
-fn close_into(
-    alloc: Global,
-    mut element: Open,
-    parent: &mut Open,
-    tree: &mut TreeBuilder,
-) -> Result<(), Error>
-    ensures ok { OnOk result (ClosesInto element parent.old tree.old parent.new tree.new) }
+fn close_into(alloc: Global, element: Open, parent: &mut Open, tree: &mut Tree) -> Result<(), Error>
+    ensures ok { OnOk result (ClosesInto element parent.old tree.old.items parent.new tree.new.items) }
     ensures err { IfErr result (λ e. FailsToClose element e) }
 {
-    set_grid(alloc, &element.kind, tree)?;
-    let vanishes = element.vanishes();
-    give_back(alloc, &mut element, parent)?;
-    if vanishes {
-        tree.drop_open();
-        return put_mark(alloc, element.due.into_mark(), parent, tree);
+    if are_rows(&element.kind) {
+        return close_rows(alloc, element, parent, tree);
     }
-    close_standing(alloc, element, parent, tree)
+    set_grid(alloc, &element.kind, element.start, tree)?;
+    if element.vanishes() {
+        tree.truncate(element.start);
+        return put_mark(element.due.into_mark(), parent, tree);
+    }
+    close_standing(element, parent, tree)
 }
 
-/// Writes the grid of a table into its node.
+/// Reports whether an element of this kind is a part of a table.
+#[inline(always)]
+fn are_rows(kind: &OpenKind) -> bool
+    ensures { result ≡ are_rows kind.now }
+{
+    matches!(kind, OpenKind::Rows(_))
+}
+
+/// Writes the grid of a table into its node, which is at `start`.
 ///
 /// # Errors
 ///
 /// `Fail` exactly if it is a table and a cell ends after column or row `u128::MAX`, and `OutOfMemory` if an allocation is
 /// refused.
 #[inline(always)]
-fn set_grid(alloc: Global, kind: &OpenKind, tree: &mut TreeBuilder) -> Result<(), Error>
-    ensures ok { OnOk result (Gridded kind.now tree.old tree.new) }
+fn set_grid(alloc: Global, kind: &OpenKind, start: usize, tree: &mut Tree) -> Result<(), Error>
+    ensures ok { OnOk result (Gridded kind.now start tree.old.items tree.new.items) }
     ensures err { IfErr result (λ e. FailsGrid kind.now e) }
 {
     if let OpenKind::Parts(spans) = kind {
         let grid = grid_of(alloc, spans)?;
-        tree.set_kind(NodeKind::Table(grid));
-    }
-    Ok(())
-}
-
-/// Gives its insertion back to a table of which a part had no row.
-///
-/// # Errors
-///
-/// `OutOfMemory` if an allocation is refused.
-#[inline(always)]
-fn give_back(alloc: Global, element: &mut Open, parent: &mut Open) -> Result<(), Error>
-    ensures element { OnOk result (element.new ≡ without_given element.old) }
-    ensures parent { OnOk result (parent.new ≡ with_given_of element.old parent.old) }
-    ensures err { OnlyOutOfMemory result }
-{
-    if element.is_given {
-        let outer = element.due.take_outer(alloc);
-        parent.due.set_insertion(alloc, outer)?;
+        set_kind(tree, start, NodeKind::Table(grid));
     }
     Ok(())
 }
@@ -163,37 +147,78 @@ fn give_back(alloc: Global, element: &mut Open, parent: &mut Open) -> Result<(),
 ///
 /// `OutOfMemory` if an allocation is refused.
 #[inline(never)]
-fn put_mark(
-    alloc: Global,
-    mark: Option<NodeText>,
-    parent: &mut Open,
-    tree: &mut TreeBuilder,
-) -> Result<(), Error>
-    ensures ok { OnOk result (PutsMark mark parent.old tree.old parent.new tree.new) }
+fn put_mark(mark: Option<NodeText>, parent: &mut Open, tree: &mut Tree) -> Result<(), Error>
+    ensures ok { OnOk result (Becomes (received_any (mark_left mark)) parent.old parent.new tree.old.items tree.new.items) }
     ensures err { OnlyOutOfMemory result }
 {
     if let Some(name) = mark {
-        let node = RenderNode::from(NodeKind::FragmentStart(name));
-        if parent.receive(alloc, Role::Contents, &node.kind, false, false)? {
-            tree.put(node)?;
-        }
+        return put_in(
+            RenderNode::from(NodeKind::FragmentStart(name)),
+            parent,
+            tree,
+        );
     }
     Ok(())
 }
 
-/// Closes an element that doesn't vanish. What it gives back is given back.
+/// Closes a part of a table. Without a row, it gives the table's insertion back.
+///
+/// # Errors
+///
+/// `OutOfMemory` if an allocation is refused.
+#[inline(never)]
+fn close_rows(
+    alloc: Global,
+    mut element: Open,
+    parent: &mut Open,
+    tree: &mut Tree,
+) -> Result<(), Error>
+    requires { are_rows element.kind ≡ true }
+    ensures ok { OnOk result (ClosesInto element parent.old tree.old.items parent.new tree.new.items) }
+    ensures err { OnlyOutOfMemory result }
+{
+    give_back(alloc, &mut element, parent)?;
+    let start = element.start;
+    if element.vanishes() {
+        tree.truncate(start);
+        return put_mark(element.due.into_mark(), parent, tree);
+    }
+    let has_children = element.has_children;
+    let is_stray = element.is_stray;
+    let role = role_left(element.kind);
+    if parent.receive(role, &NodeKind::Container, has_children, is_stray)? {
+        return Ok(());
+    }
+    tree.truncate(start);
+    Ok(())
+}
+
+/// Gives its insertion back to a table of which a part had no row.
+///
+/// # Errors
+///
+/// `OutOfMemory` if an allocation is refused.
+fn give_back(alloc: Global, element: &mut Open, parent: &mut Open) -> Result<(), Error>
+    ensures element { OnOk result (element.new ≡ without_given element.old parent.old) }
+    ensures parent { OnOk result (parent.new ≡ with_given_of element.old parent.old) }
+    ensures err { OnlyOutOfMemory result }
+{
+    if element.is_given && matches!(parent.kind, OpenKind::Parts(_)) {
+        let outer = element.due.take_outer(alloc);
+        parent.due.set_insertion(alloc, outer)?;
+    }
+    Ok(())
+}
+
+/// Closes an element with a node of its own that doesn't vanish.
 ///
 /// # Errors
 ///
 /// `OutOfMemory` if an allocation is refused.
 #[inline(always)]
-fn close_standing(
-    alloc: Global,
-    element: Open,
-    parent: &mut Open,
-    tree: &mut TreeBuilder,
-) -> Result<(), Error>
-    ensures ok { OnOk result (ClosesStanding element parent.old tree.old parent.new tree.new) }
+fn close_standing(element: Open, parent: &mut Open, tree: &mut Tree) -> Result<(), Error>
+    requires { are_rows element.kind ≡ false }
+    ensures ok { OnOk result (ClosesStanding element parent.old tree.old.items parent.new tree.new.items) }
     ensures err { OnlyOutOfMemory result }
 {
     // most elements become nodes that have no role in a table
@@ -201,35 +226,32 @@ fn close_standing(
         write_due(element.due, tree)?;
         let has_children = element.has_children;
         return close_node(
-            alloc,
             Role::Contents,
             has_children,
             element.is_stray,
+            element.start,
             parent,
             tree,
         );
     }
-    close_part(alloc, element, parent, tree)
+    close_part(element, parent, tree)
 }
 
-/// Closes a table, a part of one, a caption, or any other element that doesn't vanish.
+/// Closes a table, a row, a cell, a caption, or any other element with a node of its own that doesn't vanish.
 ///
 /// # Errors
 ///
 /// `OutOfMemory` if an allocation is refused.
 #[inline(never)]
-fn close_part(
-    alloc: Global,
-    element: Open,
-    parent: &mut Open,
-    tree: &mut TreeBuilder,
-) -> Result<(), Error>
-    ensures ok { OnOk result (ClosesStanding element parent.old tree.old parent.new tree.new) }
+fn close_part(element: Open, parent: &mut Open, tree: &mut Tree) -> Result<(), Error>
+    requires { are_rows element.kind ≡ false }
+    ensures ok { OnOk result (ClosesStanding element parent.old tree.old.items parent.new tree.new.items) }
     ensures err { OnlyOutOfMemory result }
 {
     let Open {
         kind,
         due,
+        start,
         if_empty: _,
         is_given: _,
         has_results: _,
@@ -239,13 +261,7 @@ fn close_part(
     } = element;
     write_back(&kind, due, tree)?;
     let has_children = has_children_left(&kind, has_children);
-    let has_entry = kind.has_entry();
-    let role = role_left(kind);
-    if has_entry {
-        close_node(alloc, role, has_children, is_stray, parent, tree)
-    } else {
-        close_rows(alloc, role, has_children, is_stray, parent, tree)
-    }
+    close_node(role_left(kind), has_children, is_stray, start, parent, tree)
 }
 
 /// Reports whether an element of this kind writes what is due after its children.
@@ -254,7 +270,7 @@ fn is_completed(kind: &OpenKind) -> bool
 {
     !matches!(
         kind,
-        OpenKind::Parts(_) | OpenKind::Rows(..) | OpenKind::Row(_)
+        OpenKind::Parts(_) | OpenKind::Rows(_) | OpenKind::Row(_)
     )
 }
 
@@ -271,7 +287,7 @@ fn role_left(kind: OpenKind) -> Role
     ensures { meant result ≡ role_left kind }
 {
     match kind {
-        OpenKind::Rows(behind, rows) => Role::Rows(behind, rows),
+        OpenKind::Rows(rows) => Role::Rows(rows),
         OpenKind::Row(cells) => Role::Row(cells),
         OpenKind::Cell(span) => Role::Cell(span),
         OpenKind::Caption => Role::Caption,
@@ -285,8 +301,8 @@ fn role_left(kind: OpenKind) -> Role
 ///
 /// `OutOfMemory` if an allocation is refused.
 #[inline(always)]
-fn write_due(due: Due, tree: &mut TreeBuilder) -> Result<(), Error>
-    ensures ok { OnOk result (tree.new ≡ added (leaves (due_of due).back) tree.old) }
+fn write_due(due: Due, tree: &mut Tree) -> Result<(), Error>
+    ensures ok { OnOk result (tree.new.items ≡ tree.old.items ++ leaves (due_of due).back) }
     ensures err { OnlyOutOfMemory result }
 {
     if due.is_none() {
@@ -301,8 +317,8 @@ fn write_due(due: Due, tree: &mut TreeBuilder) -> Result<(), Error>
 ///
 /// `OutOfMemory` if an allocation is refused.
 #[inline(always)]
-fn write_back(kind: &OpenKind, due: Due, tree: &mut TreeBuilder) -> Result<(), Error>
-    ensures ok { OnOk result (tree.new ≡ (if is_completed kind.now then added (leaves (due_of due).back) tree.old else tree.old)) }
+fn write_back(kind: &OpenKind, due: Due, tree: &mut Tree) -> Result<(), Error>
+    ensures ok { OnOk result (tree.new.items ≡ (if is_completed kind.now then tree.old.items ++ leaves (due_of due).back else tree.old.items)) }
     ensures err { OnlyOutOfMemory result }
 {
     if is_completed(kind) {
@@ -311,61 +327,30 @@ fn write_back(kind: &OpenKind, due: Due, tree: &mut TreeBuilder) -> Result<(), E
     Ok(())
 }
 
-/// Closes an element with a node of its own, if its parent keeps it.
+/// Closes an element whose node is at `start`, if its parent keeps it.
 ///
 /// # Errors
 ///
 /// `OutOfMemory` if an allocation is refused.
 #[inline(always)]
 fn close_node(
-    alloc: Global,
     role: Role,
     has_children: bool,
     is_stray: bool,
+    start: usize,
     parent: &mut Open,
-    tree: &mut TreeBuilder,
+    tree: &mut Tree,
 ) -> Result<(), Error>
-    ensures ok { OnOk result ((own : Entry RenderNode) (inside outer : List (Entry RenderNode)) (below : List (List (Entry RenderNode))) →
-        tree.old ≡ (own ∷ inside) ∷ (outer ∷ below) → Holds parent.old.kind outer →
-        Stands (received (closed_entries true (meant role) has_children is_stray (own ∷ inside)) (element_seen parent.old outer))
-        (is_root parent.old.kind) below parent.new tree.new) }
+    ensures ok { OnOk result (ClosesNode (meant role) has_children is_stray start parent.old tree.old.items parent.new tree.new.items) }
     ensures err { OnlyOutOfMemory result }
 {
-    let Some(kind) = tree.top_kind() else {
+    let Some(entry) = tree.get(start) else {
         return Ok(());
     };
-    if parent.receive(alloc, role, kind, has_children, is_stray)? {
-        tree.close();
+    if parent.receive(role, &entry.node.kind, has_children, is_stray)? {
+        write_size(tree, start);
     } else {
-        tree.drop_open();
-    }
-    Ok(())
-}
-
-/// Closes a part of a table, if its parent keeps it.
-///
-/// # Errors
-///
-/// `OutOfMemory` if an allocation is refused.
-#[inline(never)]
-fn close_rows(
-    alloc: Global,
-    role: Role,
-    has_children: bool,
-    is_stray: bool,
-    parent: &mut Open,
-    tree: &mut TreeBuilder,
-) -> Result<(), Error>
-    ensures ok { OnOk result ((top outer : List (Entry RenderNode)) (below : List (List (Entry RenderNode))) →
-        tree.old ≡ top ∷ (outer ∷ below) → Holds parent.old.kind outer →
-        Stands (received (closed_entries false (meant role) has_children is_stray top) (element_seen parent.old outer))
-        (is_root parent.old.kind) below parent.new tree.new) }
-    ensures err { OnlyOutOfMemory result }
-{
-    if parent.receive(alloc, role, &NodeKind::Container, has_children, is_stray)? {
-        tree.close_part();
-    } else {
-        tree.drop_open();
+        tree.truncate(start);
     }
     Ok(())
 }

@@ -1,22 +1,21 @@
 //! Elements that open: their nodes, what they insert in front of their children, and what is due in them.
 
-ghost use Rattle.std.specs.Prelude.{◌≡◌, [], ◌∷◌, ◌++◌, IfOk, None, OnOk, Some, false, true};
+ghost use Rattle.std.specs.Prelude.{◌≡◌, [], ◌∷◌, ◌++◌, ◌<◌, IfOk, None, OnOk, Some, false, true, length};
 ghost use Rattle.html_render_dom_values.specs.Outcome.{OnlyOutOfMemory};
 ghost use Rattle.html_render_dom.specs.ElementStyle.{style_of};
 ghost use Rattle.html_render_tree_convert.specs.Held.{due_of, insertion_in, nothing_held};
-ghost use Rattle.html_render_tree_convert.specs.Levels.{added, leaf};
-ghost use Rattle.html_render_tree_convert.specs.OpenElements.{Node, holder, leaves, node_in, nothing, text_nodes};
-ghost use Rattle.html_render_tree_convert.specs.Opening.{AllMayGive, Becomes, GivesTo, IsOpen, MayGive, due_in, in_captions, in_row, in_rows, in_table, has_result, innermost, is_captions};
-ghost use Rattle.html_render_tree_convert.specs.Opening.{cell_as_open, kind_of_caption, left_once, own_front, rows_opened, taken, with_captions, without_captions, wrote};
-ghost use Rattle.html_render_tree_convert.specs.Seen.{Holds, element_seen, is_root, kind_seen};
-ghost use Rattle.html_render_tree_convert.specs.Steps.{all_parted, caption_kind, is_row, is_rows, is_table, opened, table_in_container};
+ghost use Rattle.html_render_tree_convert.specs.OpenElements.{Node, holder, leaf, leaves, node_in, nothing, text_nodes};
+ghost use Rattle.html_render_tree_convert.specs.Opening.{Becomes, IsOpen, due_in, has_result, innermost, is_in, kind_of_caption};
+ghost use Rattle.html_render_tree_convert.specs.Opening.{left_once, taken, with_captions, without_captions, wrote};
+ghost use Rattle.html_render_tree_convert.specs.Seen.{Holds, element_seen, is_root};
+ghost use Rattle.html_render_tree_convert.specs.Steps.{all_parted, opened, table_in_container};
 ghost use Rattle.html_render_tree_mapping.specs.ElementTexts.{has_any, no_texts};
 ghost use Rattle.html_render_tree_mapping.specs.Plans.{element_of};
 
 use super::Conversion;
-use crate::builder::TreeBuilder;
-use crate::due::{Due, DueParts, InsertedNodes, copy_of, front_nodes, put_all, put_texts};
-use crate::elements::{Open, OpenKind};
+use crate::builder::{Tree, take_inside};
+use crate::due::{Due, DueParts, InsertedNodes, copy_of, put_all, put_texts};
+use crate::elements::{Open, OpenKind, Place};
 use crate::kinds::Keeping;
 use crate::spans::{PartRows, RowCells, TableSpans};
 use html_render_dom::style::ComputedStyle;
@@ -39,84 +38,6 @@ fn node_in(style: NodeStyle, kind: NodeKind) -> RenderNode
     }
 }
 
-/// Reports whether an open element is a table whose rows come.
-fn is_table(kind: &OpenKind) -> bool
-    ensures { (own : NodeKind) → result ≡ is_table (kind_seen kind.now own) }
-{
-    matches!(kind, OpenKind::Parts(_))
-}
-
-/// Reports whether an open element is a part of a table.
-fn is_rows(kind: &OpenKind) -> bool
-    ensures { (own : NodeKind) → result ≡ is_rows (kind_seen kind.now own) }
-{
-    matches!(kind, OpenKind::Rows(..))
-}
-
-/// Reports whether an open element is a row.
-fn is_row(kind: &OpenKind) -> bool
-    ensures { (own : NodeKind) → result ≡ is_row (kind_seen kind.now own) }
-{
-    matches!(kind, OpenKind::Row(_))
-}
-
-/// Returns the kind of the node of a caption in an open element: it is a block in a table whose captions come.
-fn caption_kind(parent: &OpenKind) -> NodeKind
-    ensures { (own : NodeKind) → result ≡ caption_kind (kind_seen parent.now own) }
-{
-    match parent {
-        OpenKind::Captions => NodeKind::Block,
-        _ => NodeKind::Container,
-    }
-}
-
-/// Creates the open element of a cell, with the nodes of its own in front of its children. After them it has its own text, and
-/// these nodes from outside.
-///
-/// # Errors
-///
-/// `OutOfMemory` if an allocation is refused.
-fn cell_of(
-    alloc: Global,
-    span: CellSpan,
-    if_empty: IfEmpty,
-    texts: ElementTexts,
-    back: Vec<RenderNode>,
-) -> Result<(Open, Vec<RenderNode>), Error>
-    ensures element { IfOk result (λ r. r.0 ≡ cell_as_open span if_empty texts back.items) }
-    ensures front { IfOk result (λ r. r.1.items ≡ own_front texts) }
-    ensures err { OnlyOutOfMemory result }
-{
-    let inserts = texts.has_any();
-    let ElementTexts {
-        mark,
-        before,
-        after,
-    } = texts;
-    let front = front_nodes(alloc, &mark, before)?;
-    let due = Due::new(
-        alloc,
-        DueParts {
-            mark,
-            outer: InsertedNodes {
-                front: Vec::new(alloc),
-                back,
-            },
-            front: Vec::new(alloc),
-            after,
-        },
-    )?;
-    let cell = Open::new(OpenKind::Cell(span), due, if_empty, inserts);
-    Ok((cell, front))
-}
-
-/// Reports whether an open element is a table whose captions come.
-fn is_captions(kind: &OpenKind) -> bool
-    ensures { (own : NodeKind) → result ≡ is_captions (kind_seen kind.now own) }
-{
-    matches!(kind, OpenKind::Captions)
-}
-
 /// Makes an open element one that becomes a container.
 fn make_container(table: &mut Open)
     ensures { table.new ≡ record table.old { kind = OpenKind.Node Keeping.Any } }
@@ -129,22 +50,18 @@ fn make_container(table: &mut Open)
 /// # Errors
 ///
 /// `OutOfMemory` if an allocation is refused.
-fn make_parts(alloc: Global, table: &mut Open, tree: &mut TreeBuilder) -> Result<(), Error>
-    requires kind { table.old.kind ≡ OpenKind.Captions }
-    requires given { table.old.is_given ≡ false }
-    ensures seen { OnOk result (Becomes without_captions table.old table.new tree.old tree.new) }
-    ensures root { OnOk result (is_root table.new.kind ≡ false) }
+fn make_parts(alloc: Global, table: &mut Open, tree: &mut Tree) -> Result<(), Error>
+    requires { table.old.kind ≡ OpenKind.Captions }
+    ensures ok { OnOk result (Becomes without_captions table.old table.new tree.old.items tree.new.items) }
     ensures err { OnlyOutOfMemory result }
 {
-    let inside = tree.take_inside(alloc)?;
-    let front = if table.is_stray {
-        Vec::new(alloc)
-    } else {
-        inside
-    };
+    let inside = take_inside(alloc, tree, table.start)?;
     table.kind = OpenKind::Parts(TableSpans::new(alloc));
-    table.is_stray = false;
-    table.due.set_front(alloc, front)
+    if table.is_stray {
+        table.is_stray = false;
+        return table.due.set_front(alloc, Vec::new(alloc));
+    }
+    table.due.set_front(alloc, inside)
 }
 
 /// Takes what is due in an open element, which gives nothing back then.
@@ -213,8 +130,6 @@ impl Conversion {
     ) -> Result<(), Error>
         requires root { is_root element.kind ≡ false }
         requires holds { Holds element.kind (leaf node ∷ []) }
-        requires given { MayGive (element_seen element (leaf node ∷ [])) }
-        requires given_to { GivesTo (element_seen element (leaf node ∷ [])) self.old }
         ensures ok { OnOk result (self.new
             ≡ wrote (leaves (text_nodes NodeKind.FragmentStart mark ++ text_nodes NodeKind.Text before)) (element_seen element (leaf node ∷ []) ∷ self.old)) }
         ensures open { OnOk result (IsOpen self.old) }
@@ -222,50 +137,6 @@ impl Conversion {
     {
         self.begin(element, node)?;
         self.insert_texts(mark, before)
-    }
-
-    /// Opens an element that writes what is inserted in front of its children.
-    ///
-    /// # Errors
-    ///
-    /// `OutOfMemory` if an allocation is refused.
-    fn hold(&mut self, element: Open, node: RenderNode, front: Vec<RenderNode>) -> Result<(), Error>
-        requires root { is_root element.kind ≡ false }
-        requires holds { Holds element.kind (leaf node ∷ []) }
-        requires given { MayGive (element_seen element (leaf node ∷ [])) }
-        requires given_to { GivesTo (element_seen element (leaf node ∷ [])) self.old }
-        ensures ok { OnOk result (self.new ≡ wrote (leaves front.items) (element_seen element (leaf node ∷ []) ∷ self.old)) }
-        ensures open { OnOk result (IsOpen self.old) }
-        ensures err { OnlyOutOfMemory result }
-    {
-        self.begin(element, node)?;
-        self.insert_all(front)
-    }
-
-    /// Opens an element that writes what is inserted by the elements outside, and then its own, in front of its children.
-    ///
-    /// # Errors
-    ///
-    /// `OutOfMemory` if an allocation is refused.
-    #[tactic(auto, using(crate::proofs::SeenLemmas::wrote_twice))]
-    fn hold_within(
-        &mut self,
-        element: Open,
-        node: RenderNode,
-        outer: Vec<RenderNode>,
-        front: Vec<RenderNode>,
-    ) -> Result<(), Error>
-        requires root { is_root element.kind ≡ false }
-        requires holds { Holds element.kind (leaf node ∷ []) }
-        requires given { MayGive (element_seen element (leaf node ∷ [])) }
-        requires given_to { GivesTo (element_seen element (leaf node ∷ [])) self.old }
-        ensures ok { OnOk result (self.new
-            ≡ wrote (leaves (outer.items ++ front.items)) (element_seen element (leaf node ∷ []) ∷ self.old)) }
-        ensures open { OnOk result (IsOpen self.old) }
-        ensures err { OnlyOutOfMemory result }
-    {
-        self.hold(element, node, outer)?;
-        self.insert_all(front)
     }
 
     /// Opens an element that becomes a node and inserts nothing.
@@ -355,7 +226,7 @@ impl Conversion {
             after,
         } = texts;
         let written = copy_of(&mark)?;
-        let due = Due::after(alloc, mark, after)?;
+        let due = Due::after(alloc, mark, after, Vec::new(alloc))?;
         if kind.holds_insertions() {
             let keeping = Keeping::of(&kind);
             let open = Open::new(OpenKind::Node(keeping), due, if_empty, true);
@@ -392,44 +263,24 @@ impl Conversion {
         self.begin(open, node_in(style, kind))
     }
 
-    /// Reports whether the innermost open element is a table whose rows come.
-    fn is_in_table(&self) -> bool
-        ensures { result ≡ in_table self.now }
+    /// Reports whether the innermost open element is `place`.
+    fn is_in(&self, place: Place) -> bool
+        ensures { result ≡ is_in place self.now }
     {
-        match self.elements.last() {
-            Some(parent) => is_table(&parent.kind),
+        match self.innermost() {
+            Some(parent) => parent.kind.is_place(place),
             None => false,
         }
     }
 
-    /// Reports whether the innermost open element is a part of a table.
-    fn is_in_rows(&self) -> bool
-        ensures { result ≡ in_rows self.now }
-    {
-        match self.elements.last() {
-            Some(parent) => is_rows(&parent.kind),
-            None => false,
-        }
-    }
-
-    /// Reports whether the innermost open element is a row.
-    fn is_in_row(&self) -> bool
-        ensures { result ≡ in_row self.now }
-    {
-        match self.elements.last() {
-            Some(parent) => is_row(&parent.kind),
-            None => false,
-        }
-    }
-
-    /// Returns the kind of the node of a caption that opens.
+    /// Returns the kind of the node of a caption that opens: it is a block in a table whose captions come.
     fn caption_kind(&self) -> NodeKind
         ensures { result ≡ kind_of_caption self.now }
     {
-        match self.elements.last() {
-            Some(parent) => caption_kind(&parent.kind),
-            None => NodeKind::Container,
+        if self.is_in(Place::Captions) {
+            return NodeKind::Block;
         }
+        NodeKind::Container
     }
 
     /// Takes what is due in the innermost open element, if this is of the right kind. The element gives nothing back then.
@@ -440,7 +291,6 @@ impl Conversion {
     fn take_due(&mut self, alloc: Global, is_taken: bool) -> Result<InsertedNodes, Error>
         ensures due { IfOk result (λ i. insertion_in i ≡ taken is_taken self.old) }
         ensures left { OnOk result (self.new ≡ left_once is_taken self.old) }
-        ensures given { OnOk result (AllMayGive self.old) }
         ensures err { OnlyOutOfMemory result }
     {
         let Some(parent) = self.elements.last_mut() else {
@@ -467,18 +317,19 @@ impl Conversion {
     fn open_rows(
         &mut self,
         alloc: Global,
-        behind: bool,
         if_empty: IfEmpty,
         texts: ElementTexts,
     ) -> Result<(), Error>
-        ensures ok { (kind : ElementKind) (style : NodeStyle) → OnOk result (self.new
-            ≡ rows_opened behind (record { kind = kind; style = style; if_empty = if_empty; texts = texts }) self.old) }
+        ensures body { (style : NodeStyle) → OnOk result (self.new
+            ≡ opened (record { kind = ElementKind.Part Part.Body; style = style; if_empty = if_empty; texts = texts }) self.old) }
+        ensures foot { (style : NodeStyle) → OnOk result (self.new
+            ≡ opened (record { kind = ElementKind.Part Part.Foot; style = style; if_empty = if_empty; texts = texts }) self.old) }
         ensures err { OnlyOutOfMemory result }
     {
-        let in_table = self.is_in_table();
+        let in_table = self.is_in(Place::Table);
         let outer = self.take_due(alloc, in_table)?;
         let due = Due::carried(alloc, texts, outer)?;
-        let rows = OpenKind::Rows(behind, PartRows::new(alloc));
+        let rows = OpenKind::Rows(PartRows::new(alloc));
         let mut open = Open::new(rows, due, if_empty, false);
         open.is_given = in_table;
         self.begin_part(open)
@@ -499,7 +350,7 @@ impl Conversion {
             ≡ opened (record { kind = ElementKind.Part Part.Row; style = style; if_empty = if_empty; texts = texts }) self.old) }
         ensures err { OnlyOutOfMemory result }
     {
-        let in_rows = self.is_in_rows();
+        let in_rows = self.is_in(Place::Rows);
         let outer = self.take_due(alloc, in_rows)?;
         let due = Due::carried(alloc, texts, outer)?;
         let row = OpenKind::Row(RowCells::new(alloc));
@@ -523,15 +374,20 @@ impl Conversion {
             ≡ opened (record { kind = ElementKind.Part (Part.Cell span); style = style; if_empty = if_empty; texts = texts }) self.old) }
         ensures err { OnlyOutOfMemory result }
     {
-        let in_row = self.is_in_row();
-        let outer = self.take_due(alloc, in_row)?;
-        let (cell, front) = cell_of(alloc, span, IfEmpty::Stands, texts, outer.back)?;
-        self.hold_within(
-            cell,
-            node_in(style, NodeKind::TableCell),
-            outer.front,
-            front,
-        )
+        let in_row = self.is_in(Place::Row);
+        let InsertedNodes { front, back } = self.take_due(alloc, in_row)?;
+        let inserts = texts.has_any();
+        let ElementTexts {
+            mark,
+            before,
+            after,
+        } = texts;
+        let written = copy_of(&mark)?;
+        let due = Due::after(alloc, mark, after, back)?;
+        let cell = Open::new(OpenKind::Cell(span), due, IfEmpty::Stands, inserts);
+        self.begin(cell, node_in(style, NodeKind::TableCell))?;
+        self.insert_all(front)?;
+        self.insert_texts(written, before)
     }
 
     /// Opens a table, whose captions come next.
@@ -556,7 +412,7 @@ impl Conversion {
             after,
         } = texts;
         let written = copy_of(&mark)?;
-        let due = Due::after(alloc, mark, after)?;
+        let due = Due::after(alloc, mark, after, Vec::new(alloc))?;
         let open = Open::new(OpenKind::Captions, due, if_empty, true);
         self.hold_texts(open, node_in(style, NodeKind::Container), written, before)
     }
@@ -585,7 +441,7 @@ impl Conversion {
             after,
         } = texts;
         let written = copy_of(&mark)?;
-        let due = Due::after(alloc, mark, after)?;
+        let due = Due::after(alloc, mark, after, Vec::new(alloc))?;
         let open = Open::new(OpenKind::Caption, due, if_empty, inserts);
         self.hold_texts(open, node_in(style, kind), written, before)
     }
@@ -609,8 +465,8 @@ impl Conversion {
     {
         match part {
             Part::Table => self.open_table(alloc, style, if_empty, texts),
-            Part::Body => self.open_rows(alloc, false, if_empty, texts),
-            Part::Foot => self.open_rows(alloc, true, if_empty, texts),
+            Part::Body => self.open_rows(alloc, if_empty, texts),
+            Part::Foot => self.open_rows(alloc, if_empty, texts),
             Part::Row => self.open_row(alloc, style, texts),
             Part::Cell(span) => self.open_cell(alloc, span, style, texts),
             Part::Caption => self.open_caption(alloc, style, if_empty, texts),
@@ -694,7 +550,7 @@ impl Conversion {
         ensures ok { OnOk result (self.new ≡ all_parted self.old) }
         ensures err { OnlyOutOfMemory result }
     {
-        if !self.is_in_captions() {
+        if !self.is_in(Place::Captions) {
             return Ok(());
         }
         if self.has_result() {
@@ -704,21 +560,11 @@ impl Conversion {
         self.become_parts(alloc)
     }
 
-    /// Reports whether the innermost open element is a table whose captions come.
-    fn is_in_captions(&self) -> bool
-        ensures { result ≡ in_captions self.now }
-    {
-        match self.elements.last() {
-            Some(parent) => is_captions(&parent.kind),
-            None => false,
-        }
-    }
-
     /// Reports whether a result that counts has come in the innermost open element.
     fn has_result(&self) -> bool
         ensures { result ≡ has_result self.now }
     {
-        match self.elements.last() {
+        match self.innermost() {
             Some(parent) => parent.has_results,
             None => false,
         }
@@ -726,7 +572,7 @@ impl Conversion {
 
     /// Makes a table with a caption a container.
     fn keep_captions(&mut self)
-        requires { in_captions self.old ≡ true }
+        requires { is_in Place.Captions self.old ≡ true }
         ensures { self.new ≡ innermost with_captions self.old }
     {
         let Some(table) = self.elements.last_mut() else {
@@ -756,7 +602,7 @@ impl Conversion {
     ///
     /// `OutOfMemory` if an allocation is refused.
     fn become_parts(&mut self, alloc: Global) -> Result<(), Error>
-        requires { in_captions self.old ≡ true }
+        requires { is_in Place.Captions self.old ≡ true }
         ensures ok { OnOk result (self.new ≡ innermost without_captions self.old) }
         ensures err { OnlyOutOfMemory result }
     {

@@ -1,17 +1,27 @@
-use Rattle.std.proofs.Common.{[], subst, sym, arith}
+use Rattle.std.proofs.Common.{◌≡◌, ℕ, [], ◌∷◌, ◌++◌, ◌∙◌, ap, subst, sym, length, append-nil, arith}
 use Rattle.std.proofs.lemmas.Bool.Decides.{nat_tests}
-use Rattle.html_render_tree_convert.specs.Opening.{GivesTo, IsOpen}
+use Rattle.html_render_tree_convert.specs.Opening.{IsOpen}
 use Rattle.html_render_tree_convert.specs.Seen.{element_seen}
-use Rattle.html_render_tree_convert.proofs.SeenLemmas.{IsOpen-seen, IsSound-pushed}
+use Rattle.html_render_tree_convert.specs.declared.elements.Open.{Open}
+use Rattle.html_render_tree_convert.proofs.SeenLemmas.{IsOpen-seen, Pushed, pushed}
 use Rattle.html_render_tree_convert.proofs.conversion.Conversion.begin_part.Goals as goal
+use Rattle.html_render_tree_convert.proofs.conversion.Conversion.begin_part.Goals.{In_ok-push}
 
 pub returns-clause-open : goal.returns-clause-open
 returns-clause-open c =
-    subst IsOpen c.self.view_is (IsOpen-seen c.self.inside.elements.items c.self.inside.tree (grind (arith, nat_tests, c.is_empty.ensures)) c.self.invariant)
+    subst IsOpen c.self.view_is (IsOpen-seen c.self.inside.elements.items c.self.inside.tree.items (grind (arith, nat_tests, c.is_empty.ensures)))
 
-pub invariant_of-self-in_default : goal.invariant_of-self-in_default
-invariant_of-self-in_default c =
-    let e = c.in_default.ensures in
-    IsSound-pushed c.self.inside.elements.items c.begin_part_in.new.elements.items c.args.element [] c.self.inside.tree c.begin_part_in.new.tree
-    e.elements e.tree (grind (arith, nat_tests, c.is_empty.ensures)) c.requires.root c.requires.holds c.requires.given
-    (subst (λ ps. GivesTo (element_seen c.args.element []) ps) (sym c.self.view_is) c.requires.given_to) c.self.invariant
+opened : (c : In_ok-push) → Pushed c.self.inside.elements.items c.push.new.self.items c.args.element c.self.inside.tree.items [] c.self.inside.tree.items
+opened c =
+    let os = c.self.inside.elements.items in
+    let es = c.self.inside.tree.items in
+    let start : c.len.result ≡ length es = omega (arith, c.len.ensures, c.self.inside.tree.ok.0) in
+    pushed os c.push.new.self.items c.args.element es [] es
+    (c.in_ok-push.ensures.items ∙ ap (λ (n : ℕ). let o : Open = record c.args.element { start = n } in os ++ o ∷ []) start)
+    (sym (append-nil es)) (grind (arith, nat_tests, c.is_empty.ensures)) c.requires.root c.requires.holds c.self.invariant
+
+pub invariant_of-self-2 : goal.invariant_of-self-2
+invariant_of-self-2 c = (opened c).0
+
+pub returns-clause-ok : goal.returns-clause-ok
+returns-clause-ok c = (opened c).1 ∙ ap (λ ps. element_seen c.args.element [] ∷ ps) c.self.view_is

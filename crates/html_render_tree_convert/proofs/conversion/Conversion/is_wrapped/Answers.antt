@@ -1,15 +1,6 @@
-use Rattle.std.proofs.Common.{◌-◌, length, ap, sym, arith}
+use Rattle.std.proofs.Common.{sym, ap}
 use Rattle.html_render_tree_convert.specs.Steps.{is_wrapped}
-use Rattle.html_render_tree_convert.proofs.SeenLemmas.{Top, Top-last}
 use Rattle.html_render_tree_convert.proofs.conversion.Conversion.is_wrapped.Goals as goal
-use Rattle.html_render_tree_convert.proofs.conversion.Conversion.is_wrapped.Goals.{In-Some}
-
-top : (c : In-Some) → Top c.in-Some.element.now c.args.self.now
-top c =
-    let now = c.deref.result.now in
-    let last = c.in-Some.ensures.item in
-    Top-last c.self.inside.elements.items now (length now - 1) c.self.inside.tree c.in-Some.element.now c.args.self.now c.deref.ensures.value
-    (omega (arith, last.3.0)) last.1 c.self.invariant c.self.view_is
 
 pub returns-in-Some : goal.returns-in-Some
-returns-in-Some c = ap is_wrapped (sym (top (goal.at.returns-in-Some c).In-Some).seen_is)
+returns-in-Some c = ap is_wrapped (sym c.in-Some.ensures.some.seen_is)

@@ -1,21 +1,17 @@
 use Rattle.std.proofs.Common.{◌-◌, vec_len, set, refl, ap, ◌∙◌, arith}
 use Rattle.html_render_tree_convert.specs.Steps.{closed_leaf, received}
-use Rattle.html_render_tree_convert.specs.Seen.{element_seen}
 use Rattle.html_render_tree_convert.specs.Opening.{innermost}
-use Rattle.html_render_tree_convert.proofs.SeenLemmas.{Changed, changed-last, put-innermost, received-gives, received-gives_to}
+use Rattle.html_render_tree_convert.proofs.SeenLemmas.{Changed, changed-last, put-innermost}
 use Rattle.html_render_tree_convert.proofs.conversion.Conversion.put.Goals as goal
 use Rattle.html_render_tree_convert.proofs.conversion.Conversion.put.Goals.{In_default-put_in}
 
 changed : (c : In_default-put_in) →
-    Changed (received (closed_leaf c.args.node)) c.self.inside.elements.items c.self.inside.tree
-    (set c.self.inside.elements.items (vec_len c.self.inside.elements - 1) c.put_in.new.parent) c.put_in.new.tree
+    Changed (received (closed_leaf c.args.node)) c.self.inside.elements.items c.self.inside.tree.items
+    (set c.self.inside.elements.items (vec_len c.self.inside.elements - 1) c.put_in.new.parent) c.put_in.new.tree.items
 changed c =
     let elements = c.self.inside.elements in
-    let e = c.in_default-put_in.ensures in
-    changed-last (received (closed_leaf c.args.node)) elements.items (vec_len elements - 1) c.self.inside.tree c.put_in.new.tree c.in-Some.parent.now
-    c.put_in.new.parent (omega (arith, c.in-Some.ensures.variant.0 refl, elements.ok.0)) c.in-Some.ensures.value e.root e.seen
-    (λ es held. received-gives (closed_leaf c.args.node) (element_seen c.in-Some.parent.now es))
-    (received-gives_to (closed_leaf c.args.node)) c.self.invariant
+    changed-last (received (closed_leaf c.args.node)) elements.items (vec_len elements - 1) c.self.inside.tree.items c.put_in.new.tree.items c.in-Some.parent.now
+    c.put_in.new.parent (omega (arith, c.in-Some.ensures.variant.0 refl, elements.ok.0)) c.in-Some.ensures.value c.in_default-put_in.ensures.ok c.self.invariant
 
 pub invariant_of-self-in_default-put_in : goal.invariant_of-self-in_default-put_in
 invariant_of-self-in_default-put_in c = (changed c).0

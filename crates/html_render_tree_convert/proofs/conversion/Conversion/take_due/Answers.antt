@@ -1,25 +1,27 @@
 use Rattle.std.proofs.Common.{◌-◌, Bool, true, vec_len, set, refl, ap, sym, ◌∙◌, arith}
-use Rattle.html_render_tree_convert.specs.Opening.{innermost, left_once, taken}
-use Rattle.html_render_tree_convert.proofs.SeenLemmas.{Changed, Top, Top-last, emptied-last, once}
+use Rattle.html_render_tree_convert.specs.Opening.{Innermost, innermost, left_once, once, taken}
+use Rattle.html_render_tree_convert.proofs.SeenLemmas.{Changed, becomes-emptied, changed-last, innermost-last}
 use Rattle.html_render_tree_convert.proofs.conversion.Conversion.take_due.Goals as goal
 use Rattle.html_render_tree_convert.proofs.conversion.Conversion.take_due.Goals.{In-Ok}
 
 changed : (c : In-Ok) →
-    Changed once c.self.inside.elements.items c.self.inside.tree
-    (set c.self.inside.elements.items (vec_len c.self.inside.elements - 1) c.take_from.new.parent) c.self.inside.tree
+    Changed once c.self.inside.elements.items c.self.inside.tree.items
+    (set c.self.inside.elements.items (vec_len c.self.inside.elements - 1) c.take_from.new.parent) c.self.inside.tree.items
 changed c =
     let elements = c.self.inside.elements in
-    emptied-last elements.items (vec_len elements - 1) c.self.inside.tree c.in-Some.parent.now c.take_from.new.parent
-    (omega (arith, c.in-Some.ensures.variant.0 refl, elements.ok.0)) c.in-Some.ensures.value c.in-Ok.ensures.left c.self.invariant
+    let es = c.self.inside.tree.items in
+    changed-last once elements.items (vec_len elements - 1) es es c.in-Some.parent.now c.take_from.new.parent
+    (omega (arith, c.in-Some.ensures.variant.0 refl, elements.ok.0)) c.in-Some.ensures.value
+    (becomes-emptied c.in-Some.parent.now c.take_from.new.parent es c.in-Ok.ensures.left) c.self.invariant
 
 pub invariant_of-self-in-Ok : goal.invariant_of-self-in-Ok
 invariant_of-self-in-Ok c = (changed c).0
 
-top : (c : In-Ok) → Top c.in-Some.parent.now c.args.self.now
+top : (c : In-Ok) → Innermost c.in-Some.parent.now c.args.self.now
 top c =
     let elements = c.self.inside.elements in
-    Top-last elements.items elements.items (vec_len elements - 1) c.self.inside.tree c.in-Some.parent.now c.args.self.now refl
-    (omega (arith, c.in-Some.ensures.variant.0 refl, elements.ok.0)) c.in-Some.ensures.value c.self.invariant c.self.view_is
+    innermost-last elements.items elements.items (vec_len elements - 1) c.self.inside.tree.items c.in-Some.parent.now c.args.self.now refl
+    (omega (arith, c.in-Some.ensures.variant.0 refl, elements.ok.0)) c.in-Some.ensures.value c.self.view_is
 
 pub returns-in-Ok-clause-due : goal.returns-in-Ok-clause-due
 returns-in-Ok-clause-due c =
