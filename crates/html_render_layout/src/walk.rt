@@ -25,9 +25,9 @@ use html_render_dom_values::Error;
 use html_render_dom_values::white_space::WhiteSpace;
 use html_render_layout_blocks::block::{Block, BlockSetting};
 use html_render_layout_blocks::held::CurrentBlock;
+use html_render_layout_buffer::finished::FinishedLines;
 use html_render_layout_estimates::estimate::measure;
 use html_render_layout_estimates::settings::LayoutSettings;
-use html_render_layout_lines::line::Line;
 use html_render_layout_lines::tag::Tag;
 use html_render_layout_nodes::tree::{Entry, PreorderForest, RenderNode, RenderTree};
 use html_render_layout_nodes::visitor::{Visitor, walk};
@@ -172,7 +172,7 @@ fn lines_from<D: TextDecorator>(
 {
     let mut state = laid_out_from(alloc, tree, state, meter)?;
     Ok(LaidOut {
-        lines: state.block.take_lines()?,
+        lines: state.block.take_lines(),
         stacks: state.stacks,
         names: state.names,
     })
@@ -297,14 +297,13 @@ fn untagged_lines_from<D: TextDecorator>(
     alloc: Global,
     tree: &PreorderForest<RenderNode>,
     state: LayoutState<D, Untagged, (), CurrentBlock<(), usize>>,
-) -> Result<Vec<Line<(), usize>>, Error>
-    ensures ok { IfOk result (λ lines. untagged_work D.decoration tree.now state ≡ Some lines.items) }
+) -> Result<FinishedLines<(), usize>, Error>
+    ensures ok { IfOk result (λ lines. untagged_work D.decoration tree.now state ≡ Some lines) }
     ensures err { IfErr result (λ e. Refuses e (untagged_work D.decoration tree.now state)) }
 {
     let mut meter = Meter::default();
     let mut state = laid_out_from(alloc, tree, state, &mut meter)?;
-    let lines = state.block.take_lines()?;
-    Ok(lines)
+    Ok(state.block.take_lines())
 }
 
 /// Lays out a tree in a block without storing annotations. Returns the lines of [`lay_out`] without their annotations.
@@ -320,9 +319,9 @@ pub fn lay_out_untagged<D: TextDecorator>(
     tree: RenderTree,
     block: BlockSetting,
     settings: &LayoutSettings,
-) -> Result<Vec<Line<(), usize>>, Error>
+) -> Result<FinishedLines<(), usize>, Error>
     // the lines are the definition's without annotations; the clauses are those of `lay_out` without a meter
-    ensures ok { IfOk result (λ answer. Lines D.decoration settings.now tree decorator.now block (λ lines. answer.items ≡ unannotated lines)) }
+    ensures ok { IfOk result (λ answer. Lines D.decoration settings.now tree decorator.now block (λ lines. answer ≡ unannotated lines)) }
     ensures err { IfErr result (λ e. Refuses e (layout_lines D.decoration settings.now tree decorator.now block)) }
     ensures never_too_narrow { 0 < block.width → block.overflow ≡ true → result ≢ Err Error.TooNarrow }
     ensures no_width { block.width ≡ 0 → result ≡ Err Error.TooNarrow }

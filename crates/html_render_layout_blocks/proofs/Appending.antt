@@ -12,8 +12,9 @@ use Rattle.html_render_layout_lines.specs.Line.{Line, columns, marks_line}
 use Rattle.html_render_layout_lines.specs.TaggedText.{under}
 use Rattle.html_render_layout_lines.specs.laws.Columns.{columns-append, columns-marks}
 use Rattle.html_render_layout_lines.specs.laws.Tags.{if_with}
-use Rattle.html_render_layout_pictures.specs.Marked.{marked_before, marked_behind}
-use Rattle.html_render_layout_blocks.specs.Joined.{prefixed, fitting, moved}
+use Rattle.html_render_layout_buffer.specs.Marked.{marked_before, marked_behind}
+use Rattle.html_render_layout_buffer.specs.Prefixed.{prefixed}
+use Rattle.html_render_layout_blocks.specs.Joined.{fitting, moved}
 use Rattle.html_render_layout_blocks.specs.Block.{flush, feed, put_lines, end_table, mark_items, append}
 use Rattle.html_render_layout_blocks.specs.Machine.{machine, MachineBlock}
 

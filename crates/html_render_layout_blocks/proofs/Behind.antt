@@ -1,10 +1,10 @@
 -- Lines that are appended to others, with the lines before these.
-use Rattle.std.proofs.Common.{◌≡◌, ℕ, ◌+◌, Bool, List, ◌++◌, Option, Some, None, option_map, length, ap, sym, refl, ◌∙◌, append_assoc, length-append}
-use Rattle.html_render_layout_lines.specs.Line.{Line, marks_line}
-use Rattle.html_render_layout_blocks.specs.Joined.{prefixed, fitting, moved}
+use Rattle.std.proofs.Common.{◌≡◌, ℕ, zero, suc, ◌+◌, ◌==◌, arith, Bool, List, ◌++◌, Option, Some, None, option_map, length, ap, sym, refl, ◌∙◌, append_assoc, length-append}
+use Rattle.std.proofs.Math.Dec.{eqb-suc-suc}
+use Rattle.html_render_layout_lines.specs.Line.{Line}
 use Rattle.html_render_layout_paragraphs.specs.Paragraph.{LineBuffer, all_lines}
 use Rattle.html_render_layout_paragraphs.specs.Stream.{State, start, finished}
-use Rattle.html_render_layout_pictures.specs.Padding.{filled}
+use Rattle.html_render_layout_buffer.specs.Padding.{filled}
 use Rattle.html_render_layout_blocks.specs.Block.{flush}
 use Rattle.html_render_layout_blocks.specs.Machine.{machine, MachineBlock}
 
@@ -12,17 +12,15 @@ use Rattle.html_render_layout_blocks.specs.Machine.{machine, MachineBlock}
 pub length_append : {X : Type 0} (xs ys : List X) → length (xs ++ ys) ≡ length xs + length ys
 length_append xs ys = length-append xs ys
 
+-- A number is the same plus another one exactly if that is zero.
+pub same_plus : (a b n : ℕ) → a ≡ b + n → (a == b) ≡ (n == 0)
+same_plus a zero n e =
+    let same : a ≡ n = omega (arith, e) in
+    ap (λ k. k == 0) same
+same_plus zero (suc b) n e = absurd (omega (arith, e))
+same_plus (suc a) (suc b) n e = eqb-suc-suc a b ∙ same_plus a b n (omega (arith, e))
+
 pub ruleset flushed = (append_assoc, length_append)
-
-all_behind : {X : Type 0} (front done : List X) (o : Option (List X)) →
-    option_map (λ all. front ++ all) (option_map (λ all. done ++ all) o) ≡ option_map (λ all. (front ++ done) ++ all) o
-all_behind front done None = refl
-all_behind front done (Some all) = ap Some (sym (append_assoc front done all))
-
-pub moved_behind : {T M : Type 0} (width : ℕ) (overflow : Bool) (waiting : List M) (first later : Line T M) (front done lines : List (Line T M)) →
-    option_map (λ all. front ++ all) (moved width overflow waiting first later done lines) ≡ moved width overflow waiting first later (front ++ done) lines
-moved_behind width overflow waiting first later front done lines =
-    all_behind front done (fitting width overflow (prefixed (marks_line waiting ++ first) later lines))
 
 -- The lines of a paragraph appended to the last lines of a block, with the lines before these.
 pub padded_flush : {T M : Type 0} (b c : MachineBlock T M) (p : Option (State T M)) (q r : State T M) (front last new : List (Line T M)) →

@@ -18,14 +18,15 @@ use Rattle.html_render_layout_paragraphs.specs.Stream.{styled}
 use Rattle.html_render_parts_widths.specs.Shares.{widths_across}
 use Rattle.html_render_parts.specs.declared.table.PlacedCell.{PlacedCell}
 use Rattle.html_render_parts.specs.TableCells.{rows_on}
-use Rattle.html_render_layout_pictures.specs.Marked.{marked_before, marked_behind}
-use Rattle.html_render_layout_pictures.specs.Padding.{filled, repeated}
+use Rattle.html_render_layout_buffer.specs.Marked.{marked_before, marked_behind}
+use Rattle.html_render_layout_buffer.specs.Padding.{filled, repeated}
 use Rattle.html_render_layout_pictures.specs.Picture.{KeptCell}
 use Rattle.html_render_layout_blocks.specs.declared.block.BlockSetting.{BlockSetting}
 use Rattle.html_render_layout_blocks.specs.declared.block.tables.OpenTable.{OpenTable}
 use Rattle.html_render_layout_blocks.specs.declared.block.tables.OpenTable.TheVariants.{Across, Stacked}
 use Rattle.html_render_layout_blocks.specs.Closing.{closing_lines}
-use Rattle.html_render_layout_blocks.specs.Joined.{prefixed, fitting}
+use Rattle.html_render_layout_buffer.specs.Prefixed.{prefixed}
+use Rattle.html_render_layout_blocks.specs.Joined.{fitting}
 use Rattle.html_render_layout_blocks.specs.OpenRows.{past_cell}
 use Rattle.html_render_layout_blocks.specs.Operations.{Operations, DocumentEnd}
 use Rattle.html_render_layout_blocks.specs.Parts.{Parts}

@@ -1,12 +1,8 @@
 -- Lines of a block that are appended to those of another, each after a prefix.
-use Rattle.std.specs.Prelude.{ℕ, Bool, ◌||◌, nat_le, List, [], ◌∷◌, ◌++◌, Option, Some, None, map, option_map, if◌then◌else◌}
+use Rattle.std.specs.Prelude.{ℕ, Bool, ◌||◌, nat_le, List, ◌++◌, Option, Some, None, option_map, if◌then◌else◌}
 use Rattle.std.specs.List.{list_all}
 use Rattle.html_render_layout_lines.specs.Line.{Line, columns, marks_line}
-
--- Lines after prefixes: the first line after one, the later lines after another.
-abbrev pub prefixed : {T M : Type 0} → Line T M → Line T M → List (Line T M) → List (Line T M)
-prefixed first later [] = []
-prefixed first later (l ∷ ls) = (first ++ l) ∷ map (◌++◌ later) ls
+use Rattle.html_render_layout_buffer.specs.Prefixed.{prefixed}
 
 -- The lines. None, with overflow off, if one passes the width.
 abbrev pub fitting : {T M : Type 0} → ℕ → Bool → List (Line T M) → Option (List (Line T M))

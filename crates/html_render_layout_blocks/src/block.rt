@@ -3,16 +3,16 @@
 //! `block.add_inline_text("a", style)?`, `block.new_line_hard()?` and `block.add_inline_text("b", style)?` give the
 //! lines `a` and `b` once the block is flushed.
 
-ghost use Rattle.std.specs.Prelude.{◌≡◌, ◌==◌, ◌||◌, cond, not, length, nat_le, [], ◌++◌, ◌∷◌, Some, None, map, min, option_map, unwrap_or};
+ghost use Rattle.std.specs.Prelude.{◌≡◌, ◌==◌, ◌<◌, cond, not, length, [], ◌∷◌, Some, None, min, option_map, unwrap_or};
 ghost use Rattle.std.specs.Prelude.{OnOk, IfOk, IfErr, IsTrue};
 ghost use Rattle.std.specs.List.{list_all};
 ghost use Rattle.std.specs.Str.{chars};
 ghost use Rattle.html_render_dom_values.specs.Outcome.{OnlyOutOfMemory, Refuses};
 ghost use Rattle.html_render_layout_lines.specs.Character.{is_collapsible};
-ghost use Rattle.html_render_layout_lines.specs.Line.{columns, marks_line};
 ghost use Rattle.html_render_layout_paragraphs.specs.Stream.{after, styled};
-ghost use Rattle.html_render_layout_lines.specs.TaggedText.{counted, text_columns, under};
-ghost use Rattle.html_render_layout_blocks.specs.Joined.{prefixed, fitting, moved};
+ghost use Rattle.html_render_layout_lines.specs.TaggedText.{under};
+ghost use Rattle.html_render_layout_buffer.specs.Prefixed.{prefixed};
+ghost use Rattle.html_render_layout_blocks.specs.Joined.{fitting, moved};
 ghost use Rattle.html_render_layout_blocks.specs.Block.{is_collapsible_text, mark_items, inner_width};
 ghost use Rattle.html_render_layout_lines.specs.Line.{is_empty};
 ghost use Rattle.html_render_layout_blocks.specs.Block as block;
@@ -21,12 +21,11 @@ ghost use Rattle.html_render_layout_blocks.specs.Machine.{machine};
 
 use html_render_dom_values::Error;
 use html_render_dom_values::white_space::WhiteSpace;
+use html_render_layout_buffer::finished::FinishedLines;
+use html_render_layout_buffer::prefix::Prefix;
 use html_render_layout_lines::character::{TextStyle, is_collapsible};
-use html_render_layout_lines::line::{Line, text_columns};
 use html_render_layout_lines::tag::Tag;
-use html_render_layout_paragraphs::paragraph::{Paragraph, line_fits};
-use html_render_layout_pictures::line_ends::{mark_behind, put_marks_front};
-use html_render_layout_pictures::lines::Lines;
+use html_render_layout_paragraphs::paragraph::Paragraph;
 use html_render_layout_pictures::picture::Picture;
 use padding::flush_padded;
 use std::alloc::{AllocError, Global};
@@ -66,7 +65,7 @@ pub struct Block<T, M> {
     /// Tag of the spaces that pad lines of paragraphs; `None` without padding.
     padding: Option<T>,
     /// Finished lines.
-    lines: Lines<T, M>,
+    lines: FinishedLines<T, M>,
     /// Open paragraph; `None` once a character was too wide for it.
     paragraph: Option<Paragraph<T, M>>,
     /// Whether a block-level part has just ended in this block, so that the next text that isn't blank starts another one.
@@ -144,32 +143,6 @@ fn inner_width(setting: BlockSetting, prefix: usize, inner: usize) -> Option<usi
     }
 }
 
-/// A prefix of lines: a text under one tag.
-#[derive(Drop)]
-struct Prefix<'a, T> {
-    /// Characters of the prefix.
-    text: &'a str,
-    /// Columns of the text; `None` if they pass a machine word.
-    columns: Option<usize>,
-    /// Tag of all characters.
-    tag: T,
-    ghost columns_of_text: { columns ≡ counted (text_columns (chars text.now)) },
-}
-
-impl<'a, T: Copy> Prefix<'a, T> {
-    /// Returns a prefix, and counts its columns.
-    fn new(text: &'a str, tag: T) -> Prefix<'a, T>
-        ensures text { result.text.now ≡ text.now }
-        ensures tag { result.tag ≡ tag }
-    {
-        Prefix {
-            text,
-            columns: text_columns(text),
-            tag,
-        }
-    }
-}
-
 impl<T: Tag, M: Copy> Block<T, M> {
     /// Returns an empty block.
     ///
@@ -183,7 +156,7 @@ impl<T: Tag, M: Copy> Block<T, M> {
             alloc,
             setting,
             padding,
-            lines: Lines::new(alloc),
+            lines: FinishedLines::new(alloc),
             paragraph,
             at_block_end: false,
             table: None,
@@ -289,12 +262,11 @@ impl<T: Tag, M: Copy> Block<T, M> {
     {
         let padding = self.padding;
         let width = self.setting.width;
-        let before = self.lines.last.len();
         let Some(paragraph) = &mut self.paragraph else {
             return Err(Error::TooNarrow);
         };
-        flush_padded(self.alloc, paragraph, &mut self.lines.last, width, padding)?;
-        Ok(self.lines.last.len() == before)
+        let some = flush_padded(self.alloc, paragraph, &mut self.lines, width, padding)?;
+        Ok(!some)
     }
 
     /// Appends the lines of the open paragraph, padded to the width of the block if there is padding, and empties the
@@ -324,19 +296,11 @@ impl<T: Tag, M: Copy> Block<T, M> {
     }
 
     /// Removes and returns the finished lines.
-    pub(crate) fn take_lines(&mut self) -> Lines<T, M>
+    pub(crate) fn take_lines(&mut self) -> FinishedLines<T, M>
         ensures lines { result ≡ self.old.lines }
         ensures after { self.new ≡ record self.old { lines = [] } }
     {
-        mem::replace(&mut self.lines, Lines::new(self.alloc))
-    }
-
-    /// Appends a finished line.
-    fn push_line(&mut self, line: Line<T, M>) -> Result<(), AllocError>
-        ensures { OnOk result (self.new ≡ record self.old { lines = self.old.lines ++ line ∷ [] }) }
-    {
-        self.lines.push(line)?;
-        Ok(())
+        mem::replace(&mut self.lines, FinishedLines::new(self.alloc))
     }
 
     /// Appends a line that is empty except for the waiting marks.
@@ -344,8 +308,7 @@ impl<T: Tag, M: Copy> Block<T, M> {
         ensures { OnOk result (self.new ≡ block.add_lines machine self.old ([] ∷ [])) }
     {
         let marks = self.take_waiting();
-        let line = marks_line(self.alloc, marks.as_slice())?;
-        self.push_line(line)
+        self.lines.push_marks_line(marks.as_slice())
     }
 
     /// Appends an empty line with the waiting marks, unless the block has no line.
@@ -480,54 +443,51 @@ impl<T: Tag, M: Copy> Block<T, M> {
         add_each_mark(paragraph, marks)
     }
 
-    /// Appends lines to those of this block, the first after `first`, the others after `later`; the waiting marks precede
+    /// Moves lines to the end of this block's, the first after `first`, the others after `later`; the waiting marks precede
     /// `first`. Returns `TooNarrow`, with overflow off, if a line passes the width then.
-    #[tactic(auto, using(html_render_dom_values::specs::laws::Outcome::refusals, crate::proofs::Behind::moved_behind))]
+    #[tactic(auto, using(html_render_dom_values::specs::laws::Outcome::refusals, crate::proofs::Moving::moves))]
     fn move_lines(
         &mut self,
-        lines: Vec<Line<T, M>>,
+        lines: &mut FinishedLines<T, M>,
         waiting: &[M],
         first: &Prefix<'_, T>,
         later: &Prefix<'_, T>,
     ) -> Result<(), Error>
+        requires { 0 < length lines.old }
         ensures ok { OnOk result (option_map (λ all. record self.old { lines = all }) (moved self.old.setting.width self.old.setting.overflow waiting.now
-            (under first.now.tag (chars first.now.text.now)) (under later.now.tag (chars later.now.text.now)) self.old.lines lines.items) ≡ Some self.new) }
+            (under first.now.tag (chars first.now.text.now)) (under later.now.tag (chars later.now.text.now)) self.old.lines lines.old) ≡ Some self.new) }
         ensures err { IfErr result (λ e. Refuses e (moved self.old.setting.width self.old.setting.overflow waiting.now
-            (under first.now.tag (chars first.now.text.now)) (under later.now.tag (chars later.now.text.now)) self.old.lines lines.items)) }
+            (under first.now.tag (chars first.now.text.now)) (under later.now.tag (chars later.now.text.now)) self.old.lines lines.old)) }
     {
-        self.lines.last.reserve(lines.len())?;
-        move_lines(
-            &mut self.lines.last,
-            lines,
-            waiting,
-            first,
-            later,
-            self.setting,
-        )
+        let width = self.setting.width;
+        if !self.setting.overflow && !lines.fits_after(first.columns, later.columns, width) {
+            return Err(Error::TooNarrow);
+        }
+        self.lines.append_behind(lines, waiting, first, later)?;
+        Ok(())
     }
 
-    /// Appends the lines of a flushed block to this flushed block, each after its prefix. The marks `end` are put at the
-    /// end of the last line. Without lines they are fed to this block.
+    /// Moves the lines of a flushed block to the end of this flushed block's, each after its prefix. The marks `end` are put at
+    /// the end of the last line. Without lines they are fed to this block.
     #[tactic(auto, using(html_render_dom_values::specs::laws::Outcome::refusals, crate::proofs::Appending::none_put))]
     fn append_lines(
         &mut self,
-        lines: Vec<Line<T, M>>,
+        lines: &mut FinishedLines<T, M>,
         end: &[M],
         tag: T,
         first: &str,
         later: &str,
     ) -> Result<(), Error>
         ensures ok { OnOk result (option_map (λ all. block.put_lines machine self.old all end.now) (fitting self.old.setting.width self.old.setting.overflow
-            (prefixed (under tag (chars first.now)) (under tag (chars later.now)) lines.items)) ≡ Some self.new) }
+            (prefixed (under tag (chars first.now)) (under tag (chars later.now)) lines.old)) ≡ Some self.new) }
         ensures err { IfErr result (λ e. Refuses e (option_map (λ all. block.put_lines machine self.old all end.now)
             (fitting self.old.setting.width self.old.setting.overflow
-            (prefixed (under tag (chars first.now)) (under tag (chars later.now)) lines.items)))) }
+            (prefixed (under tag (chars first.now)) (under tag (chars later.now)) lines.old)))) }
     {
         if lines.is_empty() {
             return self.add_marks(end);
         }
-        let mut lines = lines;
-        mark_behind(&mut lines, end)?;
+        lines.mark_last(end)?;
         let waiting = self.take_waiting();
         self.move_lines(
             lines,
@@ -563,8 +523,7 @@ impl<T: Tag, M: Copy> Block<T, M> {
         self.flush()?;
         sub.flush_whole()?;
         let end = sub.take_waiting();
-        let lines = sub.take_lines().into_vec()?;
-        self.append_lines(lines, end.as_slice(), tag, first, later)
+        self.append_lines(&mut sub.lines, end.as_slice(), tag, first, later)
     }
 }
 
@@ -577,74 +536,4 @@ fn add_each_mark<T: Tag, M: Copy>(paragraph: &mut Paragraph<T, M>, marks: &[M]) 
         paragraph.add_mark(*mark)?;
     }
     Ok(())
-}
-
-/// Puts a prefix at the front of a line, and marks in front of the prefix.
-fn put_prefix<T: Tag, M: Copy>(
-    line: &mut Line<T, M>,
-    marks: &[M],
-    prefix: &Prefix<'_, T>,
-) -> Result<(), AllocError>
-    ensures { OnOk result (line.new ≡ (marks_line marks.now ++ under prefix.now.tag (chars prefix.now.text.now)) ++ line.old) }
-{
-    line.put_front_str(prefix.text, prefix.columns, prefix.tag)?;
-    put_marks_front(line, marks)
-}
-
-/// Puts a prefix at the front of a line: `first` with marks in front of it if the line is the first one, otherwise
-/// `later`.
-fn put_front<T: Tag, M: Copy>(
-    line: &mut Line<T, M>,
-    is_first: bool,
-    marks: &[M],
-    first: &Prefix<'_, T>,
-    later: &Prefix<'_, T>,
-) -> Result<(), AllocError>
-    ensures { OnOk result (line.new ≡ cond is_first (marks_line marks.now ++ under first.now.tag (chars first.now.text.now))
-        (under later.now.tag (chars later.now.text.now)) ++ line.old) }
-{
-    if is_first {
-        put_prefix(line, marks, first)
-    } else {
-        line.put_front_str(later.text, later.columns, later.tag)
-    }
-}
-
-/// Moves lines to the end of `to`, each after its prefix, and the first one also after marks. Returns `TooNarrow`, with
-/// overflow off, if a line passes the width then.
-#[tactic(auto, using(html_render_dom_values::specs::laws::Outcome::refusals))]
-fn move_lines<T: Tag, M: Copy>(
-    to: &mut Vec<Line<T, M>>,
-    from: Vec<Line<T, M>>,
-    marks: &[M],
-    first: &Prefix<'_, T>,
-    later: &Prefix<'_, T>,
-    setting: BlockSetting,
-) -> Result<(), Error>
-    ensures ok { OnOk result (moved setting.width setting.overflow marks.now
-        (under first.now.tag (chars first.now.text.now)) (under later.now.tag (chars later.now.text.now)) to.old.items from.items ≡ Some to.new.items) }
-    ensures err { IfErr result (λ e. Refuses e (moved setting.width setting.overflow marks.now
-        (under first.now.tag (chars first.now.text.now)) (under later.now.tag (chars later.now.text.now)) to.old.items from.items)) }
-{
-    let mut is_first = true;
-    for mut line in from {
-        put_front(&mut line, is_first, marks, first, later)?;
-        if !line_fits(&line, setting.width, setting.overflow) {
-            return Err(Error::TooNarrow);
-        }
-        to.push(line)?;
-        is_first = false;
-    }
-    Ok(())
-}
-
-/// Returns a line of marks alone.
-fn marks_line<T: Tag, M: Copy>(alloc: Global, marks: &[M]) -> Result<Line<T, M>, AllocError>
-    ensures { IfOk result (λ line. line ≡ marks_line marks.now) }
-{
-    let mut line = Line::new(alloc);
-    for mark in marks {
-        line.push_mark(*mark)?;
-    }
-    Ok(line)
 }

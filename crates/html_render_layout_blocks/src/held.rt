@@ -11,7 +11,7 @@ ghost use Rattle.html_render_layout_blocks.specs.Machine.{machine};
 
 use crate::block::Block;
 use html_render_dom_values::Error;
-use html_render_layout_lines::line::Line;
+use html_render_layout_buffer::finished::FinishedLines;
 use html_render_layout_lines::tag::Tag;
 use std::alloc::{AllocError, Global};
 use std::marker::Model;
@@ -253,14 +253,9 @@ impl<T: Tag, M: Copy> CurrentBlock<T, M> {
     }
 
     /// Removes and returns the finished lines of the current block.
-    ///
-    /// # Errors
-    ///
-    /// `AllocError`, if out of memory.
-    pub fn take_lines(&mut self) -> Result<Vec<Line<T, M>>, AllocError>
-        ensures { IfOk result (λ lines. lines.items ≡ self.old.lines) }
+    pub fn take_lines(&mut self) -> FinishedLines<T, M>
+        ensures { result ≡ self.old.lines }
     {
-        let lines = self.held.take_lines().into_vec()?;
-        Ok(lines)
+        self.held.take_lines()
     }
 }

@@ -14,7 +14,6 @@ use Rattle.html_render_layout_lines.specs.laws.Columns.{columns-cons, width-spac
 use Rattle.html_render_layout_buffer.specs.Lines.{BufferedLines, with_spaces}
 use Rattle.html_render_layout_buffer.specs.Marked.{marked_before, marked_behind}
 use Rattle.html_render_layout_buffer.specs.Padding.{repeated, filled_line}
-use Rattle.html_render_layout_buffer.specs.Prefixed.{prefixed}
 
 -- ---- line by line
 
@@ -55,17 +54,6 @@ pub one-copied : {T M : Type 0} (old p0 p1 p2 : BufferedLines T M) (n : ℕ) (ls
 one-copied {T} {M} old p0 p1 p2 n ls e0 e1 e2 p h =
     rw (e2, e1, e0, part-more ls 1 n [] p h)
     (ap (λ (y : List (Line T M)). record { lines = y; line = [] }) (append_assoc old.lines (drop 1 (take n ls)) (get_or ls n [] ∷ [])))
-
-pub behind : {T M : Type 0} (old p1 p2 : BufferedLines T M) (first later : Line T M) (ls : List (Line T M)) → 0 < length ls →
-    p1 ≡ record { lines = old.lines ++ (old.line ++ (first ++ get_or ls 0 [])) ∷ []; line = [] } →
-    p2 ≡ record { lines = p1.lines ++ map (λ (l : Line T M). later ++ l) (drop 1 ls); line = [] } →
-    p2 ≡ record { lines = old.lines ++ prefixed (old.line ++ first) later ls; line = [] }
-behind old p1 p2 first later [] h e1 e2 = absurd (omega arith)
-behind {T} {M} old p1 p2 first later (x ∷ ls) h e1 e2 =
-    let others : List (Line T M) = map (λ (l : Line T M). later ++ l) ls in
-    rw (e2, e1) (ap (λ (y : List (Line T M)). record { lines = y; line = [] })
-    (append_assoc old.lines ((old.line ++ (first ++ x)) ∷ []) others
-    ∙ ap (λ y. old.lines ++ y ∷ others) (sym (append_assoc old.line first x))))
 
 pub line-filled : {T M : Type 0} (old a b c : BufferedLines T M) (l : Line T M) (tag : T) (width missing : ℕ) →
     a ≡ record { lines = old.lines; line = old.line ++ l } → b ≡ record { lines = a.lines; line = a.line ++ repeated tag 32 missing } →

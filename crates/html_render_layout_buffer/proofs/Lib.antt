@@ -4,3 +4,4 @@ pub mod Growing
 pub mod WordParts
 pub mod PieceLines
 pub mod PartLines
+pub mod KnownPieces

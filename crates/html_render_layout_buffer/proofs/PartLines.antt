@@ -1,9 +1,9 @@
 -- The runs of a line.
-use Rattle.std.proofs.Common.{◌≡◌, ℕ, zero, suc, ◌+◌, ◌-◌, ◌<◌, ◌≤◌, List, [], ◌∷◌, ◌++◌, take, drop, length, refl, sym, ap, ◌∙◌, subst, arith, append_assoc, length-append}
+use Rattle.std.proofs.Common.{◌≡◌, ℕ, zero, suc, ◌+◌, ◌-◌, ◌<◌, ◌≤◌, List, [], ◌∷◌, ◌++◌, take, drop, length, refl, sym, ap, ◌∙◌, subst, arith, length-append}
 use Rattle.std.specs.Prelude.{replicate, encode_utf8}
 use Rattle.std.specs.Str.{chars, IsUtf8}
 use Rattle.std.specs.Prelude.{min}
-use Rattle.std.proofs.lemmas.List.{drop_at, drop_all, drop-drop, drop-take, take-take, take-replicate, length-take, length-take-le, length-drop, length-replicate, nil_from_length}
+use Rattle.std.proofs.lemmas.List.{drop_at, drop-drop, drop-take, take-take, take-replicate, length-take-le, length-drop, length-replicate, nil_from_length}
 use Rattle.std.proofs.lemmas.Str.{chars_past_char, IsUtf8-past_char, chars-nil, length-encode, len_utf8_bounds}
 use Rattle.html_render_layout_lines.specs.declared.line.Element.TheVariants as element
 use Rattle.html_render_layout_lines.specs.Line.{Line, text_bytes}
@@ -33,11 +33,6 @@ left-made {T} {M} bs ss from to m e f utf8 h k =
       ordered = h;
       within = k;
     }
-
-pub none-left : {T M : Type 0} (bs : List ℕ) (ss : List (Slot T M)) (from to : ℕ) → to ≤ from → elements_left bs ss from to ≡ []
-none-left {T} {M} bs ss from to h =
-    let few : length (take to ss) ≤ from = omega (arith, h, length-take to ss) in
-    ap (λ (y : List (Slot T M)). elements_read 0 (chars bs) y) (drop_all from (take to ss) few)
 
 -- the slots from one place to another, and those of a run from the first place on
 part-of-run : {X : Type 0} (xs : List X) (x : X) (from to end limit : ℕ) → from + limit ≤ to → from + limit ≤ end →

@@ -1,21 +1,17 @@
 -- Lines in pieces: how wide they are, and what stands at their ends.
-use Rattle.std.proofs.Common.{◌≡◌, ℕ, zero, suc, ◌+◌, ◌-◌, ◌<◌, ◌≤◌, Bool, true, false, ◌&&◌, nat_le, List, [], ◌∷◌, ◌++◌, Option, Some, None, map, take, drop, length, get_or, reverse, refl, sym, ap, ◌∙◌, subst, arith, append_assoc, append-nil, length-append}
+use Rattle.std.proofs.Common.{◌≡◌, ℕ, zero, suc, ◌+◌, ◌-◌, ◌<◌, ◌≤◌, Bool, true, false, ◌&&◌, nat_le, List, [], ◌∷◌, ◌++◌, Some, map, take, drop, length, get_or, reverse, refl, sym, ap, ◌∙◌, subst, arith, append_assoc, append-nil, length-append}
 use Rattle.std.specs.List.{list_all}
-use Rattle.std.proofs.lemmas.List.{take_more, map-append, reverse-append, length-map}
+use Rattle.std.proofs.lemmas.List.{take_more, map-append, reverse-append}
 use Rattle.std.proofs.lemmas.List.Concat.{flat_map-append}
 use Rattle.std.proofs.lemmas.List.Elements.{All-nil, All-cons, All-append, All-head, All-tail, All-map}
 use Rattle.std.proofs.lemmas.List.Folds.{map_fixed, list_all-append}
-use Rattle.html_render_layout_lines.specs.declared.line.Element.{Element}
 use Rattle.html_render_layout_lines.specs.declared.line.Element.TheVariants as element
-use Rattle.html_render_layout_lines.specs.Character.{width_of}
 use Rattle.html_render_layout_lines.specs.Line.{Line, columns, marks_line}
-use Rattle.html_render_layout_lines.specs.TaggedText.{counted}
-use Rattle.html_render_layout_lines.specs.laws.Columns.{columns-append, columns-marks, columns-cons, width-space}
-use Rattle.html_render_layout_buffer.specs.Lines.{BufferedLines}
+use Rattle.html_render_layout_lines.specs.laws.Columns.{columns-append, columns-cons, width-space}
 use Rattle.html_render_layout_buffer.specs.Marked.{marked_before, marked_behind}
 use Rattle.html_render_layout_buffer.specs.Padding.{repeated, filled_line, filled}
 use Rattle.html_render_layout_buffer.specs.Prefixed.{prefixed}
-use Rattle.html_render_layout_buffer.specs.Pieces.{with_front, lines_of, AllAtLeast, IsPiece, fits_after}
+use Rattle.html_render_layout_buffer.specs.Pieces.{with_front, lines_of, AllAtLeast, fits_after}
 use Rattle.html_render_layout_buffer.proofs.Growing.{part-more}
 
 -- ---- all of some
@@ -57,7 +53,7 @@ module _ {T M : Type 0} where
       (All-append (λ (l : Line T M). b ≤ columns l) (take n ls) (get_or ls n [] ∷ []) (λ i d l. omega (arith, k, all i d l))
       (All-cons (λ (l : Line T M). b ≤ columns l) (get_or ls n []) [] c (All-nil (λ (l : Line T M). b ≤ columns l))))
 
-  pub least-fewer : (a b : ℕ) (ls : List (Line T M)) → AllAtLeast a ls → b ≤ a → AllAtLeast b ls
+  least-fewer : (a b : ℕ) (ls : List (Line T M)) → AllAtLeast a ls → b ≤ a → AllAtLeast b ls
   least-fewer a b ls all h = λ k d l. omega (arith, h, all k d l)
 
   pub least-both : (n a b : ℕ) (xs ys : List (Line T M)) → AllAtLeast a xs → AllAtLeast b ys → n ≤ a → n ≤ b → AllAtLeast n (xs ++ ys)
@@ -72,9 +68,6 @@ module _ {T M : Type 0} where
   pub least-right : (n : ℕ) (xs ys : List (Line T M)) → AllAtLeast n (xs ++ ys) → AllAtLeast n ys
   least-right n [] ys all = all
   least-right n (x ∷ xs) ys all = least-right n xs ys (All-tail (λ (l : Line T M). n ≤ columns l) x (xs ++ ys) all)
-
-  pub least-none : (n : ℕ) → AllAtLeast {T = T} {M = M} n []
-  least-none n = All-nil (λ (l : Line T M). n ≤ columns l)
 
   pub least-front : (n : ℕ) (f : Line T M) (ls : List (Line T M)) → AllAtLeast n ls → AllAtLeast n (with_front f ls)
   least-front n f [] all = all
@@ -100,14 +93,7 @@ module _ {T M : Type 0} where
   pub wide_filled : (tag : T) (w n : ℕ) (ls : List (Line T M)) → AllAtLeast n ls → w ≤ n → filled (Some tag) w ls ≡ ls
   wide_filled tag w n ls all h = map_fixed (filled_line tag w) ls (λ k d l. wide-filled tag w (get_or ls k d) (omega (arith, h, all k d l)))
 
-  pub filled-append : (tag : T) (w : ℕ) (xs ys : List (Line T M)) → filled (Some tag) w (xs ++ ys) ≡ filled (Some tag) w xs ++ filled (Some tag) w ys
-  filled-append tag w xs ys = map-append (filled_line tag w) xs ys
-
   -- ---- a front
-
-  pub front-none : (ls : List (Line T M)) → with_front [] ls ≡ ls
-  front-none [] = refl
-  front-none (l ∷ ls) = refl
 
   pub front-append : (f g : Line T M) (ls : List (Line T M)) → with_front (f ++ g) ls ≡ with_front f (with_front g ls)
   front-append f g [] = refl
@@ -126,11 +112,6 @@ module _ {T M : Type 0} where
   front-marked f ms (l ∷ []) = ap (λ x. x ∷ []) (sym (append_assoc f l (marks_line ms)))
   front-marked f ms (l ∷ k ∷ ls) = refl
 
-  pub marked-length : (ms : List M) (ls : List (Line T M)) → length (marked_behind ms ls) ≡ length ls
-  marked-length ms [] = refl
-  marked-length ms (l ∷ []) = refl
-  marked-length ms (l ∷ k ∷ ls) = ap suc (marked-length ms (k ∷ ls))
-
   pub marked-none : (ms : List M) (ls : List (Line T M)) → ms ≡ [] → marked_behind ms ls ≡ ls
   marked-none ms ls none = ap (λ ns. marked_behind ns ls) none ∙ by ls
     where
@@ -138,10 +119,6 @@ module _ {T M : Type 0} where
       by [] = refl
       by (l ∷ []) = ap (λ x. x ∷ []) (append-nil l)
       by (l ∷ k ∷ ls) = ap (λ x. l ∷ x) (by (k ∷ ls))
-
-  pub marked-none-first : (ms : List M) (ls : List (Line T M)) → ms ≡ [] → marked_before ms ls ≡ ls
-  marked-none-first ms [] none = refl
-  marked-none-first ms (l ∷ ls) none = ap (λ ns. (marks_line ns ++ l) ∷ ls) none
 
   -- the last line is that of the last lines
   pub marked-behind : (ms : List M) (xs ls : List (Line T M)) → 0 < length ls → marked_behind ms (xs ++ ls) ≡ xs ++ marked_behind ms ls
@@ -151,9 +128,9 @@ module _ {T M : Type 0} where
   marked-behind ms (k ∷ j ∷ xs) (l ∷ ls) h = ap (λ x. k ∷ x) (marked-behind ms (j ∷ xs) (l ∷ ls) h)
 
   -- the first line is that of the first lines
-  pub marked-first : (ms : List M) (xs ls : List (Line T M)) → 0 < length xs → marked_before ms (xs ++ ls) ≡ marked_before ms xs ++ ls
-  marked-first ms [] ls h = absurd (omega (arith, h))
-  marked-first ms (x ∷ xs) ls h = refl
+  pub marked-before : (ms : List M) (ls xs : List (Line T M)) → 0 < length ls → marked_before ms (ls ++ xs) ≡ marked_before ms ls ++ xs
+  marked-before ms [] xs h = absurd (omega (arith, h))
+  marked-before ms (l ∷ ls) xs h = refl
 
   reversed-marks : (ms : List M) → reverse (marks_line {T = T} ms) ≡ marks_line (reverse ms)
   reversed-marks [] = refl
@@ -181,11 +158,6 @@ module _ {T M : Type 0} where
 
   pub lines_of-end : (ps : List (List (Line T M))) (p : List (Line T M)) → lines_of (ps ++ p ∷ []) ≡ lines_of ps ++ p
   lines_of-end ps p = lines_of-append ps (p ∷ []) ∙ ap (λ l. lines_of ps ++ l) (append-nil p)
-
-  pub lines-more : (ps : List (List (Line T M))) (p : List (Line T M)) (n : ℕ) → n < length ps → p ≡ get_or ps n p →
-      lines_of (take (n + 1) ps) ≡ lines_of (take n ps) ++ p
-  lines-more ps p n h e = ap (λ (y : List (List (Line T M))). lines_of y) (take_more ps n p h) ∙ lines_of-end (take n ps) (get_or ps n p)
-      ∙ ap (λ y. lines_of (take n ps) ++ y) (sym e)
 
   -- ---- lines that fit
 
@@ -252,11 +224,6 @@ module _ {T M : Type 0} where
   prefixed-parts f l [] ys h = absurd (omega (arith, h))
   prefixed-parts f l (x ∷ xs) ys h = ap (λ r. (f ++ x) ∷ r) (map-append (λ (k : Line T M). l ++ k) xs ys)
 
-  one-line : (xs : List (Line T M)) → length xs ≡ 1 → xs ≡ get_or xs 0 [] ∷ []
-  one-line [] e = absurd (omega (arith, e))
-  one-line (x ∷ []) e = refl
-  one-line (x ∷ y ∷ xs) e = absurd (omega (arith, e))
-
   -- an only line
   pub only-behind : (f : Line T M) (xs : List (Line T M)) → length xs ≡ 1 → with_front f xs ≡ map (λ (k : Line T M). f ++ k) xs
   only-behind f [] e = refl
@@ -279,5 +246,3 @@ module _ {T M : Type 0} where
   only-filled f tag w n xs [] l e h k = rw (h, k) (ap (λ y. y ∷ []) (sym (append_assoc f l (repeated tag 32 (w - columns (f ++ l))))))
   only-filled f tag w n xs (y ∷ ys) l e h k =
       absurd (omega (arith, e, ap length h, length-append ys (l ∷ [])))
-
-pub ruleset fronts = (front-none, front-append, front-length)

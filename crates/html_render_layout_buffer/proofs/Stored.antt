@@ -161,18 +161,6 @@ ends-moved (x ∷ ms) text slots at from =
 
 -- ---- the fields grow
 
-pub nothing : {T M : Type 0} → IsStored {T = T} {M = M} (record { text = []; slots = []; ends = []; start = 0; slot_start = 0; columns = Some 0 }) [] []
-nothing = record {
-  text = refl;
-  slots = refl;
-  ends = refl;
-  start = refl;
-  slot_start = refl;
-  columns = refl;
-  ended_utf8 = tt;
-  open_utf8 = IsUtf8-nil;
-}
-
 -- elements on the open line
 pub added : {T M : Type 0} (f : Fields T M) (ls : List (Line T M)) (l m : Line T M) (bs : List ℕ) (ss : List (Slot T M)) (count : Option ℕ) →
     IsStored f ls l → IsUtf8 (text_bytes m) → bs ≡ f.text ++ text_bytes m → ss ≡ f.slots ++ line_slots m → count ≡ counted (columns l + columns m) →

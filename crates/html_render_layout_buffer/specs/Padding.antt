@@ -14,4 +14,4 @@ filled_line tag width l = l ++ repeated tag 0x20 (width - columns l)
 -- lines, each filled in this way if there is padding
 abbrev pub filled : {T M : Type 0} → (padding : Option T) → (width : ℕ) → List (Line T M) → List (Line T M)
 filled None width ls = ls
-filled {T} {M} (Some tag) width ls = map (λ (l : Line T M). filled_line tag width l) ls
+filled {T} {M} (Some tag) width ls = map (λ (l : Line T M). l ++ repeated tag 0x20 (width - columns l)) ls

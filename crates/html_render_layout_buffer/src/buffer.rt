@@ -26,7 +26,8 @@ mod spaces;
 mod stored;
 mod word;
 
-pub(crate) use sizes::{columns_missing, is_within};
+pub use sizes::columns_missing;
+pub(crate) use sizes::is_within;
 
 /// Ended lines and an open line, each of tagged characters and marks.
 #[derive(Drop)]
@@ -185,7 +186,7 @@ impl<T: Tag, M: Copy> LineBuffer<T, M> {
     ///
     /// `AllocError`. The buffer then has no lines.
     #[inline]
-    pub fn push_counted(
+    pub(crate) fn push_counted(
         &mut self,
         text: &str,
         width: Option<usize>,
@@ -309,7 +310,7 @@ impl<T: Tag, M: Copy> LineBuffer<T, M> {
 
     /// Returns the text of the open line.
     #[inline]
-    pub fn open_text(&self) -> &str
+    fn open_text(&self) -> &str
         ensures { result.now ≡ text_bytes self.now.line }
     {
         text_from(self.text.as_str(), self.start)

@@ -3,8 +3,7 @@
 //! Lines are copied from one value to another only where they are few. A large value is moved whole, so that the lines of
 //! blocks in blocks aren't copied at each of them.
 
-ghost use Rattle.std.specs.Prelude.{◌≡◌, ℕ, ◌==◌, ◌<◌, ◌++◌, [], ◌∷◌, Some, length, map, OnOk, IfOk};
-ghost use Rattle.std.specs.List.{slice_index_or};
+ghost use Rattle.std.specs.Prelude.{◌≡◌, ℕ, ◌==◌, ◌<◌, ◌++◌, [], ◌∷◌, Some, length, OnOk, IfOk};
 ghost use Rattle.std.specs.Str.{chars};
 ghost use Rattle.html_render_layout_lines.specs.Line.{marks_line};
 ghost use Rattle.html_render_layout_lines.specs.TaggedText.{counted, text_columns, under};
@@ -199,10 +198,7 @@ impl<T: Tag, M: Copy> FinishedLines<T, M> {
             return self.last.mark_first(marks);
         }
         settle(&mut self.pieces, &mut self.last)?;
-        if let Some(piece) = self.pieces.pop_first() {
-            self.pieces.push_first(piece.marked_first(marks)?)?;
-        }
-        Ok(())
+        self.pieces.mark_first(marks)
     }
 
     /// Appends marks to the last line. Does nothing without lines.
@@ -219,10 +215,7 @@ impl<T: Tag, M: Copy> FinishedLines<T, M> {
         if self.last.line_count() > 0 {
             return self.last.mark_last(marks);
         }
-        if let Some(piece) = self.pieces.pop_last() {
-            self.pieces.push(piece.marked_last(marks)?)?;
-        }
-        Ok(())
+        self.pieces.mark_last(marks)
     }
 
     /// Reports whether the lines fit in `width` columns, the first after `first` columns and the others after `later` columns.

@@ -1,8 +1,5 @@
 //! What a line's tags and marks are stored as.
 
-ghost use Rattle.std.specs.Prelude.{◌≡◌};
-ghost use Rattle.std.specs.Bool.{OnTrue};
-
 use html_render_layout_lines::tag::Tag;
 
 /// The tag of one byte of a line, or a mark.

@@ -1,2 +1,1 @@
 pub mod TaggedTexts
-pub mod LineColumns

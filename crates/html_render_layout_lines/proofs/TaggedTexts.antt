@@ -1,21 +1,19 @@
 -- A text under runs of tags: how its line grows, and its bytes.
-use Rattle.std.proofs.Common.{◌≡◌, ℕ, suc, ◌+◌, ◌-◌, ◌<◌, ◌≤◌, ◌==◌, Bool, true, false, List, [], ◌∷◌, ◌++◌, Option, Some, None}
-use Rattle.std.proofs.Common.{map, take, drop, length, refl, sym, ap, ◌∙◌, subst, arith, append_assoc, append-nil, length-append, length-drop}
+use Rattle.std.proofs.Common.{◌≡◌, ℕ, suc, ◌-◌, ◌==◌, true, false, List, [], ◌∷◌, ◌++◌, Option, Some, None}
+use Rattle.std.proofs.Common.{take, drop, length, refl, sym, ap, ◌∙◌, subst, arith, append_assoc, append-nil, length-append, length-drop}
 use Rattle.std.proofs.lemmas.List.{take-append-le, drop-append-le, take-append-drop, map-append, drop_all, take_all, length-take}
 use Rattle.std.proofs.lemmas.List.Concat.{flat_map-append}
 use Rattle.std.proofs.lemmas.Bool.{eqb-true, ne_eqb}
 use Rattle.std.proofs.lemmas.Str.{chars-append, chars-nil, IsUtf8-append, IsUtf8-nil, encodes-chars}
 use Rattle.std.specs.Str.{chars, IsUtf8, encode_utf8_all}
 use Rattle.std.specs.Prelude.{encode_utf8}
-use Rattle.html_render_layout_lines.specs.declared.character.TextStyle.{TextStyle}
 use Rattle.html_render_layout_lines.specs.declared.line.Element.{Element}
 use Rattle.html_render_layout_lines.specs.declared.line.Element.TheVariants as element
 use Rattle.html_render_layout_lines.specs.declared.line.tagged_text.Run.{Run}
 use Rattle.html_render_layout_lines.specs.declared.line.tagged_text.Run.TheVariants as run
-use Rattle.html_render_layout_lines.specs.Line.{Line, bytes_of, text_bytes, element_of}
+use Rattle.html_render_layout_lines.specs.Line.{Line, bytes_of, text_bytes}
 use Rattle.html_render_layout_lines.specs.laws.Cases.{is_empty-cons}
 use Rattle.html_render_layout_lines.specs.TaggedText.{under, elements_of, Cuts, open_elements, all_elements, HasTag, IsCut, closed_run}
-use Rattle.html_render_layout_lines.specs.TaggedText.{items_of, style_tag, styled_elements}
 
 -- ---- runs over a text, and more runs over more text
 
@@ -134,35 +132,6 @@ is-longer rs (Some own) tag start bs cs cut e utf8 = record {
   has_tag = tt;
 }
 
--- ---- text in front of the open run, before which nothing is closed
-
-nothing-before : {T M : Type 0} (tag : Option T) (start : ℕ) (bs : List ℕ) → IsCut {M = M} [] tag start bs → start ≡ 0
-nothing-before tag start bs cut = omega (arith, cut.within, ap length cut.closed, length-take start bs)
-
-pub all-fronted : {T M : Type 0} (rs : List (Run T M)) (some : Option T) (tag : T) (start : ℕ) (bs cs : List ℕ) → IsCut rs some start bs →
-    (length rs == 0) ≡ true → some ≡ Some tag → IsUtf8 cs →
-    all_elements rs some start (cs ++ bs) ≡ under tag (chars cs) ++ all_elements rs some start bs
-all-fronted (r ∷ rs) some tag start bs cs cut none e utf8 = absurd (omega (arith, eqb-true (length (r ∷ rs)) 0 none))
-all-fronted [] None tag start bs cs cut none e utf8 = cc
-all-fronted {T} {M} [] (Some own) tag start bs cs cut none e utf8 =
-    let same : own ≡ tag = cc in
-    let first : start ≡ 0 = nothing-before {M = M} (Some own) start bs cut in
-    rw (same, first) (ap (under {M = M} tag) (chars-append cs bs utf8)
-    ∙ map-append {B = Element T M} (λ (c : ℕ). element.Character c tag) (chars cs) (chars bs))
-
-pub is-fronted : {T M : Type 0} (rs : List (Run T M)) (some : Option T) (tag : T) (start : ℕ) (bs cs : List ℕ) → IsCut rs some start bs →
-    (length rs == 0) ≡ true → some ≡ Some tag → IsUtf8 cs → IsCut rs some start (cs ++ bs)
-is-fronted (r ∷ rs) some tag start bs cs cut none e utf8 = absurd (omega (arith, eqb-true (length (r ∷ rs)) 0 none))
-is-fronted [] None tag start bs cs cut none e utf8 = cc
-is-fronted {T} {M} [] (Some own) tag start bs cs cut none e utf8 =
-    let first : start ≡ 0 = nothing-before {M = M} (Some own) start bs cut in
-    rw first (record {
-      within = omega arith;
-      closed = refl;
-      ending = IsUtf8-append cs bs utf8 (subst (λ n. IsUtf8 (drop n bs)) first cut.ending);
-      has_tag = tt;
-    })
-
 -- ---- a mark behind the closed runs
 
 pub all-marked : {T M : Type 0} (rs : List (Run T M)) (none : Option T) (m : M) (start : ℕ) (bs : List ℕ) → IsCut rs none start bs →
@@ -215,17 +184,6 @@ bytes-all {T} {M} rs tag start bs cut =
     bytes-append (elements_of rs (take start bs)) (open_elements tag (drop start bs))
     ∙ rw (bytes-elements rs (take start bs) cut.closed, bytes-open M tag (drop start bs) cut.has_tag cut.ending) (take-append-drop start bs)
 
-pub bytes-char : {T : Type 0} (M : Type 0) (tag : T) (c : ℕ) → text_bytes {M = M} (element.Character c tag ∷ []) ≡ encode_utf8 c
-bytes-char M tag c = append-nil (encode_utf8 c)
-
--- one more element, with its bytes
-pub bytes-more : {T M : Type 0} (es : Line T M) (x : Element T M) (old now new : List ℕ) → now ≡ old ++ text_bytes es →
-    new ≡ now ++ text_bytes (x ∷ []) → new ≡ old ++ text_bytes (es ++ x ∷ [])
-bytes-more es x old now new e f = f ∙ ap (λ bs. bs ++ text_bytes (x ∷ [])) e ∙ append_assoc old (text_bytes es) (text_bytes (x ∷ []))
-    ∙ ap (λ bs. old ++ bs) (sym (bytes-append es (x ∷ [])))
-
-pub ruleset bytes = (bytes-append, bytes-char)
-
 -- ---- a text without bytes
 
 empty-from : {T M : Type 0} (l : Line T M) (bs : List ℕ) → text_bytes l ≡ bs → (length bs == 0) ≡ false → (length l == 0) ≡ false
@@ -250,45 +208,3 @@ no-bytes (run.Mark m ∷ rs) tag start [] cut h =
     is_empty-cons (run.Mark m) rs ∙ sym (ne_eqb (length (all_elements (run.Mark m ∷ rs) tag start [])) 0 (λ e. omega (arith, e)))
 no-bytes (run.Text n own ∷ rs) tag start [] cut h =
     absurd (omega (arith, cut.closed.0, cut.closed.3, cut.within, length-take {A = ℕ} start []))
-
--- ---- a word's elements on a line
-
-pub placed-append : {T M : Type 0} (continues : Bool) (es fs : Line (TextStyle T) M) →
-    map (element_of continues) (items_of (es ++ fs)) ≡ map (element_of continues) (items_of es) ++ map (element_of continues) (items_of fs)
-placed-append continues [] fs = refl
-placed-append {T} {M} continues (e ∷ es) fs =
-    ap (λ (xs : Line T M). map (element_of continues) (items_of (e ∷ [])) ++ xs) (placed-append continues es fs)
-
-pub placed-under : {T : Type 0} (M : Type 0) (continues : Bool) (style : TextStyle T) (cs : List ℕ) →
-    map (element_of continues) (items_of (under {M = M} style cs)) ≡ under (style_tag continues style) cs
-placed-under M continues style [] = refl
-placed-under {T} M continues style (c ∷ cs) =
-    ap (λ (xs : Line T M). element.Character c (style_tag continues style) ∷ xs) (placed-under M continues style cs)
-
-pub styled-elements : {T M : Type 0} (continues : Bool) (rs : List (Run (TextStyle T) M)) (bs : List ℕ) →
-    styled_elements continues rs bs ≡ map (element_of continues) (items_of (elements_of rs bs))
-styled-elements continues [] bs = refl
-styled-elements {T} {M} continues (run.Text n style ∷ rs) bs =
-    let front : Line (TextStyle T) M = under style (chars (take n bs)) in
-    rw (
-      styled-elements continues rs (drop n bs),
-      placed-append continues front (elements_of rs (drop n bs)),
-      placed-under M continues style (chars (take n bs)),
-    ) refl
-styled-elements {T} {M} continues (run.Mark m ∷ rs) bs = ap (λ (xs : Line T M). element.Mark m ∷ xs) (styled-elements continues rs bs)
-
--- a word that is put on a line in two steps: its closed runs, and its open run
-pub placed-parts : {T M : Type 0} (continues : Bool) (old one new : Line T M) (word : Line (TextStyle T) M)
-    (rs : List (Run (TextStyle T) M)) (tag : Option (TextStyle T)) (bs cs : List ℕ) → one ≡ old ++ styled_elements continues rs bs →
-    new ≡ one ++ map (element_of continues) (items_of (open_elements tag cs)) → elements_of rs bs ++ open_elements tag cs ≡ word →
-    new ≡ old ++ map (element_of continues) (items_of word)
-placed-parts {T} {M} continues old one new word rs tag bs cs p q e =
-    let end : Line T M = map (element_of continues) (items_of (open_elements tag cs)) in
-    q
-    ∙ ap (λ (x : Line T M). x ++ end) p
-    ∙ append_assoc old (styled_elements continues rs bs) end
-    ∙ ap (λ (x : Line T M). old ++ x) (ap (λ (x : Line T M). x ++ end) (styled-elements continues rs bs)
-    ∙ sym (placed-append continues (elements_of rs bs) (open_elements tag cs))
-    ∙ ap (λ (l : Line (TextStyle T) M). map (element_of continues) (items_of l)) e)
-
-pub ruleset placing = (placed-append, placed-under, styled-elements)

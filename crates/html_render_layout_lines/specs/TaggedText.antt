@@ -1,5 +1,5 @@
 -- A text in UTF-8 under runs of tags, and the line that it stands for.
-use Rattle.std.specs.Prelude.{◌≡◌, ℕ, zero, suc, ◌≤◌, ◌<◌, ◌^◌, nat_lt, Bool, true, false, List, [], ◌∷◌, ◌++◌, Option, Some, None, map, sum_by}
+use Rattle.std.specs.Prelude.{◌≡◌, ℕ, zero, suc, ◌≤◌, ◌<◌, ◌^◌, nat_lt, Bool, List, [], ◌∷◌, ◌++◌, Option, Some, None, map, sum_by}
 use Rattle.std.specs.Prelude.{take, drop, length, if◌then◌else◌}
 use Rattle.std.specs.Str.{chars, IsUtf8}
 use Rattle.html_render_layout_lines.specs.declared.character.TextStyle.{TextStyle}
@@ -85,10 +85,3 @@ items_of {T} {M} word = map (λ (e : Element (TextStyle T) M). item_of e) word
 -- the tag of a style's characters on a line that continues another, or on an ordinary line
 abbrev pub style_tag : {T : Type 0} → Bool → TextStyle T → T
 style_tag continues style = if continues then style.continuation_tag else style.tag
-
--- the elements that runs make of a word's text, with one of each style's tags
-abbrev pub styled_elements : {T M : Type 0} → Bool → List (Run (TextStyle T) M) → List ℕ → Line T M
-styled_elements continues [] bs = []
-styled_elements continues (run.Text n style ∷ rs) bs =
-    under (style_tag continues style) (chars (take n bs)) ++ styled_elements continues rs (drop n bs)
-styled_elements continues (run.Mark m ∷ rs) bs = element.Mark m ∷ styled_elements continues rs bs

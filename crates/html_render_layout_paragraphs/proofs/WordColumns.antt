@@ -7,11 +7,10 @@ use Rattle.html_render_layout_lines.specs.declared.character.Item.{Item}
 use Rattle.html_render_layout_lines.specs.declared.character.Item.TheVariants as item
 use Rattle.html_render_layout_lines.specs.declared.character.TextStyle.{TextStyle}
 use Rattle.html_render_layout_lines.specs.declared.line.Element.{Element}
-use Rattle.html_render_layout_lines.specs.declared.line.Element.TheVariants as element
 use Rattle.html_render_layout_lines.specs.declared.line.tagged_text.Run.{Run}
 use Rattle.html_render_layout_lines.specs.declared.line.tagged_text.Run.TheVariants as run
 use Rattle.html_render_layout_lines.specs.Character.{width_of, character_of}
-use Rattle.html_render_layout_lines.specs.Line.{Line, columns, element_width, word_columns, item_width}
+use Rattle.html_render_layout_lines.specs.Line.{Line, word_columns, item_width}
 use Rattle.html_render_layout_paragraphs.specs.Paragraph.{LineBuffer, Setting, put_items, with_waiting_mark}
 use Rattle.html_render_layout_paragraphs.specs.laws.Whole.{put_items-append, then_same}
 use Rattle.html_render_layout_lines.specs.laws.Columns.{columns-cons, word_columns-append, word_columns-cons}
@@ -40,29 +39,12 @@ word_columns-styled M style (c ∷ cs) =
       word_columns-styled M style cs,
     )
 
-columns-item : {T M : Type 0} (e : Element (TextStyle T) M) → element_width e ≡ item_width (item_of e)
-columns-item (element.Character c style) = refl
-columns-item (element.Mark m) = refl
-
--- The items of a word take the columns of its elements.
-pub columns-items : {T M : Type 0} (es : Line (TextStyle T) M) → columns es ≡ word_columns (items_of es)
-columns-items [] = refl
-columns-items {T} {M} (e ∷ es) =
-    omega (
-      arith,
-      columns-item e,
-      columns-cons e es,
-      word_columns-cons (item_of e) (items_of es),
-      columns-items es,
-    )
-
 pub ruleset word_pushes = (
   items-append,
   items-under,
   word_columns-append,
   word_columns-single,
   word_columns-styled,
-  columns-items,
   append_assoc,
 )
 

@@ -1,6 +1,6 @@
 //! Wrapping of texts and marks into lines.
 //!
-//! A [`Paragraph`](paragraph::Paragraph) is fed texts and marks. Its `flush` appends the lines to a vector.
+//! A [`Paragraph`](paragraph::Paragraph) is fed texts and marks. Its `flush` appends the lines to finished lines.
 #![tactic(auto)]
 
 mod laws;

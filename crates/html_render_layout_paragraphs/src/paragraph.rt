@@ -3,17 +3,18 @@
 //! At a width of 11 and with a style of `WhiteSpace::Normal`, `paragraph.add_text("Hello wide world", style)?` and then
 //! `paragraph.flush(&mut lines)?` append the lines `Hello wide` and `world`.
 
-ghost use Rattle.std.specs.Prelude.{◌≡◌, [], ◌∷◌, ◌++◌, Some, None, OnOk, IfErr, option_map, if◌then◌else◌};
+ghost use Rattle.std.specs.Prelude.{◌≡◌, [], ◌==◌, Some, None, OnOk, IfOk, IfErr, length, not, option_map};
 ghost use Rattle.std.specs.Bool.{OnTrue};
 ghost use Rattle.std.specs.Str.{chars};
 ghost use Rattle.html_render_dom_values.specs.Outcome.{OnlyOutOfMemory, Refuses};
-ghost use Rattle.html_render_layout_lines.specs.Line.{is_empty};
+ghost use Rattle.html_render_layout_paragraphs.specs.Paragraph.{all_lines};
 ghost use Rattle.html_render_layout_paragraphs.specs.Stream.{start, step, after, styled, finished, flushed_to};
 
 use crate::word::Word;
 use html_render_dom_values::Error;
+use html_render_layout_buffer::buffer::LineBuffer;
+use html_render_layout_buffer::finished::FinishedLines;
 use html_render_layout_lines::character::{Character, Item, TextStyle};
-use html_render_layout_lines::line::Line;
 use html_render_layout_lines::tag::Tag;
 use std::alloc::{AllocError, Global};
 use std::marker::Model;
@@ -25,11 +26,6 @@ mod line_buffer;
 mod word;
 
 pub use cut::push_cut_text;
-pub use line_buffer::line_fits;
-
-/// Greatest width, in columns, at which no memory is reserved: texts of such lines are mostly short enough to need no
-/// allocation.
-const NARROW: usize = 12;
 
 /// Whether a word is open, and how the white space of its text is treated.
 #[derive(Clone, Copy)]
@@ -47,16 +43,14 @@ enum OpenWord {
 /// The section "Paragraphs" of docs/BEHAVIOUR.md states where characters are placed.
 #[derive(Drop)]
 pub struct Paragraph<T, M> {
-    /// Allocator of all lines and words.
+    /// Allocator of words and waiting marks.
     alloc: Global,
     /// Columns of a line.
     width: usize,
     /// Whether a character wider than a line is placed nevertheless.
     overflow: bool,
-    /// Finished lines.
-    lines: Vec<Line<T, M>>,
-    /// Open line.
-    line: Line<T, M>,
+    /// Finished lines, and the open line.
+    lines: LineBuffer<T, M>,
     /// Whether the open line is a continuation line: it began because something didn't fit.
     continues: bool,
     /// Marks that wait for the next character.
@@ -77,7 +71,7 @@ impl<T, M> Model for Paragraph<T, M> {
 
     ghost view = { λ p. record {
       setting = record { width = p.width; overflow = p.overflow };
-      page = record { lines = p.lines.items; line = p.line; continues = p.continues; waiting = p.waiting.items };
+      page = record { lines = p.lines.lines; line = p.lines.line; continues = p.continues; waiting = p.waiting.items };
       pending = p.pending;
       word = p.word;
       open_word = open_word_of p.open_word;
@@ -96,8 +90,7 @@ impl<T: Tag, M: Copy> Paragraph<T, M> {
             alloc,
             width,
             overflow,
-            lines: Vec::new(alloc),
-            line: Line::new(alloc),
+            lines: LineBuffer::new(alloc),
             continues: false,
             waiting: Vec::new(alloc),
             pending: None,
@@ -113,7 +106,6 @@ impl<T: Tag, M: Copy> Paragraph<T, M> {
         self.width = width;
         self.overflow = overflow;
         self.lines.clear();
-        self.line.clear();
         self.continues = false;
         self.waiting.clear();
         self.pending = None;
@@ -152,51 +144,17 @@ impl<T: Tag, M: Copy> Paragraph<T, M> {
         ensures ok { OnOk result (after self.old (styled style (chars text.now)) ≡ Some self.new) }
         ensures err { IfErr result (λ e. Refuses e (after self.old (styled style (chars text.now)))) }
     {
-        self.make_room(text.len())?;
         self.feed(text, style)
     }
 
-    /// Reserves memory on an empty line for a text of `bytes` bytes and a prefix. For a text of fewer than 16 bytes,
-    /// reserves memory for further texts too.
-    #[inline]
-    fn make_room(&mut self, bytes: usize) -> Result<(), AllocError>
-        ensures { self.new ≡ self.old }
+    /// Ends the open line, unless it is empty.
+    fn end_open_line(&mut self) -> Result<(), AllocError>
+        ensures { OnOk result (self.new ≡ record self.old { page = record self.old.page { lines = all_lines self.old.page; line = [] } }) }
     {
-        if self.width <= NARROW {
+        if self.lines.is_line_empty() {
             return Ok(());
         }
-        let room = if bytes < 16 {
-            self.width.min(32).saturating_add(8)
-        } else {
-            bytes.min(self.width).saturating_add(16)
-        };
-        self.line.reserve_at_start(room)
-    }
-
-    /// Moves the finished lines to the end of `lines`.
-    fn move_lines(&mut self, lines: &mut Vec<Line<T, M>>) -> Result<(), AllocError>
-        ensures lines { OnOk result (lines.new.items ≡ lines.old.items ++ self.old.page.lines) }
-        ensures after { OnOk result (self.new ≡ record self.old { page = record self.old.page { lines = [] } }) }
-    {
-        if self.lines.is_empty() {
-            return Ok(());
-        }
-        lines.reserve(self.lines.len().saturating_add(1))?;
-        lines.append(&mut self.lines)?;
-        Ok(())
-    }
-
-    /// Moves the open line to the end of `lines`, unless it is empty.
-    fn move_line(&mut self, lines: &mut Vec<Line<T, M>>) -> Result<(), AllocError>
-        ensures lines { OnOk result (lines.new.items
-            ≡ (if is_empty self.old.page.line then lines.old.items else lines.old.items ++ self.old.page.line ∷ [])) }
-        ensures after { OnOk result (self.new ≡ record self.old { page = record self.old.page { line = [] } }) }
-    {
-        if !self.line.is_empty() {
-            let line = mem::replace(&mut self.line, Line::new(self.alloc));
-            lines.push(line)?;
-        }
-        Ok(())
+        self.lines.end_line()
     }
 
     /// Resets to an empty paragraph, except for the waiting marks. The lines must be empty already.
@@ -218,12 +176,13 @@ impl<T: Tag, M: Copy> Paragraph<T, M> {
         matches!(self.open_word, OpenWord::Closed)
             && self.word.is_empty()
             && self.pending.is_none()
-            && self.line.is_empty()
+            && self.lines.is_line_empty()
             && !self.continues
-            && self.lines.is_empty()
+            && self.lines.line_count() == 0
     }
 
-    /// Appends the lines of all that was fed to `lines`, and empties the paragraph. Marks that still wait are kept.
+    /// Appends the lines of all that was fed to `lines`, and empties the paragraph. Marks that still wait are kept. Returns
+    /// whether there were lines.
     ///
     /// # Errors
     ///
@@ -232,18 +191,20 @@ impl<T: Tag, M: Copy> Paragraph<T, M> {
     ///
     /// The contents of the paragraph and of `lines` are then unspecified.
     #[tactic(auto, using(crate::proofs::Flushing::flushing))]
-    pub fn flush(&mut self, lines: &mut Vec<Line<T, M>>) -> Result<(), Error>
-        ensures ok { OnOk result (option_map (flushed_to self.old.setting lines.old.items) (finished self.old) ≡ Some (lines.new.items, self.new)) }
+    pub fn flush(&mut self, lines: &mut FinishedLines<T, M>) -> Result<bool, Error>
+        ensures ok { OnOk result (option_map (flushed_to self.old.setting lines.old) (finished self.old) ≡ Some (lines.new, self.new)) }
+        ensures some { IfOk result (λ some. some ≡ not (length lines.new == length lines.old)) }
         ensures err { IfErr result (λ e. Refuses e (finished self.old)) }
     {
         if self.is_blank() {
-            return Ok(());
+            return Ok(false);
         }
         self.end_word()?;
-        self.move_lines(lines)?;
-        self.move_line(lines)?;
+        self.end_open_line()?;
+        let some = self.lines.line_count() > 0;
+        lines.append_buffer(&mut self.lines)?;
         self.restart();
-        Ok(())
+        Ok(some)
     }
 
     /// Removes and returns the waiting marks. Marks in an open word aren't among them.

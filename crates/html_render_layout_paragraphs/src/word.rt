@@ -1,6 +1,6 @@
 //! A word that a paragraph extends by letters, texts and marks. It knows its columns.
 
-ghost use Rattle.std.specs.Prelude.{◌≡◌, [], ◌∷◌, ◌++◌, map, OnOk, OnErr};
+ghost use Rattle.std.specs.Prelude.{◌≡◌, [], ◌∷◌, ◌++◌, map, OnOk};
 ghost use Rattle.std.specs.Bool.{OnTrue};
 ghost use Rattle.std.specs.Str.{chars};
 ghost use Rattle.html_render_layout_lines.specs.Character.{width_of, character_of, tag_on};
@@ -9,8 +9,9 @@ ghost use Rattle.html_render_layout_paragraphs.specs.Stream.{styled};
 ghost use Rattle.html_render_layout_lines.specs.TaggedText.{counted, text_columns, items_of, Cuts, HasTag, elements_of, open_elements};
 ghost use Rattle.html_render_layout_paragraphs.specs.Word.{EndsInCharacter};
 
+use html_render_layout_buffer::buffer::LineBuffer;
 use html_render_layout_lines::character::{Character, Item, TextStyle};
-use html_render_layout_lines::line::{Line, TaggedText, TextParts, counted_on};
+use html_render_layout_lines::line::{TaggedText, TextParts, counted_on};
 use html_render_layout_lines::tag::Tag;
 use std::alloc::{AllocError, Global};
 use std::marker::Model;
@@ -135,21 +136,18 @@ impl<T: Tag, M: Copy> Word<T, M> {
     }
 }
 
-/// Appends a word of `width` columns to a line. `continues` selects the tags for continuation lines. After an error the
-/// line is empty.
+/// Appends a word of `width` columns to the open line of a buffer. `continues` selects the tags for continuation lines.
 #[inline]
-#[tactic(auto, using(crate::proofs::WordColumns::word_pushes))]
 pub(crate) fn push_word<T: Tag, M: Copy>(
-    line: &mut Line<T, M>,
+    lines: &mut LineBuffer<T, M>,
     word: &Word<T, M>,
     width: usize,
     continues: bool,
 ) -> Result<(), AllocError>
     requires { width ≡ word_columns word.now }
-    ensures ok { OnOk result (line.new ≡ line.old ++ map (element_of continues) word.now) }
-    ensures err { OnErr result (line.new ≡ []) }
+    ensures { OnOk result (lines.new ≡ record { lines = lines.old.lines; line = lines.old.line ++ map (element_of continues) word.now }) }
 {
-    line.append_as(&word.text, width, continues)
+    lines.append_word(&word.text, width, continues)
 }
 
 /// Returns the tag of a character. `continues` selects its tag for continuation lines.

@@ -1,8 +1,8 @@
 -- The blank text of a row, and a place in it.
-use Rattle.std.proofs.Common.{◌≡◌, ℕ, Bool, true, cond, ◌+◌, ◌-◌, ◌≤◌, ◌<◌, get_or, List, [], ◌∷◌, ◌++◌, ◌&&◌, take, drop, length, replicate, refl, sym, ap, ◌∙◌, subst, arith, append_assoc, length-append}
+use Rattle.std.proofs.Common.{◌≡◌, ℕ, Bool, true, cond, ◌+◌, ◌-◌, ◌≤◌, List, [], ◌∷◌, ◌++◌, ◌&&◌, take, drop, length, replicate, refl, sym, ap, ◌∙◌, subst, arith, append_assoc, length-append}
 use Rattle.std.proofs.Math.Utf8.{encodes, encode, scalars, scalar}
 use Rattle.std.proofs.lemmas.Bool.{and_parts}
-use Rattle.std.proofs.lemmas.List.{at_drop_more, take_at, drop_at, take-append-drop, length-take-le, length-replicate, map-append, replicate-append-replicate}
+use Rattle.std.proofs.lemmas.List.{take_at, drop_at, take-append-drop, length-take-le, map-append, replicate-append-replicate}
 use Rattle.std.proofs.lemmas.Str.{chars-nil, chars-encodes, chars-append, encodes-chars, encodes-append, scalars-chars, IsUtf8-nil, IsUtf8-append, length-encode, len_utf8_bounds, IsUtf8-string_bytes}
 use Rattle.std.proofs.lemmas.List.Sums.{sum_by-append}
 use Rattle.std.specs.Str.{chars, IsUtf8}
@@ -12,11 +12,10 @@ use Rattle.html_render_layout_lines.specs.Character.{width_of}
 use Rattle.html_render_layout_lines.specs.declared.line.Element.TheVariants.{Character}
 use Rattle.html_render_layout_lines.specs.Line.{Line}
 use Rattle.html_render_layout_lines.specs.TaggedText.{text_columns, under}
-use Rattle.html_render_layout_pictures.specs.Padding.{repeated}
+use Rattle.html_render_layout_buffer.specs.Padding.{repeated}
 use Rattle.html_render_layout_pictures.specs.declared.borders.TheConstants.{BORDERS}
 use Rattle.std.specs.Char.{len_utf8}
-use Rattle.html_render_layout_pictures.specs.Blank.{BlankText, IsPlace, blank_at, blank_cell, blank_cells}
-use Rattle.html_render_layout_pictures.specs.Picture.{KeptCell}
+use Rattle.html_render_layout_pictures.specs.Blank.{BlankText, IsPlace, blank_at}
 use Rattle.html_render_layout_pictures.specs.laws.Fillers.{encodes-length, fillers_width, under-replicate}
 use Rattle.html_render_layout_pictures.specs.laws.Glyphs.{separator_width}
 use Rattle.html_render_layout_pictures.specs.declared.gaps.Filler.TheVariants.{Space}
@@ -183,14 +182,6 @@ start-of text = ap (λ d. make d (chars text)) chars-nil
 -- ---- on a line
 
 module _ {T M : Type 0} (tag : T) where
-  -- a line of a cell, and spaces that are due behind it
-  pub own_put : (start own : Line T M) (count : ℕ) (due : List ℕ) → due ≡ replicate count 0x20 →
-      (start ++ own) ++ under tag due ≡ start ++ (own ++ repeated tag 0x20 count)
-  own_put start own count due is =
-      ap (λ l. (start ++ own) ++ under {M = M} tag l) is
-      ∙ ap (λ l. (start ++ own) ++ l) (under-replicate M tag 0x20 count)
-      ∙ append_assoc start own (repeated tag 0x20 count)
-
   -- spaces are due behind what is due
   pub spaces_due : (line : Line T M) (due : List ℕ) (width : ℕ) →
       line ++ under tag (due ++ replicate width 0x20) ≡ (line ++ under tag due) ++ repeated tag 0x20 width
@@ -198,24 +189,3 @@ module _ {T M : Type 0} (tag : T) where
       ap (λ l. line ++ l) (map-append (λ c. Character c tag) due (replicate width 0x20))
       ∙ sym (append_assoc line (under tag due) (under tag (replicate width 0x20)))
       ∙ ap (λ l. (line ++ under {M = M} tag due) ++ l) (under-replicate M tag 0x20 width)
-
--- ---- the blank text of cells
-
--- a cell stands before what is left behind it
-cell_next : (after rest : List ℕ) (c width : ℕ) → after ≡ (c ∷ replicate width 0x20) ++ rest →
-    (after ≡ c ∷ (replicate width 0x20 ++ drop (width + 1) after)) × (drop (width + 1) after ≡ rest)
-cell_next after rest c width is =
-    let cell : List ℕ = c ∷ replicate width 0x20 in
-    let long : length cell ≡ width + 1 = omega (arith, length-replicate {A = ℕ} width 0x20) in
-    let left : drop (width + 1) after ≡ rest = ap (drop (width + 1)) is ∙ drop_at cell rest (width + 1) long in
-    (is ∙ ap (λ l. cell ++ l) (sym left), left)
-
--- the next of these cells stands before those that are left behind it
-pub next_cell : {T M : Type 0} (borders : Bool) (cells : List (KeptCell T M)) (i : ℕ) (cell : KeptCell T M) (after : List ℕ) → i < length cells →
-    cell ≡ get_or cells i cell → after ≡ blank_cells borders (drop i cells) →
-    (after ≡ cond borders BORDERS.separator 0x20 ∷ (replicate cell.width 0x20 ++ drop (cell.width + 1) after))
-    × (drop (cell.width + 1) after ≡ blank_cells borders (drop (i + 1) cells))
-next_cell {T} {M} borders cells i cell after h e is =
-    cell_next after (blank_cells borders (drop (i + 1) cells)) (cond borders BORDERS.separator 0x20) cell.width
-    (is ∙ at_drop_more (blank_cells borders) cells i cell h
-    ∙ ap (λ (d : KeptCell T M). blank_cell borders d.width ++ blank_cells borders (drop (i + 1) cells)) (sym e))

@@ -1,7 +1,6 @@
 pub mod Blanks
-pub mod Ends
+pub mod CellLines
 pub mod LawSets
 pub mod OnlyCell
 pub mod RowLines
 pub mod Separators
-pub mod Stretches

@@ -1,9 +1,9 @@
 -- A row of one cell.
-use Rattle.std.proofs.Common.{◌≡◌, ℕ, ◌-◌, ◌<◌, max, List, [], ◌∷◌, ◌++◌, Some, length, replicate, ap, ◌∙◌, arith, append-nil, length-append}
+use Rattle.std.proofs.Common.{◌≡◌, ℕ, ◌-◌, ◌<◌, max, List, [], ◌∷◌, ◌++◌, Some, length, replicate, get_or, sym, ap, ◌∙◌, arith, append-nil}
 use Rattle.std.proofs.lemmas.List.{nil_from_length}
 use Rattle.html_render_layout_lines.specs.Line.{Line}
-use Rattle.html_render_layout_pictures.specs.Marked.{marked_behind}
-use Rattle.html_render_layout_pictures.specs.Padding.{filled}
+use Rattle.html_render_layout_buffer.specs.Marked.{marked_behind}
+use Rattle.html_render_layout_buffer.specs.Padding.{filled}
 use Rattle.html_render_layout_pictures.specs.declared.picture.Frame.{Frame}
 use Rattle.html_render_layout_pictures.specs.Picture.{KeptCell, row_lines}
 
@@ -24,8 +24,8 @@ module _ {T M : Type 0} (frame : Frame T) where
   only_blank_cell c none =
       ap (λ ls. row_lines frame (record { width = c.width; lines = ls; marks = c.marks } ∷ [])) (nil_from_length c.lines none)
 
--- the last of one is the only one
-pub one_cell : {X : Type 0} (xs ys : List X) (x : X) → xs ≡ ys ++ x ∷ [] → length xs ≡ 1 → xs ≡ x ∷ []
-one_cell xs ys x e h = e ∙ ap (λ l. l ++ x ∷ []) (nil_from_length ys (omega (arith, h, ap length e, length-append ys (x ∷ []))))
-
-pub ruleset only_cells = (only_cell, only_blank_cell, nil_from_length)
+-- the first of one is the only one
+pub one_cell : {X : Type 0} (xs : List X) (x : X) → length xs ≡ 1 → x ≡ get_or xs 0 x → xs ≡ x ∷ []
+one_cell [] x h e = absurd (omega (arith, h))
+one_cell (y ∷ []) x h e = ap (λ z. z ∷ []) (sym e)
+one_cell (y ∷ z ∷ xs) x h e = absurd (omega (arith, h))

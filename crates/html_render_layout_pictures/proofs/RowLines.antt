@@ -1,26 +1,17 @@
 -- The lines of a row, one by one.
-use Rattle.std.proofs.Common.{◌≡◌, ◌==◌, false, ℕ, zero, suc, ◌+◌, ◌-◌, ◌<◌, max, List, [], ◌∷◌, ◌++◌, All, length, map, fold, replicate, take, get_or, Some, refl, sym, ap, ◌∙◌, arith, append_assoc, append-nil}
-use Rattle.std.specs.List.{range_with_len, flat_map}
-use Rattle.std.proofs.lemmas.List.{length-append, length-replicate, take_more}
-use Rattle.std.proofs.lemmas.List.Concat.{flat_map-append}
-use Rattle.std.proofs.lemmas.List.FromFn.{fill_by_all}
+use Rattle.std.proofs.Common.{◌≡◌, ◌==◌, false, ℕ, zero, suc, ◌-◌, ◌<◌, List, [], ◌∷◌, ◌++◌, All, length, map, fold, replicate, get_or, Some, refl, sym, ap, ◌∙◌, arith, append_assoc, append-nil}
+use Rattle.std.specs.List.{range_with_len}
+use Rattle.std.proofs.lemmas.List.{length-append, length-replicate}
+use Rattle.std.proofs.lemmas.List.FromFn.{fill_by_all, length-map-range_with_len}
+use Rattle.std.proofs.lemmas.Bool.{ne_eqb}
 use Rattle.std.proofs.lemmas.List.Elements.{All-head, All-tail}
 use Rattle.html_render_layout_lines.specs.Line.{Line}
-use Rattle.html_render_layout_pictures.specs.Marked.{marked_behind}
-use Rattle.html_render_layout_pictures.specs.Padding.{filled}
-use Rattle.html_render_layout_pictures.specs.laws.Padding.{filled_line}
+use Rattle.html_render_layout_buffer.specs.Marked.{marked_behind}
+use Rattle.html_render_layout_buffer.specs.Padding.{filled, filled_line}
 use Rattle.html_render_layout_pictures.specs.declared.picture.Frame.{Frame}
 use Rattle.html_render_layout_pictures.specs.Picture.{KeptCell, separator, beside, cell_lines, height, row_lines}
-use Rattle.html_render_layout_pictures.specs.Rows.{marked_cell, filled_at, row_line}
-use Rattle.html_render_layout_pictures.specs.laws.Heights.{IsNoHigher, row_highest, marked_behind-length}
-
--- one more of the lists that are put one behind the other
-pub taken : {X Y : Type 0} (f : X → List Y) (xs : List X) (i : ℕ) (x : X) → i < length xs → x ≡ get_or xs i x →
-    flat_map f (take (i + 1) xs) ≡ flat_map f (take i xs) ++ f x
-taken f xs i x h e =
-    ap (flat_map f) (take_more xs i x h)
-    ∙ flat_map-append f (take i xs) (get_or xs i x ∷ [])
-    ∙ ap (λ ys. flat_map f (take i xs) ++ ys) (append-nil (f (get_or xs i x)) ∙ ap f (sym e))
+use Rattle.html_render_layout_pictures.specs.Rows.{marked_cell, filled_at, row_line, cells_behind}
+use Rattle.html_render_layout_pictures.specs.laws.Heights.{IsNoHigher, row_highest, row_some, marked_behind-length}
 
 -- ---- a cell's lines by their numbers
 
@@ -61,7 +52,7 @@ module _ {T M : Type 0} (frame : Frame T) where
 
   -- what stands on a line behind the first cell
   abbrev behind : List (KeptCell T M) → ℕ → Line T M
-  behind cs n = flat_map (λ (d : KeptCell T M). separator frame ∷ filled_at frame.tag n d) (map marked_cell cs)
+  behind cs n = cells_behind frame n cs
 
   with_none : (f : ℕ → Line T M) (ns : List ℕ) → map f ns ≡ map (λ n. f n ++ []) ns
   with_none f [] = refl
@@ -85,21 +76,20 @@ module _ {T M : Type 0} (frame : Frame T) where
       ∙ all_beside h (λ n. f n ++ separator frame ∷ own c n) cs (All-tail (IsNoHigher h) c cs no_higher)
       ∙ with_next f c cs (range_with_len 0 h)
 
-  -- marks make a row no higher
-  marked_highest : (n : ℕ) (cs : List (KeptCell T M)) →
-      fold (λ h (c : KeptCell T M). max h (length c.lines)) n (map marked_cell cs) ≡ fold (λ h (c : KeptCell T M). max h (length c.lines)) n cs
-  marked_highest n [] = refl
-  marked_highest n (c ∷ cs) =
-      ap (λ k. fold (λ h (d : KeptCell T M). max h (length d.lines)) (max n k) (map marked_cell cs)) (marked_behind-length c.marks c.lines)
-      ∙ marked_highest (max n (length c.lines)) cs
-
   -- the lines of a row, one by one
   pub row_lines_by_number : (cs : List (KeptCell T M)) → (length cs == 0) ≡ false →
-      map (λ n. row_line frame n (map marked_cell cs)) (range_with_len 0 (height (map marked_cell cs))) ≡ row_lines frame cs
+      map (λ n. row_line frame n (map marked_cell cs)) (range_with_len 0 (height cs)) ≡ row_lines frame cs
   row_lines_by_number [] some = cc
   row_lines_by_number (c ∷ cs) some =
       let h = height (c ∷ cs) in
       let no_higher = row_highest (c ∷ cs) in
-      ap (λ n. map (λ n. row_line frame n (map marked_cell (c ∷ cs))) (range_with_len 0 n)) (marked_highest 1 (c ∷ cs))
-      ∙ sym (all_beside h (own c) cs (All-tail (IsNoHigher h) c cs no_higher))
+      sym (all_beside h (own c) cs (All-tail (IsNoHigher h) c cs no_higher))
       ∙ ap (λ ls. fold (beside frame) ls (map (cell_lines frame h) cs)) (sym (cell_by_number h c (All-head (IsNoHigher h) c cs no_higher)))
+
+  -- a row has a line
+  pub some_row_lines : (cs : List (KeptCell T M)) → 0 < length cs → 0 < length (row_lines frame cs)
+  some_row_lines cs h =
+      let line : ℕ → Line T M = λ n. row_line frame n (map marked_cell cs) in
+      let some : (length cs == 0) ≡ false = ne_eqb (length cs) 0 (λ e. absurd (omega (arith, e, h))) in
+      let same = ap (λ (ls : List (Line T M)). length ls) (row_lines_by_number cs some) in
+      omega (arith, same, length-map-range_with_len line 0 (height cs), row_some cs)

@@ -7,7 +7,7 @@ use Rattle.html_render_layout_pictures.specs.declared.borders.TheConstants.{BORD
 use Rattle.html_render_layout_lines.specs.declared.line.Element.{Element}
 use Rattle.html_render_layout_lines.specs.declared.line.Element.TheVariants.{Character}
 use Rattle.html_render_layout_pictures.specs.declared.picture.Frame.{Frame}
-use Rattle.html_render_layout_pictures.specs.Padding.{repeated}
+use Rattle.html_render_layout_buffer.specs.Padding.{repeated}
 use Rattle.html_render_layout_pictures.specs.Picture.{KeptCell, separators_of, joint}
 use Rattle.html_render_layout_pictures.specs.Separators.{separators_from, separators_between, blank_before, joint_at}
 

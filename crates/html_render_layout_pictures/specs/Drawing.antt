@@ -1,7 +1,7 @@
 -- The picture row by row: a border waits for the row below it.
 use Rattle.std.specs.Prelude.{◌++◌, Bool, false, List, [], ◌∷◌, Option, Some, None, fold, replicate, if◌then◌else◌}
 use Rattle.html_render_layout_lines.specs.Line.{Line}
-use Rattle.html_render_layout_pictures.specs.Marked.{marked_before}
+use Rattle.html_render_layout_buffer.specs.Marked.{marked_before}
 use Rattle.html_render_layout_pictures.specs.declared.picture.Frame.{Frame}
 use Rattle.html_render_layout_pictures.specs.Picture.{KeptCell, TableRow, is_drawn, waiting_in, separators_of, border, row_lines, has_top}
 

@@ -1,16 +1,14 @@
 -- characters that draw tables
 pub mod Glyphs
--- marks at the ends of lines, and lines that are filled
-pub mod Marked
-pub mod Padding
--- lines of at least a given width
-pub mod Stretch
+-- characters that stand many times in a row
+pub mod Fillers
 -- THE DEFINITION of a picture
 pub mod Picture
 -- where the separators of a row stand
 pub mod Separators
--- a row line by line
+-- a row line by line, and its cells, whose lines stand one after another
 pub mod Rows
+pub mod RowCells
 -- what stands on a row's line where no cell has one
 pub mod Blank
 -- the picture row by row

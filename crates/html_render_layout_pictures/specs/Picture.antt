@@ -6,8 +6,8 @@ use Rattle.html_render_layout_pictures.specs.declared.borders.TheConstants.{BORD
 use Rattle.html_render_layout_lines.specs.declared.line.Element.{Element}
 use Rattle.html_render_layout_lines.specs.declared.line.Element.TheVariants.{Character}
 use Rattle.html_render_layout_lines.specs.Line.{Line, is_empty}
-use Rattle.html_render_layout_pictures.specs.Marked.{marked_before, marked_behind}
-use Rattle.html_render_layout_pictures.specs.Padding.{filled}
+use Rattle.html_render_layout_buffer.specs.Marked.{marked_before, marked_behind}
+use Rattle.html_render_layout_buffer.specs.Padding.{filled}
 use Rattle.html_render_layout_pictures.specs.declared.picture.Frame.{Frame}
 
 -- a cell that is kept: its columns, its lines, and the marks that wait behind them

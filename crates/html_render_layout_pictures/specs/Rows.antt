@@ -1,8 +1,9 @@
 -- A row line by line.
-use Rattle.std.specs.Prelude.{ℕ, ◌-◌, List, [], ◌∷◌, ◌++◌, get_or, flat_map}
+use Rattle.std.specs.Prelude.{ℕ, ◌-◌, List, [], ◌∷◌, ◌++◌, get_or, flat_map, map}
 use Rattle.html_render_layout_lines.specs.Line.{Line, columns}
-use Rattle.html_render_layout_pictures.specs.Marked.{marked_behind}
-use Rattle.html_render_layout_pictures.specs.Padding.{repeated}
+use Rattle.html_render_layout_buffer.specs.Lines.{BufferedLines}
+use Rattle.html_render_layout_buffer.specs.Marked.{marked_behind}
+use Rattle.html_render_layout_buffer.specs.Padding.{repeated}
 use Rattle.html_render_layout_pictures.specs.declared.picture.Frame.{Frame}
 use Rattle.html_render_layout_pictures.specs.Picture.{KeptCell, separator}
 
@@ -21,3 +22,12 @@ abbrev pub row_line : {T M : Type 0} → Frame T → (number : ℕ) → List (Ke
 row_line frame number [] = []
 row_line {T} {M} frame number (c ∷ cs) =
     filled_at frame.tag number c ++ flat_map (λ (d : KeptCell T M). separator frame ∷ filled_at frame.tag number d) cs
+
+-- what cells have on the row's line of this number after the first one
+abbrev pub cells_behind : {T M : Type 0} → Frame T → (number : ℕ) → List (KeptCell T M) → Line T M
+cells_behind {T} {M} frame number cs = flat_map (λ (d : KeptCell T M). separator frame ∷ filled_at frame.tag number d) (map marked_cell cs)
+
+-- lines after those of a buffer, the first at the end of its open line
+abbrev pub rows_put : {T M : Type 0} → BufferedLines T M → List (Line T M) → BufferedLines T M
+rows_put b [] = b
+rows_put b (l ∷ ls) = record { lines = b.lines ++ (b.line ++ l) ∷ ls; line = [] }

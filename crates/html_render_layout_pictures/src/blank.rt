@@ -6,12 +6,11 @@ ghost use Rattle.std.specs.Char.{len_utf8};
 ghost use Rattle.std.specs.Str.{chars};
 ghost use Rattle.std.specs.String.{string_bytes};
 ghost use Rattle.html_render_layout_pictures.specs.declared.borders.TheConstants.{BORDERS};
-ghost use Rattle.html_render_layout_lines.specs.TaggedText.{under};
-ghost use Rattle.html_render_layout_pictures.specs.Blank.{blank_cell};
+ghost use Rattle.html_render_layout_pictures.specs.Blank.{blank_cell, with_due};
 
 use crate::borders::BORDERS;
 use crate::gaps::{CHUNK, few_spaces, gap};
-use html_render_layout_lines::line::Line;
+use html_render_layout_buffer::buffer::LineBuffer;
 use html_render_layout_lines::tag::Tag;
 use std::alloc::{AllocError, Global};
 use std::marker::Model;
@@ -138,17 +137,17 @@ impl<'a> Blank<'a> {
         self.pass_spaces(due);
     }
 
-    /// Puts what is due at the end of a line.
+    /// Appends what is due to the open line of a buffer.
     #[inline]
     pub(crate) fn put<T: Tag, M: Copy>(
         &mut self,
-        line: &mut Line<T, M>,
+        to: &mut LineBuffer<T, M>,
         tag: T,
     ) -> Result<(), AllocError>
-        ensures line { OnOk result (line.new ≡ line.old ++ under tag self.old.due) }
+        ensures line { OnOk result (to.new ≡ with_due to.old tag self.old.due) }
         ensures left { OnOk result (self.new ≡ record { due = []; after = self.old.after }) }
     {
-        line.push_str(&self.text[..self.due], self.columns, tag)?;
+        to.push_str(&self.text[..self.due], self.columns, tag)?;
         self.let_go();
         Ok(())
     }

@@ -9,9 +9,9 @@ ghost use Rattle.html_render_layout_pictures.specs.Separators.{separators_from, 
 use crate::borders::BORDERS;
 use crate::gaps::{Filler, push_fillers};
 use crate::picture::Frame;
-use html_render_layout_lines::line::Line;
+use html_render_layout_buffer::buffer::LineBuffer;
 use html_render_layout_lines::tag::Tag;
-use std::alloc::{AllocError, Global};
+use std::alloc::AllocError;
 
 /// How many columns a row has whose cells have these columns, where a machine word holds that.
 fn column_count(widths: &[usize]) -> Option<usize>
@@ -95,30 +95,31 @@ fn joint(above: bool, below: bool) -> char
 }
 
 impl<T: Tag> Frame<T> {
-    /// Draws what a border has where a separator stands above or below.
+    /// Appends what a border has where a separator stands above or below.
     #[tactic(auto, using(crate::specs::laws::Glyphs::joint_width))]
     fn draw_joint<M: Copy>(
         &self,
-        line: &mut Line<T, M>,
+        to: &mut LineBuffer<T, M>,
         above: bool,
         below: bool,
     ) -> Result<(), AllocError>
-        ensures { OnOk result (line.new ≡ line.old ++ Character (definition.joint above below) self.now.tag ∷ []) }
+        ensures { OnOk result (to.new ≡ record { lines = to.old.lines; line = to.old.line ++ Character (definition.joint above below) self.now.tag ∷ [] }) }
     {
-        line.push_char(joint(above, below), 1, self.tag)
+        to.push_char(joint(above, below), 1, self.tag)
     }
 
     /// Draws a border up to the next separator above or below and past it, but no more than so many columns, and answers how
     /// many.
     fn draw_piece<M: Copy>(
         &self,
-        line: &mut Line<T, M>,
+        to: &mut LineBuffer<T, M>,
         above: &mut Columns<'_>,
         below: &mut Columns<'_>,
         most: usize,
     ) -> Result<usize, AllocError>
         requires { 0 < most }
-        ensures drawn { IfOk result (λ n. line.new ≡ line.old ++ map (joint_at M self.now (separators_from above.old.blank above.old.others.now)
+        ensures lines { OnOk result (to.new.lines ≡ to.old.lines) }
+        ensures drawn { IfOk result (λ n. to.new.line ≡ to.old.line ++ map (joint_at M self.now (separators_from above.old.blank above.old.others.now)
             (separators_from below.old.blank below.old.others.now)) (range_with_len 0 n)) }
         ensures some { IfOk result (λ n. 0 < n) }
         ensures within { IfOk result (λ n. n ≤ most) }
@@ -128,50 +129,53 @@ impl<T: Tag> Frame<T> {
             ≡ get_or (separators_from below.old.blank below.old.others.now) (n + j) false) }
     {
         let dashes = above.blank().min(below.blank()).min(most);
-        push_fillers(line, Filler::Dash, dashes, self.tag)?;
+        push_fillers(to, Filler::Dash, dashes, self.tag)?;
         if dashes == most {
             return Ok(most);
         }
         let (up, down) = (above.pass(dashes), below.pass(dashes));
-        self.draw_joint(line, up, down)?;
+        self.draw_joint(to, up, down)?;
         Ok(dashes + 1)
     }
 
     /// Draws a border of so many columns.
     fn draw_border<M: Copy>(
         &self,
-        line: &mut Line<T, M>,
+        to: &mut LineBuffer<T, M>,
         above: &mut Columns<'_>,
         below: &mut Columns<'_>,
         width: usize,
     ) -> Result<(), AllocError>
-        ensures { OnOk result (line.new ≡ line.old ++ map (joint_at M self.now (separators_from above.old.blank above.old.others.now)
+        ensures lines { OnOk result (to.new.lines ≡ to.old.lines) }
+        ensures drawn { OnOk result (to.new.line ≡ to.old.line ++ map (joint_at M self.now (separators_from above.old.blank above.old.others.now)
             (separators_from below.old.blank below.old.others.now)) (range_with_len 0 width)) }
     {
         let mut drawn = 0;
         while drawn < width {
-            let piece = self.draw_piece(line, above, below, width - drawn)?;
+            let piece = self.draw_piece(to, above, below, width - drawn)?;
             drawn += piece;
         }
         Ok(())
     }
 
-    /// A border between rows whose cells have these columns.
-    pub(crate) fn border<M: Copy>(
+    /// Appends a border between rows whose cells have these columns.
+    pub(crate) fn put_border<M: Copy>(
         &self,
-        alloc: Global,
+        to: &mut LineBuffer<T, M>,
         above: &[usize],
         below: &[usize],
-    ) -> Result<Line<T, M>, AllocError>
-        ensures { IfOk result (λ l. l ≡ definition.border self.now (separators_between above.now) (separators_between below.now)) }
+    ) -> Result<(), AllocError>
+        ensures { OnOk result (to.new ≡ record {
+          lines = to.old.lines;
+          line = to.old.line ++ definition.border self.now (separators_between above.now) (separators_between below.now);
+        }) }
     {
         let (Some(up), Some(down)) = (column_count(above), column_count(below)) else {
             return Err(AllocError);
         };
         let width = up.max(down);
-        let mut line = Line::with_capacity(alloc, width.saturating_mul(BORDERS.line.len_utf8()))?;
+        to.reserve(width.saturating_mul(BORDERS.line.len_utf8()), 1)?;
         let (mut above, mut below) = (Columns::new(above), Columns::new(below));
-        self.draw_border(&mut line, &mut above, &mut below, width)?;
-        Ok(line)
+        self.draw_border(to, &mut above, &mut below, width)
     }
 }

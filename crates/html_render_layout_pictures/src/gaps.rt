@@ -3,11 +3,12 @@
 
 ghost use Rattle.std.specs.Prelude.{◌≡◌, ◌≤◌, ◌<◌, ◌++◌, ◌∷◌, [], cond, OnOk, replicate};
 ghost use Rattle.std.specs.Str.{chars, encode_utf8_all};
-ghost use Rattle.html_render_layout_pictures.specs.Padding.{character_of, repeated};
+ghost use Rattle.html_render_layout_buffer.specs.Padding.{repeated};
+ghost use Rattle.html_render_layout_pictures.specs.Fillers.{character_of};
 
 pub use crate::borders::CHUNK;
 use crate::borders::{BORDERS, LINES, SLASHES};
-use html_render_layout_lines::line::Line;
+use html_render_layout_buffer::buffer::LineBuffer;
 use html_render_layout_lines::tag::Tag;
 use std::alloc::AllocError;
 
@@ -79,24 +80,24 @@ fn few(filler: Filler, count: usize) -> &'static str
     }
 }
 
-/// Puts a character `count` times at the end of a line, under a tag.
+/// Appends a character `count` times to the open line of a buffer, under a tag.
 ///
 /// # Errors
 ///
-/// Memory ran out. Some of them then stand on the line.
+/// `AllocError`. The buffer then has no lines.
 #[tactic(auto, using(crate::specs::laws::Fillers::fillers_width, crate::specs::laws::Fillers::fillers_parted))]
 pub fn push_fillers<T: Tag, M: Copy>(
-    line: &mut Line<T, M>,
+    to: &mut LineBuffer<T, M>,
     filler: Filler,
     count: usize,
     tag: T,
 ) -> Result<(), AllocError>
-    ensures { OnOk result (line.new ≡ line.old ++ repeated tag (character_of filler) count) }
+    ensures { OnOk result (to.new ≡ record { lines = to.old.lines; line = to.old.line ++ repeated tag (character_of filler) count }) }
 {
     let mut left = count;
     while left > 0 {
         let next = left.min(CHUNK);
-        line.push_str(few(filler, next), next, tag)?;
+        to.push_str(few(filler, next), next, tag)?;
         left -= next;
     }
     Ok(())

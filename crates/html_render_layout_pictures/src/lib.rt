@@ -4,9 +4,8 @@
 mod blank;
 mod border;
 pub mod borders;
+pub mod cells;
 pub mod gaps;
 mod laws;
-pub mod line_ends;
-pub mod lines;
 pub mod picture;
 mod row;

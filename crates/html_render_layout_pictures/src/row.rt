@@ -3,333 +3,287 @@
 //! In a high row most cells have no line of a given number. So its lines are written over its blank text: all that stands
 //! between two cells that have one is put at once.
 
-ghost use Rattle.std.specs.Prelude.{◌≡◌, ◌+◌, ◌-◌, ◌++◌, ◌∷◌, [], map, drop, replicate, OnOk, IfOk};
-ghost use Rattle.std.specs.List.{range_with_len, flat_map};
+ghost use Rattle.std.specs.Prelude.{◌≡◌, ◌+◌, ◌≤◌, ◌<◌, ◌^◌, ◌++◌, ◌∷◌, [], length, map, drop, replicate, OnOk, IfOk};
+ghost use Rattle.std.specs.List.{range_with_len};
 ghost use Rattle.std.specs.Str.{chars};
 ghost use Rattle.std.specs.String.{string_bytes};
-ghost use Rattle.html_render_layout_lines.specs.Line.{columns};
 ghost use Rattle.html_render_layout_lines.specs.TaggedText.{under};
-ghost use Rattle.html_render_layout_pictures.specs.Blank.{blank_cell, blank_cells};
+ghost use Rattle.html_render_layout_buffer.specs.Lines.{with_spaces};
+ghost use Rattle.html_render_layout_buffer.specs.Padding.{repeated};
+ghost use Rattle.html_render_layout_pictures.specs.Blank.{blank_cells, with_due};
 ghost use Rattle.html_render_layout_pictures.specs.Picture as definition;
-ghost use Rattle.html_render_layout_pictures.specs.Rows.{filled_at, marked_cell, row_line};
-ghost use Rattle.html_render_layout_pictures.specs.Padding.{repeated};
+ghost use Rattle.html_render_layout_pictures.specs.RowCells.{cell_at, cells_of, line_total, counted_height};
+ghost use Rattle.html_render_layout_pictures.specs.Rows.{filled_at, marked_cell, row_line, cells_behind, rows_put};
 
 use crate::blank::{Blank, add_blank_cell, first_blank_cell};
+use crate::cells::{RowCell, RowCells};
 use crate::gaps::{CHUNK, Filler, gap, push_fillers};
-use crate::line_ends::{mark_behind, missing};
-use crate::picture::{Cell, Frame};
-use html_render_layout_lines::line::Line;
+use crate::picture::Frame;
+use html_render_layout_buffer::buffer::{LineBuffer, columns_missing};
 use html_render_layout_lines::tag::Tag;
 use std::alloc::{AllocError, Global};
-use std::marker::Model;
-
-/// A cell of a row: its columns, and its lines with the marks that wait behind them.
-#[derive(Drop)]
-pub(crate) struct RowCell<T, M> {
-    width: usize,
-    lines: Vec<Line<T, M>>,
-}
-
-impl<T, M> Model for RowCell<T, M> {
-    ghost use Rattle.std.specs.Prelude.{[]};
-    ghost use Rattle.html_render_layout_pictures.specs.Picture.{KeptCell};
-
-    ghost Value = { KeptCell T M };
-
-    ghost view = { λ c. record { width = c.width; lines = c.lines.items; marks = [] } };
-}
-
-impl<T: Tag, M: Copy> RowCell<T, M> {
-    /// A cell, with its marks at the end of its last line.
-    fn new(cell: Cell<T, M>) -> Result<RowCell<T, M>, AllocError>
-        ensures { IfOk result (λ c. c ≡ marked_cell cell) }
-    {
-        let Cell {
-            width,
-            lines,
-            marks,
-        } = cell;
-        let mut lines = lines.into_vec()?;
-        mark_behind(&mut lines, marks.as_slice())?;
-        Ok(RowCell { width, lines })
-    }
-}
-
-/// The cells of a row, each with its marks at the end of its last line.
-pub(crate) fn row_cells<T: Tag, M: Copy>(
-    alloc: Global,
-    cells: Vec<Cell<T, M>>,
-) -> Result<Vec<RowCell<T, M>>, AllocError>
-    ensures { IfOk result (λ v. v.items ≡ map marked_cell cells.items) }
-{
-    let mut row = Vec::with_capacity(alloc, cells.len())?;
-    for cell in cells {
-        row.push(RowCell::new(cell)?)?;
-    }
-    Ok(row)
-}
-
-/// Room for so many lines is kept, at most, for those of another cell.
-const KEPT: usize = 4;
-
-/// Keeps the memory of cells' lines for those of others, where it is small.
-pub(crate) fn keep_memory<T: Tag, M: Copy>(
-    cells: Vec<RowCell<T, M>>,
-    spare: &mut Vec<Vec<Line<T, M>>>,
-) -> Result<(), AllocError> {
-    for cell in cells {
-        let mut lines = cell.lines;
-        if lines.capacity() <= KEPT {
-            lines.clear();
-            spare.push(lines)?;
-        }
-    }
-    Ok(())
-}
 
 /// The lines of a row that is no higher than this are written cell by cell.
 const LOW: usize = 8;
 
-/// A row is as high as its highest cell, and at least 1.
-fn height<T: Tag, M: Copy>(cells: &[RowCell<T, M>]) -> usize
-    ensures { result ≡ definition.height cells.now }
+/// A line of a row.
+#[derive(Drop)]
+struct RowLine<'a, T, M> {
+    /// Lines of all cells.
+    lines: &'a LineBuffer<T, M>,
+    /// Number of the line, from 0.
+    number: usize,
+    ghost few: { length lines.now.lines < 2 ^ 64 },
+}
+
+impl<'a, T: Tag, M: Copy> RowLine<'a, T, M> {
+    /// Returns the line of a number.
+    #[inline]
+    fn new(lines: &'a LineBuffer<T, M>, number: usize) -> RowLine<'a, T, M>
+        ensures lines { result.lines.now ≡ lines.now }
+        ensures number { result.number ≡ number }
+    {
+        // the proof reads here that a machine word holds the number of lines
+        let _count = lines.line_count();
+        RowLine { lines, number }
+    }
+}
+
+/// Returns the number of lines of a row: that of its highest cell, and at least 1.
+fn height<M: Copy>(cells: &[RowCell<M>]) -> usize
+    ensures { result ≡ counted_height cells.now }
 {
     let mut height = 1;
     for cell in cells {
-        height = height.max(cell.lines.len());
+        height = height.max(cell.count);
     }
     height
 }
 
 impl<T: Tag> Frame<T> {
-    /// Puts what stands between a cell and the next one, where many spaces are missing behind its line.
+    /// Appends what stands between a cell and the next one, where many spaces are missing after its line.
     #[tactic(auto, using(crate::proofs::LawSets::gaps_put))]
-    fn put_wide_gap<M: Copy>(&self, line: &mut Line<T, M>, missing: usize) -> Result<(), AllocError>
-        ensures { OnOk result (line.new ≡ (line.old ++ repeated self.now.tag 0x20 missing) ++ definition.separator self.now ∷ []) }
+    fn put_wide_gap<M: Copy>(
+        &self,
+        to: &mut LineBuffer<T, M>,
+        missing: usize,
+    ) -> Result<(), AllocError>
+        ensures { OnOk result (to.new ≡ record { lines = to.old.lines; line = (to.old.line ++ repeated self.now.tag 0x20 missing) ++ definition.separator self.now ∷ [] }) }
     {
         let few = missing.min(CHUNK - 1);
-        push_fillers(line, Filler::Space, missing - few, self.tag)?;
-        line.push_str(gap(self.borders, few), few + 1, self.tag)
+        push_fillers(to, Filler::Space, missing - few, self.tag)?;
+        to.push_str(gap(self.borders, few), few + 1, self.tag)
     }
 
-    /// Puts what stands between a cell and the next one: the spaces that are missing behind its line, and a separator.
+    /// Appends what stands between a cell and the next one: the spaces that are missing after its line, and a separator.
     #[tactic(auto, using(crate::proofs::LawSets::gaps_put))]
-    fn put_gap<M: Copy>(&self, line: &mut Line<T, M>, missing: usize) -> Result<(), AllocError>
-        ensures { OnOk result (line.new ≡ (line.old ++ repeated self.now.tag 0x20 missing) ++ definition.separator self.now ∷ []) }
+    fn put_gap<M: Copy>(&self, to: &mut LineBuffer<T, M>, missing: usize) -> Result<(), AllocError>
+        ensures { OnOk result (to.new ≡ record { lines = to.old.lines; line = (to.old.line ++ repeated self.now.tag 0x20 missing) ++ definition.separator self.now ∷ [] }) }
     {
         if missing >= CHUNK {
-            return self.put_wide_gap(line, missing);
+            return self.put_wide_gap(to, missing);
         }
-        line.push_str(gap(self.borders, missing), missing + 1, self.tag)
+        to.push_str(gap(self.borders, missing), missing + 1, self.tag)
     }
 
-    /// Puts a cell's line of this number, if it is as high, and answers how many columns are missing behind that.
-    fn put_line<M: Copy>(
+    /// Appends a cell's own line, if the cell is as high, and after its last one the marks that wait there. Returns how many
+    /// columns are missing then. Line `start` is the cell's first.
+    fn put_cell<M: Copy>(
         &self,
-        line: &mut Line<T, M>,
-        cell: &RowCell<T, M>,
-        number: usize,
+        to: &mut LineBuffer<T, M>,
+        line: &RowLine<'_, T, M>,
+        start: usize,
+        cell: &RowCell<M>,
     ) -> Result<usize, AllocError>
-        ensures { IfOk result (λ missing. line.new ++ repeated self.now.tag 0x20 missing ≡ line.old ++ filled_at self.now.tag number cell.now) }
+        requires { start + cell.now.count ≤ length line.now.lines.now.lines }
+        ensures put { IfOk result (λ missing. with_spaces to.new self.now.tag missing ≡ record {
+          lines = to.old.lines;
+          line = to.old.line ++ filled_at self.now.tag line.now.number (marked_cell (cell_at cell.now (drop start line.now.lines.now.lines)));
+        }) }
+        ensures within { IfOk result (λ missing. missing ≤ cell.now.width) }
     {
-        match cell.lines.get(number) {
-            Some(own) => {
-                line.append(own)?;
-                Ok(missing(own, cell.width))
-            }
-            None => Ok(cell.width),
+        if line.number >= cell.count {
+            return Ok(cell.width);
         }
+        let own = start + line.number;
+        to.append_line(line.lines, own)?;
+        if line.number + 1 == cell.count {
+            to.push_marks(cell.marks.as_slice())?;
+        }
+        Ok(columns_missing(line.lines.line_columns(own), cell.width))
     }
 
-    /// Puts a cell's line of this number beside those of the cells before it, behind which columns are missing, and answers
-    /// how many are missing then.
-    fn put_beside<M: Copy>(
-        &self,
-        line: &mut Line<T, M>,
-        missing: usize,
-        cell: &RowCell<T, M>,
-        number: usize,
-    ) -> Result<usize, AllocError>
-        ensures { IfOk result (λ left. line.new ++ repeated self.now.tag 0x20 left
-            ≡ (line.old ++ repeated self.now.tag 0x20 missing) ++ definition.separator self.now ∷ filled_at self.now.tag number cell.now) }
-    {
-        self.put_gap(line, missing)?;
-        self.put_line(line, cell, number)
-    }
-
-    /// Puts the lines of this number of cells beside those of the cells before them, behind which columns are missing, and
-    /// fills the last.
+    /// Appends cells' own lines after those of the cells before them, after which columns are missing, and fills the last.
     fn put_others<M: Copy>(
         &self,
-        line: &mut Line<T, M>,
+        to: &mut LineBuffer<T, M>,
         missing: usize,
-        others: &[RowCell<T, M>],
-        number: usize,
+        line: &RowLine<'_, T, M>,
+        start: usize,
+        others: &[RowCell<M>],
     ) -> Result<(), AllocError>
-        ensures { OnOk result (line.new ≡ (line.old ++ repeated self.now.tag 0x20 missing)
-            ++ flat_map (λ d. definition.separator self.now ∷ filled_at self.now.tag number d) others.now) }
+        requires { start + line_total others.now ≤ length line.now.lines.now.lines }
+        ensures { OnOk result (to.new ≡ record {
+          lines = to.old.lines;
+          line = (to.old.line ++ repeated self.now.tag 0x20 missing)
+              ++ cells_behind self.now line.now.number (cells_of others.now (drop start line.now.lines.now.lines));
+        }) }
     {
         let mut missing = missing;
+        let mut start = start;
         for cell in others {
-            missing = self.put_beside(line, missing, cell, number)?;
+            self.put_gap(to, missing)?;
+            missing = self.put_cell(to, line, start, cell)?;
+            start += cell.count;
         }
-        push_fillers(line, Filler::Space, missing, self.tag)
+        push_fillers(to, Filler::Space, missing, self.tag)
     }
 
-    /// The line of this number over the first cell of a row and the others, with room for `room` bytes.
-    fn line_over<M: Copy>(
+    /// Appends a line of a row, cell by cell.
+    fn put_line<M: Copy>(
         &self,
-        alloc: Global,
-        first: &RowCell<T, M>,
-        others: &[RowCell<T, M>],
-        number: usize,
-        room: usize,
-    ) -> Result<Line<T, M>, AllocError>
-        ensures { IfOk result (λ l. l ≡ row_line self.now number (first.now ∷ others.now)) }
-    {
-        let mut line = Line::with_capacity(alloc, room)?;
-        let missing = self.put_line(&mut line, first, number)?;
-        self.put_others(&mut line, missing, others, number)?;
-        Ok(line)
-    }
-
-    /// The row's line of this number, with room for `room` bytes.
-    fn row_line<M: Copy>(
-        &self,
-        alloc: Global,
-        cells: &[RowCell<T, M>],
-        number: usize,
-        room: usize,
-    ) -> Result<Line<T, M>, AllocError>
-        ensures { IfOk result (λ l. l ≡ row_line self.now number cells.now) }
-    {
-        if let [first, others @ ..] = cells {
-            return self.line_over(alloc, first, others, number, room);
-        }
-        Ok(Line::new(alloc))
-    }
-
-    /// So many of the row's lines, written cell by cell, each with room for `room` bytes.
-    fn low_lines<M: Copy>(
-        &self,
-        alloc: Global,
-        cells: &[RowCell<T, M>],
-        height: usize,
-        room: usize,
-    ) -> Result<Vec<Line<T, M>>, AllocError>
-        ensures { IfOk result (λ v. v.items ≡ map (λ n. row_line self.now n cells.now) (range_with_len 0 height)) }
-    {
-        let mut lines = Vec::with_capacity(alloc, height)?;
-        for number in 0..height {
-            lines.push(self.row_line(alloc, cells, number, room)?)?;
-        }
-        Ok(lines)
-    }
-
-    /// Puts a line of a cell that begins at this place of the blank text, and what is due before it.
-    #[inline(never)]
-    fn put_own<M: Copy>(
-        &self,
-        line: &mut Line<T, M>,
-        blank: &mut Blank<'_>,
-        own: &Line<T, M>,
-        width: usize,
+        to: &mut LineBuffer<T, M>,
+        line: &RowLine<'_, T, M>,
+        cells: &[RowCell<M>],
     ) -> Result<(), AllocError>
-        requires { blank.old.after ≡ replicate width 0x20 ++ drop width blank.old.after }
-        ensures line { OnOk result (line.new ++ under self.now.tag blank.new.due
-            ≡ (line.old ++ under self.now.tag blank.old.due) ++ (own.now ++ repeated self.now.tag 0x20 (width - columns own.now))) }
-        ensures left { OnOk result (blank.new.after ≡ drop width blank.old.after) }
+        requires { line_total cells.now ≤ length line.now.lines.now.lines }
+        ensures { OnOk result (to.new ≡ record {
+          lines = to.old.lines;
+          line = to.old.line ++ row_line self.now line.now.number (map marked_cell (cells_of cells.now line.now.lines.now.lines));
+        }) }
     {
-        blank.put(line, self.tag)?;
-        line.append(own)?;
-        blank.pass_all_but(width, missing(own, width));
+        let [first, others @ ..] = cells else {
+            return Ok(());
+        };
+        let missing = self.put_cell(to, line, 0, first)?;
+        self.put_others(to, missing, line, first.count, others)
+    }
+
+    /// Appends the first `height` lines of a row, cell by cell.
+    fn put_low_lines<M: Copy>(
+        &self,
+        to: &mut LineBuffer<T, M>,
+        cells: &[RowCell<M>],
+        lines: &LineBuffer<T, M>,
+        height: usize,
+    ) -> Result<(), AllocError>
+        requires { line_total cells.now ≤ length lines.now.lines }
+        ensures { OnOk result (to.new ≡ rows_put to.old
+            (map (λ n. row_line self.now n (map marked_cell (cells_of cells.now lines.now.lines))) (range_with_len 0 height))) }
+    {
+        for number in 0..height {
+            self.put_line(to, &RowLine::new(lines, number), cells)?;
+            to.end_line()?;
+        }
         Ok(())
     }
 
-    /// Puts a cell's line of this number, if it is as high, or passes its blank text, at whose place the cell begins.
+    /// Appends what is due and a cell's own line. The cell begins at this place of the blank text, and is as high.
+    #[inline(never)]
+    fn put_own<M: Copy>(
+        &self,
+        to: &mut LineBuffer<T, M>,
+        blank: &mut Blank<'_>,
+        line: &RowLine<'_, T, M>,
+        start: usize,
+        cell: &RowCell<M>,
+    ) -> Result<(), AllocError>
+        requires cell { blank.old.after ≡ replicate cell.now.width 0x20 ++ drop cell.now.width blank.old.after }
+        requires within { start + cell.now.count ≤ length line.now.lines.now.lines }
+        ensures line { OnOk result (with_due to.new self.now.tag blank.new.due ≡ record {
+          lines = to.old.lines;
+          line = (to.old.line ++ under self.now.tag blank.old.due)
+              ++ filled_at self.now.tag line.now.number (marked_cell (cell_at cell.now (drop start line.now.lines.now.lines)));
+        }) }
+        ensures left { OnOk result (blank.new.after ≡ drop cell.now.width blank.old.after) }
+    {
+        blank.put(to, self.tag)?;
+        let missing = self.put_cell(to, line, start, cell)?;
+        blank.pass_all_but(cell.width, missing);
+        Ok(())
+    }
+
+    /// Appends a cell's own line, if the cell is as high, or passes its blank text, at whose place the cell begins.
     #[inline(always)]
     #[tactic(auto, using(crate::proofs::Blanks::spaces_due))]
     fn put_over<M: Copy>(
         &self,
-        line: &mut Line<T, M>,
+        to: &mut LineBuffer<T, M>,
         blank: &mut Blank<'_>,
-        cell: &RowCell<T, M>,
-        number: usize,
+        line: &RowLine<'_, T, M>,
+        start: usize,
+        cell: &RowCell<M>,
     ) -> Result<(), AllocError>
-        requires { blank.old.after ≡ replicate cell.now.width 0x20 ++ drop cell.now.width blank.old.after }
-        ensures line { OnOk result (line.new ++ under self.now.tag blank.new.due
-            ≡ (line.old ++ under self.now.tag blank.old.due) ++ filled_at self.now.tag number cell.now) }
+        requires cell { blank.old.after ≡ replicate cell.now.width 0x20 ++ drop cell.now.width blank.old.after }
+        requires within { start + cell.now.count ≤ length line.now.lines.now.lines }
+        ensures line { OnOk result (with_due to.new self.now.tag blank.new.due ≡ record {
+          lines = to.old.lines;
+          line = (to.old.line ++ under self.now.tag blank.old.due)
+              ++ filled_at self.now.tag line.now.number (marked_cell (cell_at cell.now (drop start line.now.lines.now.lines)));
+        }) }
         ensures left { OnOk result (blank.new.after ≡ drop cell.now.width blank.old.after) }
     {
-        match cell.lines.get(number) {
-            Some(own) => self.put_own(line, blank, own, cell.width),
-            None => {
-                blank.pass_spaces(cell.width);
-                Ok(())
-            }
+        if line.number < cell.count {
+            return self.put_own(to, blank, line, start, cell);
         }
+        blank.pass_spaces(cell.width);
+        Ok(())
     }
 
-    /// Puts a cell's line of this number, or its blank text, beside those of the cells before it.
-    #[inline(always)]
-    fn put_next<M: Copy>(
-        &self,
-        line: &mut Line<T, M>,
-        blank: &mut Blank<'_>,
-        cell: &RowCell<T, M>,
-        number: usize,
-    ) -> Result<(), AllocError>
-        requires { blank.old.after ≡ blank_cell self.now.borders cell.now.width ++ drop (cell.now.width + 1) blank.old.after }
-        ensures line { OnOk result (line.new ++ under self.now.tag blank.new.due
-            ≡ (line.old ++ under self.now.tag blank.old.due) ++ definition.separator self.now ∷ filled_at self.now.tag number cell.now) }
-        ensures left { OnOk result (blank.new.after ≡ drop (cell.now.width + 1) blank.old.after) }
-    {
-        blank.pass_separator(self.borders);
-        self.put_over(line, blank, cell, number)
-    }
-
-    /// Puts the lines of this number of cells, or their blank text, beside those of the cells before them.
+    /// Appends cells' own lines, or their blank text, after those of the cells before them.
     fn put_all_next<M: Copy>(
         &self,
-        line: &mut Line<T, M>,
+        to: &mut LineBuffer<T, M>,
         blank: &mut Blank<'_>,
-        others: &[RowCell<T, M>],
-        number: usize,
+        line: &RowLine<'_, T, M>,
+        start: usize,
+        others: &[RowCell<M>],
     ) -> Result<(), AllocError>
-        requires { blank.old.after ≡ blank_cells self.now.borders others.now }
-        ensures { OnOk result (line.new ++ under self.now.tag blank.new.due ≡ (line.old ++ under self.now.tag blank.old.due)
-            ++ flat_map (λ d. definition.separator self.now ∷ filled_at self.now.tag number d) others.now) }
+        requires blank { blank.old.after ≡ blank_cells self.now.borders others.now }
+        requires within { start + line_total others.now ≤ length line.now.lines.now.lines }
+        ensures { OnOk result (with_due to.new self.now.tag blank.new.due ≡ record {
+          lines = to.old.lines;
+          line = (to.old.line ++ under self.now.tag blank.old.due)
+              ++ cells_behind self.now line.now.number (cells_of others.now (drop start line.now.lines.now.lines));
+        }) }
     {
+        let mut start = start;
         for cell in others {
-            self.put_next(line, blank, cell, number)?;
+            blank.pass_separator(self.borders);
+            self.put_over(to, blank, line, start, cell)?;
+            start += cell.count;
         }
         Ok(())
     }
 
-    /// Appends the row's line of this number, over the blank text of its first cell and the others.
+    /// Appends a line of a row, over the row's blank text.
     fn put_line_over<M: Copy>(
         &self,
-        line: &mut Line<T, M>,
+        to: &mut LineBuffer<T, M>,
         text: &str,
-        first: &RowCell<T, M>,
-        others: &[RowCell<T, M>],
-        number: usize,
+        line: &RowLine<'_, T, M>,
+        first: &RowCell<M>,
+        others: &[RowCell<M>],
     ) -> Result<(), AllocError>
-        requires { chars text.now ≡ replicate first.now.width 0x20 ++ blank_cells self.now.borders others.now }
-        ensures { OnOk result (line.new ≡ line.old ++ row_line self.now number (first.now ∷ others.now)) }
+        requires text { chars text.now ≡ replicate first.now.width 0x20 ++ blank_cells self.now.borders others.now }
+        requires within { first.now.count + line_total others.now ≤ length line.now.lines.now.lines }
+        ensures { OnOk result (to.new ≡ record {
+          lines = to.old.lines;
+          line = to.old.line ++ row_line self.now line.now.number (map marked_cell (cells_of (first.now ∷ others.now) line.now.lines.now.lines));
+        }) }
     {
         let mut blank = Blank::new(text);
-        self.put_over(line, &mut blank, first, number)?;
-        self.put_all_next(line, &mut blank, others, number)?;
-        blank.put(line, self.tag)
+        self.put_over(to, &mut blank, line, 0, first)?;
+        self.put_all_next(to, &mut blank, line, first.count, others)?;
+        blank.put(to, self.tag)
     }
 
-    /// The blank text of a row's first cell and the others.
+    /// Returns the blank text of a row's first cell and the others.
     fn blank_text<M: Copy>(
         &self,
         alloc: Global,
-        first: &RowCell<T, M>,
-        others: &[RowCell<T, M>],
+        first: &RowCell<M>,
+        others: &[RowCell<M>],
     ) -> Result<String, AllocError>
         ensures { IfOk result (λ t. chars (string_bytes t) ≡ replicate first.now.width 0x20 ++ blank_cells self.now.borders others.now) }
     {
@@ -340,42 +294,65 @@ impl<T: Tag> Frame<T> {
         Ok(text)
     }
 
-    /// So many of the row's lines, over its blank text, each with room for `room` bytes.
-    fn high_lines<M: Copy>(
+    /// Appends the first `height` lines of a row, over its blank text.
+    fn put_high_lines<M: Copy>(
         &self,
-        alloc: Global,
-        first: &RowCell<T, M>,
-        others: &[RowCell<T, M>],
+        to: &mut LineBuffer<T, M>,
+        cells: (&RowCell<M>, &[RowCell<M>]),
+        lines: &LineBuffer<T, M>,
+        text: &str,
         height: usize,
-        room: usize,
-    ) -> Result<Vec<Line<T, M>>, AllocError>
-        ensures { IfOk result (λ v. v.items ≡ map (λ n. row_line self.now n (first.now ∷ others.now)) (range_with_len 0 height)) }
+    ) -> Result<(), AllocError>
+        requires text { chars text.now ≡ replicate cells.0.now.width 0x20 ++ blank_cells self.now.borders cells.1.now }
+        requires within { cells.0.now.count + line_total cells.1.now ≤ length lines.now.lines }
+        ensures { OnOk result (to.new ≡ rows_put to.old
+            (map (λ n. row_line self.now n (map marked_cell (cells_of (cells.entry.0.now ∷ cells.entry.1.now) lines.now.lines))) (range_with_len 0 height))) }
     {
-        let text = self.blank_text(alloc, first, others)?;
-        let mut lines = Vec::with_capacity(alloc, height)?;
+        let (first, others) = cells;
         for number in 0..height {
-            let mut line = Line::with_capacity(alloc, room)?;
-            self.put_line_over(&mut line, text.as_str(), first, others, number)?;
-            lines.push(line)?;
+            self.put_line_over(to, text, &RowLine::new(lines, number), first, others)?;
+            to.end_line()?;
         }
-        Ok(lines)
+        Ok(())
     }
 
-    /// The row's lines, each with room for `room` bytes.
-    pub(crate) fn lines_of_row<M: Copy>(
+    /// Appends the lines of a row.
+    fn put_lines<M: Copy>(
         &self,
         alloc: Global,
-        cells: &[RowCell<T, M>],
-        room: usize,
-    ) -> Result<Vec<Line<T, M>>, AllocError>
-        ensures { IfOk result (λ v. v.items ≡ map (λ n. row_line self.now n cells.now) (range_with_len 0 (definition.height cells.now))) }
+        to: &mut LineBuffer<T, M>,
+        cells: &[RowCell<M>],
+        lines: &LineBuffer<T, M>,
+    ) -> Result<(), AllocError>
+        requires { line_total cells.now ≤ length lines.now.lines }
+        ensures { OnOk result (to.new ≡ rows_put to.old
+            (map (λ n. row_line self.now n (map marked_cell (cells_of cells.now lines.now.lines)))
+            (range_with_len 0 (definition.height (cells_of cells.now lines.now.lines))))) }
     {
         let height = height(cells);
         match cells {
             [first, others @ ..] if height > LOW => {
-                self.high_lines(alloc, first, others, height, room)
+                let text = self.blank_text(alloc, first, others)?;
+                self.put_high_lines(to, (first, others), lines, text.as_str(), height)
             }
-            _ => self.low_lines(alloc, cells, height, room),
+            _ => self.put_low_lines(to, cells, lines, height),
         }
+    }
+
+    /// Appends the lines of a row. Returns a row without cells, in the memory of this one.
+    pub(crate) fn put_row<M: Copy>(
+        &self,
+        alloc: Global,
+        to: &mut LineBuffer<T, M>,
+        row: RowCells<T, M>,
+    ) -> Result<RowCells<T, M>, AllocError>
+        requires { 0 < length row }
+        ensures drawn { OnOk result (to.new ≡ rows_put to.old (definition.row_lines self.now row)) }
+        ensures memory { IfOk result (λ r. r ≡ []) }
+    {
+        let RowCells { cells, lines } = row;
+        let lines = lines.into_buffer()?;
+        self.put_lines(alloc, to, cells.as_slice(), &lines)?;
+        Ok(RowCells::in_memory_of(cells, lines))
     }
 }

@@ -10,4 +10,4 @@ abbrev pub tagged : {A : Type 0} → List (List A) → List (Line ℕ ℕ) → L
 tagged stacks lines = lines_with (stack_at stacks) lines
 
 abbrev pub laid_out : {A : Type 0} → LaidOut A → List (Line (List A) ℕ)
-laid_out l = tagged l.stacks l.lines.items
+laid_out l = tagged l.stacks l.lines

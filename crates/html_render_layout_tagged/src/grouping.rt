@@ -3,26 +3,29 @@
 //! The characters `a` and `b` under equal annotations, followed by a mark or by other annotations, become one string `ab`
 //! with the annotations of `a`.
 
-ghost use Rattle.std.specs.Prelude.{◌≡◌, List, [], ◌∷◌, ◌++◌, None, Some, OnOk, IfOk, map, reverse, string_bytes};
+ghost use Rattle.std.specs.Prelude.{◌≡◌, List, [], ◌∷◌, ◌++◌, None, Some, OnOk, IfOk, map, string_bytes};
 ghost use Rattle.std.proofs.Common.{get_or};
 ghost use Rattle.std.specs.Cmp.Lexicographic.{pointwise};
 ghost use Rattle.std.specs.Str.{chars};
 ghost use Rattle.html_render_dom_values.specs.Outcome.{OnlyOutOfMemory};
 ghost use Rattle.html_render_layout_lines.specs.Line.{columns};
 ghost use Rattle.html_render_layout_lines.specs.Tags.{line_with, lines_with};
-ghost use Rattle.html_render_layout_lines.specs.TaggedText.{under, Cuts, elements_of, open_elements};
+ghost use Rattle.html_render_layout_lines.specs.TaggedText.{under};
+ghost use Rattle.html_render_layout_buffer.specs.Parts.{part_elements};
 ghost use Rattle.html_render_layout_tagged.specs.Stacks.{stack_at};
 ghost use Rattle.html_render_layout_tagged.specs.LaidOut.{laid_out};
 ghost use Rattle.html_render_layout_tagged.specs.Grouping.{in_front, grouped, pieces_of, lines_of, ClonesAreSame};
 ghost use Rattle.html_render_layout_tagged.specs.TaggedLine.{line_columns};
-ghost use Rattle.html_render_layout_tagged.specs.Progress.{closed, last_in_front, pieces_with, Takes};
+ghost use Rattle.html_render_layout_tagged.specs.Progress.{closed, pieces_with, Takes};
 
 use crate::laid_out::LaidOut;
 use crate::line::{TaggedLine, TaggedLineElement, TaggedString};
 use crate::stacks::Stacks;
 use html_render_dom_values::Error;
 use html_render_dom_values::text::Text;
-use html_render_layout_lines::line::{Element, Line, Run};
+use html_render_layout_buffer::buffer::LineBuffer;
+use html_render_layout_buffer::buffer::parts::{LinePart, LineParts};
+use html_render_layout_lines::line::Element;
 use std::alloc::{AllocError, Global};
 
 /// Last string of a line under construction, to which text under equal annotations is appended.
@@ -123,22 +126,6 @@ impl<A: Eq + Clone + Drop> Progress<A> {
         Ok(())
     }
 
-    /// Appends a character.
-    fn push_char(
-        &mut self,
-        alloc: Global,
-        stacks: &Stacks<A>,
-        c: char,
-        tag: usize,
-    ) -> Result<(), Error>
-        requires { ClonesAreSame A.is_clone }
-        ensures ok { OnOk result ((names : List _) → Takes A.eq stacks.now names self.old (Element.Character c tag ∷ []) self.new) }
-        ensures err { OnlyOutOfMemory result }
-    {
-        let mut bytes = [0; 4];
-        self.push_str(alloc, stacks, c.encode_utf8(&mut bytes), tag)
-    }
-
     /// Appends the characters of a text; nothing if it is empty.
     fn push_text(
         &mut self,
@@ -175,87 +162,21 @@ impl<A: Eq + Clone + Drop> Progress<A> {
         Ok(())
     }
 
-    /// Appends a character or a mark.
-    fn push_element(
+    /// Appends a part of a line.
+    fn push_part(
         &mut self,
         alloc: Global,
         stacks: &Stacks<A>,
         names: &[Text],
-        element: &Element<usize, usize>,
+        part: LinePart<'_, usize, usize>,
     ) -> Result<(), Error>
         requires { ClonesAreSame A.is_clone }
-        ensures ok { OnOk result (Takes A.eq stacks.now names.now self.old (element.now ∷ []) self.new) }
+        ensures ok { OnOk result (Takes A.eq stacks.now names.now self.old (part_elements part.entry) self.new) }
         ensures err { OnlyOutOfMemory result }
     {
-        match element {
-            Element::Character(c, tag) => self.push_char(alloc, stacks, *c, *tag),
-            Element::Mark(mark) => self.push_mark(alloc, stacks, names, *mark),
-        }
-    }
-
-    /// Appends elements in reverse order.
-    fn push_reversed(
-        &mut self,
-        alloc: Global,
-        stacks: &Stacks<A>,
-        names: &[Text],
-        elements: &[Element<usize, usize>],
-    ) -> Result<(), Error>
-        requires { ClonesAreSame A.is_clone }
-        ensures ok { OnOk result (Takes A.eq stacks.now names.now self.old (reverse elements.now) self.new) }
-        ensures err { OnlyOutOfMemory result }
-    {
-        let mut left = elements;
-        while let Some((element, others)) = left.split_last() {
-            self.push_element(alloc, stacks, names, element)?;
-            left = others;
-        }
-        Ok(())
-    }
-
-    /// Appends runs. Each takes its number of bytes from the front of `text`.
-    fn push_runs(
-        &mut self,
-        alloc: Global,
-        stacks: &Stacks<A>,
-        names: &[Text],
-        runs: &[Run<usize, usize>],
-        text: &str,
-    ) -> Result<(), Error>
-        requires clones { ClonesAreSame A.is_clone }
-        requires cuts { Cuts runs.now text.now }
-        ensures ok { OnOk result (Takes A.eq stacks.now names.now self.old (elements_of runs.now text.now) self.new) }
-        ensures err { OnlyOutOfMemory result }
-    {
-        let (mut left, mut text) = (runs, text);
-        while let Some((run, others)) = left.split_first() {
-            match run {
-                Run::Text(len, tag) => {
-                    self.push_text(alloc, stacks, &text[..*len], *tag)?;
-                    text = &text[*len..];
-                }
-                Run::Mark(mark) => self.push_mark(alloc, stacks, names, *mark)?,
-            }
-            left = others;
-        }
-        Ok(())
-    }
-
-    /// Appends a text under a tag; nothing without a tag.
-    fn push_open(
-        &mut self,
-        alloc: Global,
-        stacks: &Stacks<A>,
-        tag: Option<usize>,
-        text: &str,
-    ) -> Result<(), Error>
-        requires { ClonesAreSame A.is_clone }
-        ensures ok { OnOk result ((names : List _) → Takes A.eq stacks.now names self.old (open_elements tag text.now) self.new) }
-        ensures err { OnlyOutOfMemory result }
-    {
-        match tag {
-            Some(tag) => self.push_text(alloc, stacks, text, tag),
-            None => Ok(()),
+        match part {
+            LinePart::Text(text, tag) => self.push_text(alloc, stacks, text, tag),
+            LinePart::Mark(mark) => self.push_mark(alloc, stacks, names, mark),
         }
     }
 
@@ -286,23 +207,17 @@ fn tagged_line<A: Eq + Clone + Drop>(
     alloc: Global,
     stacks: &Stacks<A>,
     names: &[Text],
-    line: &Line<usize, usize>,
+    line: LineParts<'_, usize, usize>,
 ) -> Result<TaggedLine<Vec<A>>, Error>
     requires { ClonesAreSame A.is_clone }
-    ensures ok { IfOk result (λ l. pieces_of l ≡ grouped (pointwise A.eq) names.now (line_with (stack_at stacks.now) line.now)) }
+    ensures ok { IfOk result (λ l. pieces_of l ≡ grouped (pointwise A.eq) names.now (line_with (stack_at stacks.now) line.entry)) }
     ensures err { OnlyOutOfMemory result }
 {
-    let parts = line.parts();
+    let mut left = line;
     let mut progress = Progress::new(alloc);
-    progress.push_reversed(alloc, stacks, names, parts.front)?;
-    progress.push_runs(
-        alloc,
-        stacks,
-        names,
-        parts.text.closed,
-        parts.text.closed_text,
-    )?;
-    progress.push_open(alloc, stacks, parts.text.tag, parts.text.open_text)?;
+    while let Some(part) = left.next() {
+        progress.push_part(alloc, stacks, names, part)?;
+    }
     progress.finish(alloc, stacks)
 }
 
@@ -327,29 +242,25 @@ pub fn tagged_lines<A: Eq + Clone + Drop>(
     ensures columns { IfOk result (λ lines. map line_columns lines.items ≡ map columns (laid_out layout)) }
     ensures err { OnlyOutOfMemory result }
 {
-    all_tagged(
-        alloc,
-        &layout.stacks,
-        layout.names.as_slice(),
-        &layout.lines,
-    )
+    let lines = layout.lines.into_buffer()?;
+    all_tagged(alloc, &layout.stacks, layout.names.as_slice(), &lines)
 }
 
-/// Returns lines as tagged strings and fragment starts.
+/// Returns the ended lines of a buffer as tagged strings and fragment starts.
 fn all_tagged<A: Eq + Clone + Drop>(
     alloc: Global,
     stacks: &Stacks<A>,
     names: &[Text],
-    lines: &[Line<usize, usize>],
+    lines: &LineBuffer<usize, usize>,
 ) -> Result<Vec<TaggedLine<Vec<A>>>, Error>
     requires { ClonesAreSame A.is_clone }
     ensures ok { IfOk result (λ made. lines_of made.items
-        ≡ map (grouped (pointwise A.eq) names.now) (lines_with (stack_at stacks.now) lines.now)) }
+        ≡ map (grouped (pointwise A.eq) names.now) (lines_with (stack_at stacks.now) lines.now.lines)) }
     ensures err { OnlyOutOfMemory result }
 {
-    let mut made = Vec::with_capacity(alloc, lines.len())?;
-    for line in lines {
-        made.push(tagged_line(alloc, stacks, names, line)?)?;
+    let mut made = Vec::with_capacity(alloc, lines.line_count())?;
+    for n in 0..lines.line_count() {
+        made.push(tagged_line(alloc, stacks, names, lines.line_parts(n))?)?;
     }
     Ok(made)
 }

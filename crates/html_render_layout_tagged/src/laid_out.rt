@@ -6,7 +6,7 @@ ghost use Rattle.html_render_dom_values.specs.Outcome.{OnlyOutOfMemory};
 use crate::stacks::Stacks;
 use html_render_dom_values::Error;
 use html_render_dom_values::text::Text;
-use html_render_layout_lines::line::Line;
+use html_render_layout_buffer::finished::FinishedLines;
 use std::alloc::Global;
 use std::marker::Model;
 
@@ -74,7 +74,7 @@ impl TextList {
 #[derive(Drop)]
 pub struct LaidOut<A> {
     /// Lines. A character's tag is an index into `stacks`, a mark one into `names`.
-    pub lines: Vec<Line<usize, usize>>,
+    pub lines: FinishedLines<usize, usize>,
     /// Annotation stacks, by tag.
     pub stacks: Stacks<A>,
     /// Names of fragments, by mark.

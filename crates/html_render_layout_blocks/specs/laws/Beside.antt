@@ -11,13 +11,14 @@ use Rattle.html_render_layout_paragraphs.specs.Stream.{styled}
 use Rattle.html_render_parts.specs.declared.table.PlacedCell.{PlacedCell}
 use Rattle.html_render_parts_widths.specs.declared.shares.ColumnNeed.{ColumnNeed}
 use Rattle.html_render_parts_widths.specs.Shares.{widths_across}
-use Rattle.html_render_layout_pictures.specs.Marked.{marked_before, marked_behind}
-use Rattle.html_render_layout_pictures.specs.Padding.{filled, repeated}
+use Rattle.html_render_layout_buffer.specs.Marked.{marked_before, marked_behind}
+use Rattle.html_render_layout_buffer.specs.Padding.{filled, repeated}
 use Rattle.html_render_layout_pictures.specs.Picture.{picture}
 use Rattle.html_render_layout_blocks.specs.declared.block.BlockSetting.{BlockSetting}
 use Rattle.html_render_layout_blocks.specs.Block.{paragraph_setting, inner_width, mark_items, empty_block}
 use Rattle.html_render_layout_blocks.specs.Definition.{Fed, definition, DefinedBlock, operations, ending}
-use Rattle.html_render_layout_blocks.specs.Joined.{fitting, prefixed}
+use Rattle.html_render_layout_buffer.specs.Prefixed.{prefixed}
+use Rattle.html_render_layout_blocks.specs.Joined.{fitting}
 use Rattle.html_render_layout_blocks.specs.OpenRows.{OpenRow, open_row, next_width, past_cell, whole_row}
 use Rattle.html_render_layout_blocks.specs.Tables.{Rows, frame_of}
 use Rattle.html_render_layout_paragraphs.specs.laws.Answers.{Both, Both-weaken}

@@ -14,8 +14,9 @@ use Rattle.html_render_layout_lines.specs.Line.{Line}
 use Rattle.html_render_layout_lines.specs.TaggedText.{under}
 use Rattle.html_render_layout_paragraphs.specs.Paragraph.{LineBuffer, all_lines, empty_buffer}
 use Rattle.html_render_layout_paragraphs.specs.Stream.{State, start, step, after, styled, finished, character_step, with_pending, placed_word}
-use Rattle.html_render_layout_pictures.specs.Padding.{filled}
-use Rattle.html_render_layout_blocks.specs.Joined.{prefixed, fitting}
+use Rattle.html_render_layout_buffer.specs.Padding.{filled}
+use Rattle.html_render_layout_buffer.specs.Prefixed.{prefixed}
+use Rattle.html_render_layout_blocks.specs.Joined.{fitting}
 use Rattle.html_render_layout_blocks.specs.Block.{Block, flush, feed, put_lines, append, inner_block, inner_width, paragraph_setting}
 use Rattle.html_render_layout_blocks.specs.Machine as machine
 use Rattle.html_render_layout_blocks.specs.Machine.{machine, MachineBlock, operations}

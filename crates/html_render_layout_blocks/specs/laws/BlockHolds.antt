@@ -16,7 +16,7 @@ use Rattle.html_render_layout_paragraphs.specs.laws.Beside.{paragraph-beside, cu
 use Rattle.html_render_layout_paragraphs.specs.laws.Overflow.{answers as page_answers, refines as page_refines}
 use Rattle.html_render_layout_paragraphs.specs.laws.Within.{IsWithin, all_lines_within, within as page_within}
 use Rattle.html_render_parts_widths.specs.laws.Needs.{across_within}
-use Rattle.html_render_layout_pictures.specs.Padding.{filled, repeated}
+use Rattle.html_render_layout_buffer.specs.Padding.{filled, repeated}
 use Rattle.html_render_layout_pictures.specs.Picture.{KeptCell}
 use Rattle.html_render_layout_pictures.specs.Widths.{KeepsToWidth, RowWithin}
 use Rattle.html_render_layout_pictures.specs.laws.Padding.{filled-within, repeated-columns}

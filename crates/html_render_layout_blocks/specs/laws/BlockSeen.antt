@@ -22,8 +22,8 @@ use Rattle.html_render_layout_paragraphs.specs.laws.Kept.{setting-after}
 use Rattle.html_render_layout_paragraphs.specs.laws.Tags.{style_with, item_with, page_with, state_with, after-with, finished-with, styled-with, all_lines-with}
 use Rattle.html_render_layout_paragraphs.specs.laws.Whole.{finished-after, after-append}
 use Rattle.html_render_layout_pictures.specs.Drawing.{Drawing, begun, with_row, with_rows}
-use Rattle.html_render_layout_pictures.specs.Marked.{marked_behind, marked_before}
-use Rattle.html_render_layout_pictures.specs.Padding.{filled, repeated}
+use Rattle.html_render_layout_buffer.specs.Marked.{marked_behind, marked_before}
+use Rattle.html_render_layout_buffer.specs.Padding.{filled, repeated}
 use Rattle.html_render_layout_pictures.specs.Picture.{KeptCell}
 use Rattle.html_render_layout_pictures.specs.Tags.{cell_with, row_with, drawing_with, drawn_with}
 use Rattle.html_render_layout_pictures.specs.laws.Lines.{marked_behind-with}
@@ -35,7 +35,8 @@ use Rattle.html_render_layout_blocks.specs.declared.block.rows.RowPlace.{RowPlac
 use Rattle.html_render_layout_blocks.specs.Block.{paragraph_setting, inner_width, mark_items, empty_block}
 use Rattle.html_render_layout_blocks.specs.Definition as defined
 use Rattle.html_render_layout_blocks.specs.Definition.{Fed, definition, DefinedBlock}
-use Rattle.html_render_layout_blocks.specs.Joined.{prefixed, fitting}
+use Rattle.html_render_layout_buffer.specs.Prefixed.{prefixed}
+use Rattle.html_render_layout_blocks.specs.Joined.{fitting}
 use Rattle.html_render_layout_blocks.specs.Machine as worked
 use Rattle.html_render_layout_blocks.specs.Machine.{machine, MachineBlock}
 use Rattle.html_render_layout_blocks.specs.OpenRows.{OpenRow, empty_cell, empty_cells, before_cell, past_cell, whole_row}

@@ -24,9 +24,10 @@ use Rattle.html_render_layout_lines.specs.laws.Visible.{visible_in_line-append}
 use Rattle.html_render_layout_blocks.specs.laws.Operations.{Counts}
 use Rattle.html_render_layout_pictures.specs.laws.Padding.{filled-visible}
 use Rattle.html_render_layout_pictures.specs.laws.Lines.{lines-append, marked_behind_same, count-append}
-use Rattle.html_render_layout_pictures.specs.Padding.{filled, repeated}
-use Rattle.html_render_layout_blocks.specs.Joined.{prefixed, fitting}
-use Rattle.html_render_layout_pictures.specs.Marked.{marked_behind, marked_before}
+use Rattle.html_render_layout_buffer.specs.Padding.{filled, repeated}
+use Rattle.html_render_layout_buffer.specs.Prefixed.{prefixed}
+use Rattle.html_render_layout_blocks.specs.Joined.{fitting}
+use Rattle.html_render_layout_buffer.specs.Marked.{marked_behind, marked_before}
 use Rattle.html_render_layout_blocks.specs.Block.{flush, add_lines, unended, start_block, feed, is_collapsible_text, mark_items, inner_width, inner_block}
 use Rattle.html_render_layout_blocks.specs.Block.{put_lines, append, end_open, end_table, add_border, with_table_begun}
 use Rattle.html_render_layout_blocks.specs.Block.{put_stacked, cell_added, row_ended, operations as operations_of}

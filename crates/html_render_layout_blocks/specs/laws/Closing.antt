@@ -6,7 +6,7 @@ use Rattle.html_render_layout_lines.specs.Visible.{visible_in_items, visible_in_
 use Rattle.html_render_layout_blocks.specs.Block.{flush, add_lines, start_block, end_table, finish, add_closing_lines}
 use Rattle.html_render_layout_blocks.specs.Definition.{definition, DefinedBlock}
 use Rattle.html_render_layout_blocks.specs.Closing.{closing_lines}
-use Rattle.html_render_layout_pictures.specs.Marked.{marked_behind}
+use Rattle.html_render_layout_buffer.specs.Marked.{marked_behind}
 use Rattle.html_render_layout_pictures.specs.Visible.{count}
 use Rattle.html_render_layout_pictures.specs.laws.Lines.{marked_behind_same}
 use Rattle.html_render_layout_blocks.specs.laws.BlockVisible.{table_count, visible_count, Keeps, flush_keeps, start_keeps, add_lines_count, lines_count}

@@ -11,8 +11,8 @@ use Rattle.html_render_parts.specs.declared.table.PlacedCell.{PlacedCell}
 use Rattle.html_render_parts_widths.specs.declared.shares.ColumnNeed.{ColumnNeed}
 use Rattle.html_render_parts_widths.specs.Shares.{widths_across}
 use Rattle.html_render_parts.specs.TableCells.{CellGrid, rows_on}
-use Rattle.html_render_layout_pictures.specs.Marked.{marked_before, marked_behind}
-use Rattle.html_render_layout_pictures.specs.Padding.{filled, repeated}
+use Rattle.html_render_layout_buffer.specs.Marked.{marked_before, marked_behind}
+use Rattle.html_render_layout_buffer.specs.Padding.{filled, repeated}
 use Rattle.html_render_layout_pictures.specs.laws.Glyphs.{joint_width, slash_width}
 use Rattle.html_render_layout_pictures.specs.declared.borders.TheConstants.{BORDERS}
 use Rattle.html_render_layout_lines.specs.Character.{width_of}
@@ -26,7 +26,8 @@ use Rattle.html_render_layout_blocks.specs.Block.{with_table_begun, put_stacked,
 use Rattle.html_render_layout_blocks.specs.Block.{finish, add_closing_lines, operations, ending}
 use Rattle.html_render_layout_blocks.specs.Closing.{on_one_line, closing_lines}
 use Rattle.html_render_layout_paragraphs.specs.CutText.{text_lines}
-use Rattle.html_render_layout_blocks.specs.Joined.{prefixed, fitting}
+use Rattle.html_render_layout_buffer.specs.Prefixed.{prefixed}
+use Rattle.html_render_layout_blocks.specs.Joined.{fitting}
 use Rattle.html_render_layout_blocks.specs.OpenRows.{OpenRow, open_row, next_width, past_cell, whole_row}
 use Rattle.html_render_layout_blocks.specs.Parts.{Parts}
 use Rattle.html_render_layout_blocks.specs.Operations.{Operations, DocumentEnd}

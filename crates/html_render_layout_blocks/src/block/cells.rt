@@ -13,10 +13,11 @@ use super::Block;
 use super::rows::{OpenRow, Widths};
 use super::tables::OpenTable;
 use html_render_dom_values::Error;
+use html_render_layout_buffer::finished::FinishedLines;
 use html_render_layout_lines::tag::Tag;
+use html_render_layout_pictures::cells::RowCells;
 use html_render_layout_pictures::gaps::Filler;
-use html_render_layout_pictures::lines::Lines;
-use html_render_layout_pictures::picture::{Cell, Picture};
+use html_render_layout_pictures::picture::Picture;
 use html_render_parts::table::cells::RowsAhead;
 use std::alloc::{AllocError, Global};
 
@@ -36,21 +37,22 @@ pub enum CellPlace<T> {
     },
 }
 
-/// Opens the next of the rows ahead, or an empty row if there is none.
+/// Opens the next of the rows ahead, or an empty row if there is none. Its kept cells are those of `row`, which has none yet.
 fn next_row<T: Tag, M: Copy>(
     alloc: Global,
     widths: &Widths,
     ahead: &mut RowsAhead,
+    row: RowCells<T, M>,
 ) -> Result<OpenRow<T, M>, Error>
+    requires { row ≡ [] }
     ensures row { IfOk result (λ row. row ≡ open_row widths.now (slice_index_or ahead.old 0 [])) }
     ensures ahead { OnOk result (ahead.new ≡ drop 1 ahead.old) }
     ensures err { OnlyOutOfMemory result }
 {
-    let row = match ahead.next(alloc)? {
-        Some(cells) => OpenRow::new(alloc, widths, cells.as_slice())?,
-        None => OpenRow::new(alloc, widths, &[])?,
+    let Some(cells) = ahead.next(alloc)? else {
+        return Ok(OpenRow::new(alloc, widths, &[], row)?);
     };
-    Ok(row)
+    Ok(OpenRow::new(alloc, widths, cells.as_slice(), row)?)
 }
 
 impl<T: Tag, M: Copy> OpenTable<Picture<T, M>, T, M> {
@@ -61,28 +63,18 @@ impl<T: Tag, M: Copy> OpenTable<Picture<T, M>, T, M> {
     {
         match self {
             OpenTable::Across {
+                picture,
                 widths,
                 ahead,
                 row,
-                ..
             } => {
                 if row.is_none() {
-                    *row = Some(next_row(alloc, widths, ahead)?);
+                    *row = Some(next_row(alloc, widths, ahead, picture.take_row())?);
                 }
             }
             OpenTable::Stacked { has_lines, .. } => *has_lines = false,
         }
         Ok(())
-    }
-
-    /// Takes a recycled, empty line buffer of a drawn cell. `None` if there is none or the table is stacked.
-    fn take_spare(&mut self) -> Option<Lines<T, M>>
-        ensures { self.new ≡ self.old }
-    {
-        match self {
-            OpenTable::Across { picture, .. } => picture.take_spare(),
-            OpenTable::Stacked { .. } => None,
-        }
     }
 
     /// Returns the columns of the next cell's block; `None` if the cell is skipped. Where no row is open, and in a
@@ -120,12 +112,18 @@ impl<T: Tag, M: Copy> OpenTable<Picture<T, M>, T, M> {
         }
     }
 
-    /// Adds a cell to the open row, if there is one.
-    fn add_cell(&mut self, alloc: Global, cell: Cell<T, M>) -> Result<(), AllocError>
-        ensures { OnOk result (self.new ≡ with_next cell self.old) }
+    /// Adds a cell to the open row, if there is one. Its lines are moved out of `lines`.
+    fn add_cell(
+        &mut self,
+        alloc: Global,
+        width: usize,
+        lines: &mut FinishedLines<T, M>,
+        marks: Vec<M>,
+    ) -> Result<(), AllocError>
+        ensures { OnOk result (self.new ≡ with_next (record { width = width; lines = lines.old; marks = marks.items }) self.old) }
     {
         match self {
-            OpenTable::Across { row: Some(row), .. } => row.add_cell(alloc, cell),
+            OpenTable::Across { row: Some(row), .. } => row.add_cell(alloc, width, lines, marks),
             OpenTable::Across { row: None, .. } | OpenTable::Stacked { .. } => Ok(()),
         }
     }
@@ -204,38 +202,21 @@ impl<T: Tag, M: Copy> Block<T, M> {
         }
     }
 
-    /// Removes the contents of a flushed block and returns them as a cell.
-    #[inline(always)]
-    fn take_cell(&mut self) -> Cell<T, M>
-        ensures { result ≡ record { width = self.old.setting.width; lines = self.old.lines; marks = machine.waiting self.old.paragraph } }
-    {
-        let marks = self.take_waiting();
-        Cell {
-            width: self.setting.width,
-            lines: self.take_lines(),
-            marks,
-        }
-    }
-
-    /// Adds a cell to the open row, if there is one.
-    fn add_to_row(&mut self, cell: Cell<T, M>) -> Result<(), AllocError>
-        ensures { OnOk result (self.new ≡ record self.old { table = option_map (with_next cell) self.old.table }) }
+    /// Adds a flushed block as a cell to the open row, if there is one.
+    fn add_to_row(&mut self, cell: &mut Block<T, M>) -> Result<(), AllocError>
+        ensures { OnOk result (self.new ≡ record self.old {
+          table = option_map (with_next (record {
+            width = cell.old.setting.width;
+            lines = cell.old.lines;
+            marks = machine.waiting cell.old.paragraph;
+          })) self.old.table;
+        }) }
     {
         let alloc = self.alloc;
+        let marks = cell.take_waiting();
         match &mut self.table {
-            Some(table) => table.add_cell(alloc, cell),
+            Some(table) => table.add_cell(alloc, cell.setting.width, &mut cell.lines, marks),
             None => Ok(()),
-        }
-    }
-
-    /// Gives `cell` a recycled line buffer of a drawn cell, if there is one.
-    fn give_spare(&mut self, cell: &mut Block<T, M>)
-        ensures { self.new ≡ self.old }
-    {
-        if let Some(table) = &mut self.table {
-            if let Some(lines) = table.take_spare() {
-                cell.lines = lines;
-            }
         }
     }
 
@@ -253,15 +234,14 @@ impl<T: Tag, M: Copy> Block<T, M> {
 
     /// Appends lines, with the waiting marks at the front of the first one and `marks` at the end of the last one.
     /// Without lines, `marks` wait too.
-    fn put_lines(&mut self, mut lines: Lines<T, M>, marks: &[M]) -> Result<(), Error>
-        ensures ok { OnOk result (self.new ≡ block.put_lines machine self.old lines marks.now) }
+    fn put_lines(&mut self, lines: &mut FinishedLines<T, M>, marks: &[M]) -> Result<(), Error>
+        ensures ok { OnOk result (self.new ≡ block.put_lines machine self.old lines.old marks.now) }
         ensures err { OnlyOutOfMemory result }
     {
         if lines.is_empty() {
             return self.add_marks(marks);
         }
         lines.mark_last(marks)?;
-        lines.compact()?;
         self.add_lines(lines)?;
         Ok(())
     }
@@ -271,8 +251,8 @@ impl<T: Tag, M: Copy> Block<T, M> {
         ensures ok { OnOk result (self.new ≡ block.put_lines machine self.old cell.old.lines (machine.waiting cell.old.paragraph)) }
         ensures err { OnlyOutOfMemory result }
     {
-        let Cell { lines, marks, .. } = cell.take_cell();
-        self.put_lines(lines, marks.as_slice())
+        let marks = cell.take_waiting();
+        self.put_lines(&mut cell.lines, marks.as_slice())
     }
 
     /// Appends a flushed cell of a stacked table to this flushed block. A line of `/` separates the cell from the
@@ -332,8 +312,7 @@ impl<T: Tag, M: Copy> Block<T, M> {
     {
         match self.cell_place() {
             CellPlace::InRow => {
-                self.add_to_row(cell.take_cell())?;
-                self.give_spare(cell);
+                self.add_to_row(cell)?;
                 Ok(())
             }
             CellPlace::Below => self.flush_and_put_below(cell),

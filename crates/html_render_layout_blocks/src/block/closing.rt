@@ -8,7 +8,7 @@ ghost use Rattle.html_render_dom_values.specs.Outcome.{Refuses};
 ghost use Rattle.html_render_layout_paragraphs.specs.CutText.{text_lines};
 ghost use Rattle.html_render_layout_lines.specs.Line.{is_empty};
 ghost use Rattle.html_render_layout_lines.specs.TaggedText.{under};
-ghost use Rattle.html_render_layout_pictures.specs.Marked.{marked_behind};
+ghost use Rattle.html_render_layout_buffer.specs.Marked.{marked_behind};
 ghost use Rattle.html_render_layout_blocks.specs.Closing.{on_one_line, closing_lines};
 ghost use Rattle.html_render_layout_blocks.specs.Block as block;
 ghost use Rattle.html_render_layout_blocks.specs.Machine as machine;
@@ -16,10 +16,10 @@ ghost use Rattle.html_render_layout_blocks.specs.Machine.{machine};
 
 use super::{Block, BlockSetting};
 use html_render_dom_values::Error;
-use html_render_layout_lines::line::{Line, text_columns};
+use html_render_layout_buffer::finished::FinishedLines;
+use html_render_layout_lines::line::text_columns;
 use html_render_layout_lines::tag::Tag;
 use html_render_layout_paragraphs::paragraph::push_cut_text;
-use html_render_layout_pictures::lines::Lines;
 use std::alloc::{AllocError, Global};
 
 impl<T: Tag, M: Copy> Block<T, M> {
@@ -62,16 +62,15 @@ impl<T: Tag, M: Copy> Block<T, M> {
     }
 
     /// Appends finished lines.
-    pub(super) fn push_lines(&mut self, lines: Lines<T, M>) -> Result<(), AllocError>
-        ensures { OnOk result (self.new ≡ record self.old { lines = self.old.lines ++ lines }) }
+    pub(super) fn push_lines(&mut self, lines: &mut FinishedLines<T, M>) -> Result<(), AllocError>
+        ensures { OnOk result (self.new ≡ record self.old { lines = self.old.lines ++ lines.old }) }
     {
-        self.lines.append(lines)?;
-        Ok(())
+        self.lines.append(lines)
     }
 
     /// Appends finished lines, with the waiting marks at the front of the first one.
-    pub(super) fn add_lines(&mut self, mut lines: Lines<T, M>) -> Result<(), AllocError>
-        ensures { OnOk result (self.new ≡ block.add_lines machine self.old lines) }
+    pub(super) fn add_lines(&mut self, lines: &mut FinishedLines<T, M>) -> Result<(), AllocError>
+        ensures { OnOk result (self.new ≡ block.add_lines machine self.old lines.old) }
     {
         let marks = self.take_waiting();
         lines.mark_first(marks.as_slice())?;
@@ -102,8 +101,8 @@ impl<T: Tag, M: Copy> Block<T, M> {
             return Ok(());
         }
         self.start_block()?;
-        let lines = closing_lines(self.alloc, self.setting, texts, tag, cut)?;
-        self.add_lines(Lines::of(self.alloc, lines))?;
+        let mut lines = closing_lines(self.alloc, self.setting, texts, tag, cut)?;
+        self.add_lines(&mut lines)?;
         Ok(())
     }
 }
@@ -139,49 +138,38 @@ fn on_one_line(alloc: Global, text: &str) -> Result<String, AllocError>
     Ok(line)
 }
 
-/// Returns a line with a text under a tag.
-#[tactic(auto, using(crate::proofs::Closing::ends))]
-fn whole_line<T: Tag, M: Copy>(alloc: Global, text: &str, tag: T) -> Result<Line<T, M>, AllocError>
-    ensures { IfOk result (λ line. line ≡ under tag (chars text.now)) }
-{
-    let mut line = Line::new(alloc);
-    line.put_front_str(text, text_columns(text), tag)?;
-    Ok(line)
-}
-
 /// Appends the lines of a text without newlines: cut where they are full, or one line.
 fn push_text<T: Tag, M: Copy>(
     alloc: Global,
-    lines: &mut Vec<Line<T, M>>,
+    lines: &mut FinishedLines<T, M>,
     setting: BlockSetting,
     text: &str,
     tag: T,
     cut: bool,
 ) -> Result<(), Error>
-    ensures ok { OnOk result (option_map (λ more. lines.old.items ++ more)
-        (text_lines (record { width = setting.width; overflow = setting.overflow }) cut tag (chars text.now)) ≡ Some lines.new.items) }
+    ensures ok { OnOk result (option_map (λ more. lines.old ++ more)
+        (text_lines (record { width = setting.width; overflow = setting.overflow }) cut tag (chars text.now)) ≡ Some lines.new) }
     ensures err { IfErr result (λ e. Refuses e
         (text_lines {M = M} (record { width = setting.width; overflow = setting.overflow }) cut tag (chars text.now))) }
 {
     if cut {
         return push_cut_text(alloc, lines, text, tag, setting.width, setting.overflow);
     }
-    let line = whole_line(alloc, text, tag)?;
-    lines.push(line)?;
+    lines.push_text_line(text, text_columns(text), tag)?;
     Ok(())
 }
 
 /// Appends the lines of a text, with a space for each newline: cut where they are full, or one line.
 fn push_closing_text<T: Tag, M: Copy>(
     alloc: Global,
-    lines: &mut Vec<Line<T, M>>,
+    lines: &mut FinishedLines<T, M>,
     setting: BlockSetting,
     text: &str,
     tag: T,
     cut: bool,
 ) -> Result<(), Error>
-    ensures ok { OnOk result (option_map (λ more. lines.old.items ++ more)
-        (text_lines (record { width = setting.width; overflow = setting.overflow }) cut tag (on_one_line (chars text.now))) ≡ Some lines.new.items) }
+    ensures ok { OnOk result (option_map (λ more. lines.old ++ more)
+        (text_lines (record { width = setting.width; overflow = setting.overflow }) cut tag (on_one_line (chars text.now))) ≡ Some lines.new) }
     ensures err { IfErr result (λ e. Refuses e
         (text_lines {M = M} (record { width = setting.width; overflow = setting.overflow }) cut tag (on_one_line (chars text.now)))) }
 {
@@ -200,11 +188,11 @@ fn closing_lines<T: Tag, M: Copy>(
     texts: &[String],
     tag: T,
     cut: bool,
-) -> Result<Vec<Line<T, M>>, Error>
-    ensures ok { IfOk result (λ lines. closing_lines setting cut tag (map (λ t. chars (string_bytes t)) texts.now) ≡ Some lines.items) }
+) -> Result<FinishedLines<T, M>, Error>
+    ensures ok { IfOk result (λ lines. closing_lines setting cut tag (map (λ t. chars (string_bytes t)) texts.now) ≡ Some lines) }
     ensures err { IfErr result (λ e. Refuses e (closing_lines {M = M} setting cut tag (map (λ t. chars (string_bytes t)) texts.now))) }
 {
-    let mut lines = Vec::new(alloc);
+    let mut lines = FinishedLines::new(alloc);
     for text in texts {
         push_closing_text(alloc, &mut lines, setting, text.as_str(), tag, cut)?;
     }

@@ -9,16 +9,16 @@ ghost use Rattle.html_render_layout_blocks.specs.Tables.{frame_of};
 ghost use Rattle.html_render_layout_blocks.specs.Block as block;
 ghost use Rattle.html_render_layout_blocks.specs.Machine as machine;
 ghost use Rattle.html_render_layout_blocks.specs.Machine.{machine};
-ghost use Rattle.html_render_layout_pictures.specs.Padding.{character_of, repeated};
+ghost use Rattle.html_render_layout_buffer.specs.Padding.{repeated};
+ghost use Rattle.html_render_layout_pictures.specs.Fillers.{character_of};
 
 use super::Block;
 use super::rows::Widths;
 use super::tables::OpenTable;
 use html_render_dom_values::Error;
-use html_render_layout_lines::line::Line;
+use html_render_layout_buffer::buffer::LineBuffer;
 use html_render_layout_lines::tag::Tag;
 use html_render_layout_pictures::gaps::{Filler, push_fillers};
-use html_render_layout_pictures::line_ends::put_marks_front;
 use html_render_layout_pictures::picture::{Frame, Picture};
 use html_render_parts::table::cells::{RowsAhead, TableCells};
 use html_render_parts_widths::{ColumnNeed, widths_across};
@@ -76,20 +76,6 @@ fn stacked_border<T: Tag>(tag: T, borders: bool, width: usize) -> Option<T>
     }
 }
 
-/// Returns a line of one character, `width` times, under a tag.
-fn rule<T: Tag, M: Copy>(
-    alloc: Global,
-    tag: T,
-    filler: Filler,
-    width: usize,
-) -> Result<Line<T, M>, AllocError>
-    ensures { IfOk result (λ line. line ≡ repeated tag (character_of filler) width) }
-{
-    let mut line = Line::with_capacity(alloc, width)?;
-    push_fillers(&mut line, filler, width, tag)?;
-    Ok(line)
-}
-
 impl<T: Tag, M: Copy> Block<T, M> {
     /// Appends a border of one character, as wide as the block and with the waiting marks at its front. Does nothing
     /// without borders.
@@ -99,10 +85,12 @@ impl<T: Tag, M: Copy> Block<T, M> {
         let Some(tag) = border else {
             return Ok(());
         };
-        let mut line = rule(self.alloc, tag, filler, self.setting.width)?;
         let marks = self.take_waiting();
-        put_marks_front(&mut line, marks.as_slice())?;
-        self.push_line(line)
+        let mut line = LineBuffer::new(self.alloc);
+        line.push_marks(marks.as_slice())?;
+        push_fillers(&mut line, filler, self.setting.width, tag)?;
+        line.end_line()?;
+        self.lines.append_buffer(&mut line)
     }
 
     /// Makes a stacked table the open one.

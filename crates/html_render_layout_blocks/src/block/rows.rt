@@ -4,9 +4,10 @@ ghost use Rattle.std.specs.Prelude.{◌≡◌, suc, ◌+◌, ◌-◌, ◌^◌, �
 ghost use Rattle.std.specs.List.{list_any};
 ghost use Rattle.html_render_layout_blocks.specs.OpenRows as rows;
 
+use html_render_layout_buffer::finished::FinishedLines;
 use html_render_layout_lines::tag::Tag;
-use html_render_layout_pictures::lines::Lines;
-use html_render_layout_pictures::picture::{Cell, Row};
+use html_render_layout_pictures::cells::RowCells;
+use html_render_layout_pictures::picture::Row;
 use html_render_parts::table::{CellKind, PlacedCell};
 use std::alloc::{AllocError, Global};
 use std::marker::Model;
@@ -26,7 +27,7 @@ pub struct OpenRow<T, M> {
     /// Places ahead, the next one last.
     ahead: Vec<RowPlace>,
     /// Kept cells before these places, also empty ones.
-    cells: Vec<Cell<T, M>>,
+    cells: RowCells<T, M>,
     /// Whether the whole row has a placeholder.
     placeholder: bool,
 }
@@ -37,7 +38,7 @@ impl<T, M> Model for OpenRow<T, M> {
 
     ghost Value = { rows.OpenRow T M };
 
-    ghost view = { λ r. record { ahead = reverse r.ahead.items; cells = r.cells.items; placeholder = r.placeholder } };
+    ghost view = { λ r. record { ahead = reverse r.ahead.items; cells = r.cells; placeholder = r.placeholder } };
 }
 
 /// Widths of a table's columns, in columns of text. Their sum, with the separators between them, fits a machine word.
@@ -152,17 +153,13 @@ fn next_width(ahead: &[RowPlace]) -> Option<usize>
 /// Appends an empty cell, unless it is skipped.
 fn push_empty<T: Tag, M: Copy>(
     alloc: Global,
-    cells: &mut Vec<Cell<T, M>>,
+    cells: &mut RowCells<T, M>,
     width: Option<usize>,
 ) -> Result<(), AllocError>
-    ensures { OnOk result (cells.new.items ≡ cells.old.items ++ rows.empty_cell width) }
+    ensures { OnOk result (cells.new ≡ cells.old ++ rows.empty_cell width) }
 {
     if let Some(width) = width {
-        cells.push(Cell {
-            width,
-            lines: Lines::new(alloc),
-            marks: Vec::new(alloc),
-        })?;
+        cells.push_empty(alloc, width)?;
     }
     Ok(())
 }
@@ -172,11 +169,11 @@ fn push_empty<T: Tag, M: Copy>(
 fn pass_cell<T: Tag, M: Copy>(
     alloc: Global,
     ahead: &mut Vec<RowPlace>,
-    cells: &mut Vec<Cell<T, M>>,
+    cells: &mut RowCells<T, M>,
 ) -> Result<(), AllocError>
     ensures ahead { OnOk result (reverse ahead.new.items
         ≡ drop (suc (length (rows.before_cell (reverse ahead.old.items)))) (reverse ahead.old.items)) }
-    ensures cells { OnOk result (cells.new.items ≡ cells.old.items ++ rows.empty_cells (rows.before_cell (reverse ahead.old.items))) }
+    ensures cells { OnOk result (cells.new ≡ cells.old ++ rows.empty_cells (rows.before_cell (reverse ahead.old.items))) }
 {
     while let Some(place) = ahead.pop() {
         if place.is_cell {
@@ -191,9 +188,9 @@ fn pass_cell<T: Tag, M: Copy>(
 fn push_rest<T: Tag, M: Copy>(
     alloc: Global,
     ahead: &[RowPlace],
-    cells: &mut Vec<Cell<T, M>>,
+    cells: &mut RowCells<T, M>,
 ) -> Result<(), AllocError>
-    ensures { OnOk result (cells.new.items ≡ cells.old.items ++ rows.empty_cells (reverse ahead.now)) }
+    ensures { OnOk result (cells.new ≡ cells.old ++ rows.empty_cells (reverse ahead.now)) }
 {
     for place in ahead.iter().rev() {
         push_empty(alloc, cells, place.width)?;
@@ -228,19 +225,22 @@ impl Widths {
 }
 
 impl<T: Tag, M: Copy> OpenRow<T, M> {
-    /// Returns an open row with these cells, placeholders and gaps ahead, over columns of these widths.
+    /// Returns an open row with these cells, placeholders and gaps ahead, over columns of these widths. Its kept cells are those
+    /// of `row`, which has none yet.
     pub fn new(
         alloc: Global,
         widths: &Widths,
         cells: &[PlacedCell],
+        row: RowCells<T, M>,
     ) -> Result<OpenRow<T, M>, AllocError>
+        requires { row ≡ [] }
         ensures { IfOk result (λ row. row ≡ rows.open_row widths.now cells.now) }
     {
         let mut ahead = places_of(alloc, widths.widths.as_slice(), cells)?;
         ahead.reverse();
         Ok(OpenRow {
             ahead,
-            cells: Vec::new(alloc),
+            cells: row,
             placeholder: has_placeholder(cells),
         })
     }
@@ -259,13 +259,18 @@ impl<T: Tag, M: Copy> OpenRow<T, M> {
         pass_cell(alloc, &mut self.ahead, &mut self.cells)
     }
 
-    /// Adds the next cell. Places before it are empty cells.
-    pub fn add_cell(&mut self, alloc: Global, cell: Cell<T, M>) -> Result<(), AllocError>
-        ensures { OnOk result (self.new ≡ rows.past_cell self.old (cell ∷ [])) }
+    /// Adds the next cell, whose lines are moved out of `lines`. Places before it are empty cells.
+    pub fn add_cell(
+        &mut self,
+        alloc: Global,
+        width: usize,
+        lines: &mut FinishedLines<T, M>,
+        marks: Vec<M>,
+    ) -> Result<(), AllocError>
+        ensures { OnOk result (self.new ≡ rows.past_cell self.old (record { width = width; lines = lines.old; marks = marks.items } ∷ [])) }
     {
         pass_cell(alloc, &mut self.ahead, &mut self.cells)?;
-        self.cells.push(cell)?;
-        Ok(())
+        self.cells.push(width, lines, marks)
     }
 
     /// Returns the whole row. Places ahead are empty cells.

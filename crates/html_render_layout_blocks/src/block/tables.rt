@@ -50,11 +50,12 @@ fn with_open<T: Tag, M: Copy>(
     ensures ok { IfOk result (λ p. p ≡ with_open machine picture row) }
     ensures err { OnlyOutOfMemory result }
 {
+    let Some(row) = row else {
+        return Ok(picture);
+    };
     let mut picture = picture;
-    if let Some(row) = row {
-        let row = row.finish(alloc)?;
-        picture.add_row(row)?;
-    }
+    let row = row.finish(alloc)?;
+    picture.add_row(row)?;
     Ok(picture)
 }
 
@@ -72,7 +73,7 @@ fn with_ahead<T: Tag, M: Copy>(
     let mut picture = picture;
     let mut ahead = ahead;
     while let Some(cells) = ahead.next(alloc)? {
-        let row = OpenRow::new(alloc, widths, cells.as_slice())?;
+        let row = OpenRow::new(alloc, widths, cells.as_slice(), picture.take_row())?;
         let row = row.finish(alloc)?;
         picture.add_row(row)?;
     }
@@ -102,8 +103,8 @@ impl<T: Tag, M: Copy> Block<T, M> {
             (mark_items drawn.waiting.items)) }
         ensures err { OnlyOutOfMemory result }
     {
-        let Drawn { lines, waiting } = drawn;
-        self.push_lines(lines)?;
+        let Drawn { mut lines, waiting } = drawn;
+        self.push_lines(&mut lines)?;
         self.table = None;
         self.add_marks(waiting.as_slice())
     }

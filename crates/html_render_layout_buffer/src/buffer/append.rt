@@ -25,7 +25,7 @@ impl<T: Tag, M: Copy> LineBuffer<T, M> {
     /// # Errors
     ///
     /// `AllocError`. The buffer then has no lines.
-    pub fn append_all(&mut self, other: &LineBuffer<T, M>) -> Result<(), AllocError>
+    pub(crate) fn append_all(&mut self, other: &LineBuffer<T, M>) -> Result<(), AllocError>
         requires { self.old.line ≡ [] }
         ensures ok { OnOk result (self.new ≡ record { lines = self.old.lines ++ other.now.lines; line = other.now.line }) }
         ensures err { OnErr result (self.new ≡ no_lines) }
@@ -87,7 +87,7 @@ impl<T: Tag, M: Copy> LineBuffer<T, M> {
     /// # Errors
     ///
     /// `AllocError`. The buffer then has no lines.
-    pub fn append_line_after(
+    fn append_line_after(
         &mut self,
         prefix: &Prefix<'_, T>,
         other: &LineBuffer<T, M>,

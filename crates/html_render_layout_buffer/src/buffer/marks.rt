@@ -14,7 +14,7 @@ use std::mem;
 
 impl<T: Tag, M: Copy> LineBuffer<T, M> {
     /// Makes the last ended line the open line again.
-    pub fn reopen(&mut self)
+    pub(crate) fn reopen(&mut self)
         requires open { self.old.line ≡ [] }
         requires some { 0 < length self.old.lines }
         ensures { self.old ≡ record { lines = self.new.lines ++ self.new.line ∷ []; line = [] } }

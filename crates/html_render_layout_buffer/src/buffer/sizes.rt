@@ -102,7 +102,7 @@ pub(crate) fn is_within(columns: Option<usize>, width: usize) -> bool
 
 /// Returns how many columns a line has less than `width`. Its number is `None` if it passes a machine word.
 #[inline]
-pub(crate) fn columns_missing(columns: Option<usize>, width: usize) -> usize
+pub fn columns_missing(columns: Option<usize>, width: usize) -> usize
     ensures { (n : ℕ) → columns ≡ counted n → result ≡ width - n }
 {
     match columns {

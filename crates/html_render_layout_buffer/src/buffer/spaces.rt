@@ -1,10 +1,10 @@
-//! Spaces: those that fill lines, and those to a tab stop.
+//! Spaces that fill lines, and how far a line is past a tab stop.
 
-ghost use Rattle.std.specs.Prelude.{◌≡◌, ◌+◌, ◌-◌, ◌%◌, ◌≤◌, ◌<◌, ℕ, [], ◌∷◌, ◌++◌, Some, length, replicate, OnOk, OnErr};
+ghost use Rattle.std.specs.Prelude.{◌≡◌, ◌+◌, ◌-◌, ◌%◌, ◌≤◌, ◌<◌, [], ◌∷◌, ◌++◌, Some, length, replicate, OnOk, OnErr};
 ghost use Rattle.std.specs.List.{slice_index_or};
 ghost use Rattle.std.specs.Str.{chars};
 ghost use Rattle.html_render_layout_lines.specs.Line.{columns};
-ghost use Rattle.html_render_layout_lines.specs.TaggedText.{counted, text_columns};
+ghost use Rattle.html_render_layout_lines.specs.TaggedText.{text_columns};
 ghost use Rattle.html_render_layout_buffer.specs.Lines.{no_lines, with_spaces};
 ghost use Rattle.html_render_layout_buffer.specs.Padding.{filled_line, filled};
 
@@ -62,20 +62,6 @@ impl<T: Tag, M: Copy> LineBuffer<T, M> {
         }
     }
 
-    /// Appends spaces to the open line, under a tag, up to the next multiple of 8 columns: 1 to 8 of them.
-    ///
-    /// # Errors
-    ///
-    /// `AllocError`. The buffer then has no lines.
-    pub fn push_tab(&mut self, tag: T) -> Result<(), AllocError>
-        ensures ok { OnOk result (self.new ≡ with_spaces self.old tag (8 - columns self.old.line % 8)) }
-        ensures err { OnErr result (self.new ≡ no_lines) }
-    {
-        let past = self.past_tab_stop();
-        self.push_spaces(8 - past, tag)?;
-        Ok(())
-    }
-
     /// Appends a copy of another buffer's ended line `n`, filled with spaces up to `width` columns, to the open line, and ends
     /// that.
     fn append_line_filled(
@@ -104,7 +90,7 @@ impl<T: Tag, M: Copy> LineBuffer<T, M> {
     /// # Errors
     ///
     /// `AllocError`. The buffer then has no lines.
-    pub fn append_filled(
+    fn append_filled(
         &mut self,
         other: &LineBuffer<T, M>,
         width: usize,
@@ -134,6 +120,9 @@ impl<T: Tag, M: Copy> LineBuffer<T, M> {
             return Ok(());
         }
         let mut filled = LineBuffer::new(self.alloc());
+        let (bytes, lines) = (self.byte_count(), self.line_count());
+        let spaces = width.saturating_mul(lines).min(bytes);
+        filled.reserve(bytes.saturating_add(spaces), lines)?;
         filled.append_filled(self, width, tag)?;
         mem::swap(self, &mut filled);
         Ok(())

@@ -1,10 +1,11 @@
 //! Finished lines behind prefixes.
 
-ghost use Rattle.std.specs.Prelude.{◌≡◌, ◌==◌, ◌<◌, ◌++◌, [], ◌∷◌, length, map, OnOk};
+ghost use Rattle.std.specs.Prelude.{◌≡◌, ◌<◌, ◌++◌, [], ◌∷◌, length, map, OnOk};
 ghost use Rattle.std.specs.List.{slice_index_or};
 ghost use Rattle.std.specs.Str.{chars};
 ghost use Rattle.html_render_layout_lines.specs.Line.{marks_line};
 ghost use Rattle.html_render_layout_lines.specs.TaggedText.{under};
+ghost use Rattle.html_render_layout_buffer.specs.Pieces.{lines_of};
 ghost use Rattle.html_render_layout_buffer.specs.Prefixed.{prefixed};
 
 use super::piece::{LONG, Piece};
@@ -13,6 +14,7 @@ use crate::buffer::LineBuffer;
 use crate::prefix::Prefix;
 use html_render_layout_lines::tag::Tag;
 use std::alloc::AllocError;
+use std::collections::VecDeque;
 use std::mem;
 
 impl<T: Tag, M: Copy> FinishedLines<T, M> {
@@ -92,18 +94,18 @@ impl<T: Tag, M: Copy> FinishedLines<T, M> {
         Ok(())
     }
 
-    /// Moves other lines to the end, each after a prefix.
-    fn push_rest_behind(
+    /// Appends the lines of pieces, each after a prefix.
+    fn push_each_behind(
         &mut self,
-        other: &mut FinishedLines<T, M>,
+        pieces: VecDeque<Piece<T, M>>,
         prefix: &Prefix<'_, T>,
     ) -> Result<(), AllocError>
-        ensures { OnOk result (self.new ≡ self.old ++ map (λ l. under prefix.now.tag (chars prefix.now.text.now) ++ l) other.old) }
+        ensures { OnOk result (self.new ≡ self.old ++ map (λ l. under prefix.now.tag (chars prefix.now.text.now) ++ l) (lines_of pieces.items)) }
     {
-        while let Some(piece) = other.pieces.pop_first() {
+        let mut pieces = pieces;
+        while let Some(piece) = pieces.pop_front() {
             self.push_behind(piece, prefix)?;
         }
-        self.last.append_each_behind(&other.last, 0, prefix)?;
         Ok(())
     }
 
@@ -124,16 +126,14 @@ impl<T: Tag, M: Copy> FinishedLines<T, M> {
             (under later.now.tag (chars later.now.text.now)) other.old) }
     {
         other.separate()?;
-        match other.pieces.pop_first() {
-            Some(piece) => {
-                self.push_first_behind(piece, marks, first, later)?;
-                self.push_rest_behind(other, later)
-            }
-            None => {
-                self.last.push_marks(marks)?;
-                self.last.append_behind(&other.last, first, later)?;
-                Ok(())
-            }
-        }
+        let mut pieces = other.pieces.take();
+        let Some(piece) = pieces.pop_front() else {
+            self.last.push_marks(marks)?;
+            return self.last.append_behind(&other.last, first, later);
+        };
+        piece.has_line();
+        self.push_first_behind(piece, marks, first, later)?;
+        self.push_each_behind(pieces, later)?;
+        self.last.append_each_behind(&other.last, 0, later)
     }
 }

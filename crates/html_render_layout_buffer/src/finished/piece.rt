@@ -1,13 +1,13 @@
 //! Lines of a buffer, with what was put in front of the first one.
 
-ghost use Rattle.std.specs.Prelude.{◌≡◌, ℕ, ◌+◌, ◌<◌, ◌++◌, ◌==◌, [], ◌∷◌, Some, length, map, nat_le, reverse, OnOk, IfOk};
+ghost use Rattle.std.specs.Prelude.{◌≡◌, ℕ, ◌+◌, ◌<◌, ◌++◌, ◌==◌, [], Some, length, reverse, OnOk, IfOk};
 ghost use Rattle.std.specs.Bool.{OnTrue};
 ghost use Rattle.std.specs.Str.{chars};
 ghost use Rattle.html_render_layout_lines.specs.Line.{columns, marks_line};
 ghost use Rattle.html_render_layout_lines.specs.TaggedText.{counted, under};
 ghost use Rattle.html_render_layout_buffer.specs.Marked.{marked_before, marked_behind};
 ghost use Rattle.html_render_layout_buffer.specs.Padding.{filled};
-ghost use Rattle.html_render_layout_buffer.specs.Pieces.{with_front, fits_after, AllAtLeast};
+ghost use Rattle.html_render_layout_buffer.specs.Pieces.{with_front, fits_after};
 
 use crate::buffer::{LineBuffer, columns_missing, counted_sum, is_within};
 use crate::prefix::Prefix;
@@ -76,13 +76,6 @@ impl<T: Tag, M: Copy> Piece<T, M> {
         ensures some { 0 < result }
     {
         self.lines.line_count()
-    }
-
-    /// Returns a number of columns that each line has at least.
-    pub(super) fn least(&self) -> usize
-        ensures { AllAtLeast result self.now }
-    {
-        self.lines.least_columns()
     }
 
     /// Reports whether the lines fit in `width` columns, the first after `first` columns and the others after `later` columns.

@@ -1,11 +1,12 @@
 //! Pieces of finished lines.
 
-ghost use Rattle.std.specs.Prelude.{◌≡◌, ℕ, ◌==◌, ◌<◌, ◌≤◌, ◌+◌, ◌++◌, ◌∷◌, [], Some, drop, length, nat_le, OnOk, OnErr, IfOk, IfSome, IfNone};
+ghost use Rattle.std.specs.Prelude.{◌≡◌, ℕ, List, ◌==◌, ◌<◌, ◌≤◌, ◌+◌, ◌++◌, [], Some, drop, take, map, length, nat_le, OnOk, IfOk, IfSome};
 ghost use Rattle.std.specs.List.{list_all};
-ghost use Rattle.html_render_layout_lines.specs.Line.{columns};
+ghost use Rattle.html_render_layout_lines.specs.Line.{Line, columns};
 ghost use Rattle.html_render_layout_lines.specs.TaggedText.{counted};
+ghost use Rattle.html_render_layout_buffer.specs.Marked.{marked_before, marked_behind};
 ghost use Rattle.html_render_layout_buffer.specs.Padding.{filled};
-ghost use Rattle.html_render_layout_buffer.specs.Pieces.{fits_after, lines_of};
+ghost use Rattle.html_render_layout_buffer.specs.Pieces.{fits_after, lines_of, IsCount, ArePieces};
 
 use crate::buffer::LineBuffer;
 use crate::finished::piece::Piece;
@@ -15,24 +16,43 @@ use std::collections::VecDeque;
 use std::marker::Model;
 use std::mem;
 
+/// What is known of pieces without reading them.
+#[derive(Clone, Copy)]
+struct Known {
+    // numbers of first and of last pieces whose widths aren't known
+    front: usize,
+    back: usize,
+    // columns that each line of the pieces between them has at least
+    least: usize,
+    // number of lines; `None` if it isn't known
+    count: Option<usize>,
+}
+
+/// What is known of no pieces.
+const OF_NONE: Known = Known {
+    front: 0,
+    back: 0,
+    least: usize::MAX,
+    count: Some(0),
+};
+
 /// Lines in pieces, in order.
 #[derive(Drop)]
 pub(super) struct Pieces<T, M> {
     pieces: VecDeque<Piece<T, M>>,
-    // columns that each line has at least
-    least: usize,
+    known: Known,
 }
 
 impl<T, M> Model for Pieces<T, M> {
     ghost use Rattle.std.specs.Prelude.{List};
     ghost use Rattle.html_render_layout_lines.specs.Line.{Line};
-    ghost use Rattle.html_render_layout_buffer.specs.Pieces.{lines_of, AllAtLeast};
+    ghost use Rattle.html_render_layout_buffer.specs.Pieces.{lines_of, ArePieces};
 
     ghost Value = { List (Line T M) };
 
     ghost view = { λ p. lines_of p.pieces.items };
 
-    ghost invariant = { λ p. AllAtLeast p.least (lines_of p.pieces.items) };
+    ghost invariant = { λ p. ArePieces p.known p.pieces.items };
 }
 
 impl<T: Tag, M: Copy> Pieces<T, M> {
@@ -42,7 +62,7 @@ impl<T: Tag, M: Copy> Pieces<T, M> {
     {
         Pieces {
             pieces: VecDeque::new(alloc),
-            least: usize::MAX,
+            known: OF_NONE,
         }
     }
 
@@ -51,7 +71,7 @@ impl<T: Tag, M: Copy> Pieces<T, M> {
         ensures { self.new ≡ [] }
     {
         self.pieces.clear();
-        self.least = usize::MAX;
+        self.known = OF_NONE;
     }
 
     /// Reports whether there are no pieces.
@@ -72,79 +92,108 @@ impl<T: Tag, M: Copy> Pieces<T, M> {
     pub(super) fn line_count(&self) -> Result<usize, AllocError>
         ensures { IfOk result (λ n. n ≡ length self.now) }
     {
-        lines_in(&self.pieces)
+        match self.known.count {
+            Some(count) => Ok(count),
+            None => Err(AllocError),
+        }
     }
 
     /// Appends a piece.
     pub(super) fn push(&mut self, piece: Piece<T, M>) -> Result<(), AllocError>
         ensures { OnOk result (self.new ≡ self.old ++ piece) }
     {
-        self.least = self.least.min(piece.least());
+        let back = longer(self.known.back, 1)?;
+        let count = more_lines(self.known.count, piece.line_count());
         self.pieces.push_back(piece)?;
+        self.known.back = back;
+        self.known.count = count;
         Ok(())
     }
 
-    /// Puts a piece in front of the others.
-    pub(super) fn push_first(&mut self, piece: Piece<T, M>) -> Result<(), AllocError>
-        ensures { OnOk result (self.new ≡ piece ++ self.old) }
+    /// Moves the pieces out.
+    pub(super) fn take(&mut self) -> VecDeque<Piece<T, M>>
+        ensures taken { lines_of result.items ≡ self.old }
+        ensures left { self.new ≡ [] }
     {
-        self.least = self.least.min(piece.least());
-        self.pieces.push_front(piece)?;
-        Ok(())
-    }
-
-    /// Removes and returns the first piece. `None` without pieces.
-    pub(super) fn pop_first(&mut self) -> Option<Piece<T, M>>
-        ensures some { IfSome result (λ p. self.old ≡ p ++ self.new) }
-        ensures filled { IfSome result (λ p. 0 < length p) }
-        ensures none { IfNone result (self.old ≡ []) }
-        ensures none_left { IfNone result (self.new ≡ []) }
-    {
-        let Some(piece) = self.pieces.pop_front() else {
-            return None;
-        };
-        piece.has_line();
-        Some(piece)
-    }
-
-    /// Removes and returns the last piece. `None` without pieces.
-    pub(super) fn pop_last(&mut self) -> Option<Piece<T, M>>
-        ensures some { IfSome result (λ p. self.old ≡ self.new ++ p) }
-        ensures filled { IfSome result (λ p. 0 < length p) }
-        ensures none { IfNone result (self.old ≡ []) }
-        ensures none_left { IfNone result (self.new ≡ []) }
-    {
-        let Some(piece) = self.pieces.pop_back() else {
-            return None;
-        };
-        piece.has_line();
-        Some(piece)
+        self.known = OF_NONE;
+        taken(&mut self.pieces)
     }
 
     /// Moves other pieces to the end. Those of the shorter value are moved.
     pub(super) fn append(&mut self, other: &mut Pieces<T, M>) -> Result<(), AllocError>
         ensures { OnOk result (self.new ≡ self.old ++ other.old) }
     {
-        let alloc = *self.pieces.allocator();
-        let pieces = mem::replace(&mut self.pieces, VecDeque::new(alloc));
-        let others = mem::replace(&mut other.pieces, VecDeque::new(alloc));
-        self.pieces = joined(pieces, others)?;
-        self.least = self.least.min(other.least);
-        other.least = usize::MAX;
+        let known = joined_known(&self.pieces, self.known, &other.pieces, other.known)?;
+        self.known = OF_NONE;
+        other.known = OF_NONE;
+        let pieces = taken(&mut self.pieces);
+        self.pieces = joined(pieces, taken(&mut other.pieces))?;
+        self.known = known;
         Ok(())
     }
 
-    /// Fills each line with spaces up to `width` columns, under a tag. Does nothing where each has as many.
+    /// Puts marks in front of the first line. Does nothing without pieces.
+    pub(super) fn mark_first(&mut self, marks: &[M]) -> Result<(), AllocError>
+        ensures { OnOk result (self.new ≡ marked_before marks.now self.old) }
+    {
+        let known = self.known;
+        self.known = OF_NONE;
+        let mut pieces = taken(&mut self.pieces);
+        let Some(piece) = pieces.pop_front() else {
+            return Ok(());
+        };
+        piece.has_line();
+        pieces.push_front(piece.marked_first(marks)?)?;
+        self.pieces = pieces;
+        self.known = known;
+        Ok(())
+    }
+
+    /// Appends marks to the last line. Does nothing without pieces.
+    pub(super) fn mark_last(&mut self, marks: &[M]) -> Result<(), AllocError>
+        ensures { OnOk result (self.new ≡ marked_behind marks.now self.old) }
+    {
+        let known = self.known;
+        self.known = OF_NONE;
+        let mut pieces = taken(&mut self.pieces);
+        let Some(piece) = pieces.pop_back() else {
+            return Ok(());
+        };
+        piece.has_line();
+        pieces.push_back(piece.marked_last(marks)?)?;
+        self.pieces = pieces;
+        self.known = known;
+        Ok(())
+    }
+
+    /// Fills each line with spaces up to `width` columns, under a tag. Reads no piece that is known to be as wide.
     pub(super) fn fill(&mut self, width: usize, tag: T) -> Result<(), AllocError>
         ensures { OnOk result (self.new ≡ filled (Some tag) width self.old) }
     {
-        if width <= self.least {
+        let Known {
+            front,
+            back,
+            least,
+            count,
+        } = self.known;
+        if front == 0 && back == 0 && width <= least {
             return Ok(());
         }
-        let alloc = *self.pieces.allocator();
-        let pieces = mem::replace(&mut self.pieces, VecDeque::new(alloc));
-        self.pieces = filled_pieces(alloc, pieces, width, tag)?;
-        self.least = width;
+        self.known = OF_NONE;
+        let mut pieces = taken(&mut self.pieces);
+        let first = if width <= least {
+            front
+        } else {
+            pieces.len() - back
+        };
+        fill_outer(&mut pieces, first, back, width, tag)?;
+        self.pieces = pieces;
+        self.known = Known {
+            front: 0,
+            back: 0,
+            least: width,
+            count,
+        };
         Ok(())
     }
 
@@ -179,15 +228,24 @@ impl<T: Tag, M: Copy> Pieces<T, M> {
     }
 }
 
-/// Returns the number of lines of pieces. `AllocError` if it passes a machine word.
-fn lines_in<T: Tag, M: Copy>(pieces: &VecDeque<Piece<T, M>>) -> Result<usize, AllocError>
-    ensures { IfOk result (λ n. n ≡ length (lines_of pieces.now.items)) }
+/// Returns a number of lines and more of them. `None` if one isn't known, or a machine word doesn't hold the sum.
+fn more_lines(count: Option<usize>, more: usize) -> Option<usize>
+    ensures { (n : ℕ) → IsCount count n → IsCount result (n + more) }
 {
-    let mut count = 0;
-    for index in 0..pieces.len() {
-        count = longer(count, pieces[index].line_count())?;
+    match count {
+        Some(count) => count.checked_add(more),
+        None => None,
     }
-    Ok(count)
+}
+
+/// Returns the sum of two numbers of lines. `None` if one isn't known, or a machine word doesn't hold the sum.
+fn all_lines(count: Option<usize>, others: Option<usize>) -> Option<usize>
+    ensures { (n k : ℕ) → IsCount count n → IsCount others k → IsCount result (n + k) }
+{
+    match others {
+        Some(more) => more_lines(count, more),
+        None => None,
+    }
 }
 
 /// Reports whether the lines of all pieces but the first fit in `width` columns, each after `later` columns. `later` is `None`
@@ -225,21 +283,82 @@ fn joined<T: Tag, M: Copy>(
     Ok(pieces)
 }
 
-/// Returns pieces whose lines are filled with spaces up to `width` columns, under a tag.
-fn filled_pieces<T: Tag, M: Copy>(
-    alloc: Global,
-    pieces: VecDeque<Piece<T, M>>,
+/// Returns what is known of pieces followed by others. Of the shorter value, nothing is known but the number of lines.
+///
+/// # Errors
+///
+/// `AllocError`, if a machine word doesn't hold the number of pieces.
+fn joined_known<T: Tag, M: Copy>(
+    pieces: &VecDeque<Piece<T, M>>,
+    known: Known,
+    others: &VecDeque<Piece<T, M>>,
+    other_known: Known,
+) -> Result<Known, AllocError>
+    ensures { ArePieces known pieces.now.items → ArePieces other_known others.now.items →
+        IfOk result (λ k. ArePieces k (pieces.now.items ++ others.now.items)) }
+{
+    let count = all_lines(known.count, other_known.count);
+    if pieces.len() < others.len() {
+        return Ok(Known {
+            front: longer(pieces.len(), other_known.front)?,
+            back: other_known.back,
+            least: other_known.least,
+            count,
+        });
+    }
+    Ok(Known {
+        front: known.front,
+        back: longer(known.back, others.len())?,
+        least: known.least,
+        count,
+    })
+}
+
+/// Moves pieces out.
+fn taken<T: Tag, M: Copy>(pieces: &mut VecDeque<Piece<T, M>>) -> VecDeque<Piece<T, M>>
+    ensures taken { result.items ≡ pieces.old.items }
+    ensures left { pieces.new.items ≡ [] }
+{
+    let none = VecDeque::new(*pieces.allocator());
+    mem::replace(pieces, none)
+}
+
+/// Fills the lines of the first and of the last pieces with spaces up to `width` columns, under a tag.
+fn fill_outer<T: Tag, M: Copy>(
+    pieces: &mut VecDeque<Piece<T, M>>,
+    first: usize,
+    last: usize,
     width: usize,
     tag: T,
-) -> Result<VecDeque<Piece<T, M>>, AllocError>
-    ensures { IfOk result (λ q. lines_of q.items ≡ filled (Some tag) width (lines_of pieces.items)) }
+) -> Result<(), AllocError>
+    requires { first + last ≤ length pieces.old.items }
+    ensures { (xs ys zs : List (List (Line T M))) → pieces.old.items ≡ xs ++ (ys ++ zs) → first ≡ length xs → last ≡ length zs →
+        OnOk result (pieces.new.items ≡ map (filled (Some tag) width) xs ++ (ys ++ map (filled (Some tag) width) zs)) }
 {
-    let mut left = pieces;
-    let mut done = VecDeque::new(alloc);
-    while let Some(piece) = left.pop_front() {
-        done.push_back(piece.filled(width, tag)?)?;
+    pieces.rotate_right(last);
+    fill_in_turn(pieces, first + last, width, tag)?;
+    pieces.rotate_right(first);
+    Ok(())
+}
+
+/// Moves the first `count` pieces to the end, in turn, each with its lines filled with spaces up to `width` columns, under a
+/// tag.
+fn fill_in_turn<T: Tag, M: Copy>(
+    pieces: &mut VecDeque<Piece<T, M>>,
+    count: usize,
+    width: usize,
+    tag: T,
+) -> Result<(), AllocError>
+    requires { count ≤ length pieces.old.items }
+    ensures { OnOk result (pieces.new.items ≡ drop count pieces.old.items ++ map (filled (Some tag) width) (take count pieces.old.items)) }
+{
+    for _ in 0..count {
+        let Some(piece) = pieces.pop_front() else {
+            return Ok(());
+        };
+        pieces.push_back(piece.filled(width, tag)?)?;
     }
-    Ok(done)
+    Ok(())
 }
 
 /// Returns the sum of two numbers of lines. `AllocError` if it passes a machine word.

@@ -3,13 +3,10 @@
 //! A text under one tag has no closed run: the run at the text's end is kept apart from the others, and a run is closed
 //! only where a mark or another tag follows it.
 
-ghost use Rattle.std.specs.Prelude.{◌≡◌, ◌++◌, ◌∷◌, [], Some, None, OnOk, OnErr, IfOk, ◌==◌, cond, length, map, reverse};
+ghost use Rattle.std.specs.Prelude.{◌≡◌, ◌++◌, ◌∷◌, [], Some, None, OnOk, OnErr, ◌==◌, length};
 ghost use Rattle.std.specs.Bool.{OnTrue};
 ghost use Rattle.std.specs.Str.{chars, IsUtf8};
-ghost use Rattle.std.specs.String.{string_bytes};
-ghost use Rattle.html_render_layout_lines.specs.TaggedText.{under, closed_run, Cuts, HasTag, elements_of, open_elements, items_of, style_tag};
-ghost use Rattle.html_render_layout_lines.specs.Line.{text_bytes, element_of};
-ghost use Rattle.html_render_layout_lines.specs.TaggedText.{styled_elements};
+ghost use Rattle.html_render_layout_lines.specs.TaggedText.{under, closed_run, Cuts, HasTag, elements_of, open_elements, style_tag};
 
 use crate::character::TextStyle;
 use crate::line::Element;
@@ -19,10 +16,7 @@ use std::alloc::{AllocError, Global};
 use std::marker::Model;
 
 /// So many bytes of a text stand in the value itself.
-pub(super) const SHORT: usize = 30;
-
-/// How many bytes of a text are moved for what is put in front of it, at most.
-const MOVED: usize = 256;
+const SHORT: usize = 30;
 
 /// What stands next in a text.
 #[derive(Clone, Copy)]
@@ -78,54 +72,6 @@ impl<T: Tag, M: Copy> TaggedText<T, M> {
             start: 0,
             tag: None,
         }
-    }
-
-    /// An empty text with room for `bytes` bytes.
-    ///
-    /// # Errors
-    ///
-    /// `OutOfMemory`.
-    pub fn with_capacity(alloc: Global, bytes: usize) -> Result<TaggedText<T, M>, AllocError>
-        ensures { IfOk result (λ t. t ≡ record { elements = []; tag = None }) }
-    {
-        let text = SmallText::with_capacity(alloc, bytes)?;
-        Ok(TaggedText {
-            text,
-            runs: Vec::new(alloc),
-            start: 0,
-            tag: None,
-        })
-    }
-
-    /// How many bytes its characters take.
-    #[inline]
-    pub fn byte_count(&self) -> usize {
-        self.text.len()
-    }
-
-    /// Makes room for `bytes` more bytes.
-    ///
-    /// # Errors
-    ///
-    /// `OutOfMemory`. Its elements are then as they were.
-    pub fn reserve(&mut self, bytes: usize) -> Result<(), AllocError>
-        ensures { self.new ≡ self.old }
-    {
-        self.text.reserve(*self.runs.allocator(), bytes)
-    }
-
-    /// Makes room for `bytes` bytes at the start of a text.
-    ///
-    /// # Errors
-    ///
-    /// `OutOfMemory`. Its elements are then as they were.
-    pub fn reserve_at_start(&mut self, bytes: usize) -> Result<(), AllocError>
-        ensures { self.new ≡ self.old }
-    {
-        if self.text.as_str().is_empty() {
-            self.reserve(bytes)?;
-        }
-        Ok(())
     }
 
     /// Leaves it empty, and keeps its memory.
@@ -251,91 +197,6 @@ impl<T: Tag, M: Copy> TaggedText<T, M> {
         self.push_mark_here(mark)
     }
 
-    /// Puts a text in front of the open run where the whole text is that run and short, and says whether it did.
-    #[inline]
-    fn put_front_here(&mut self, text: &str, tag: T) -> Result<bool, AllocError>
-        requires { self.old.tag ≡ Some tag }
-        ensures { IfOk result (λ done. self.new.elements ≡ cond done (under tag (chars text.now)) [] ++ self.old.elements) }
-    {
-        if !self.runs.as_slice().is_empty() || self.text.len() > MOVED {
-            return Ok(false);
-        }
-        self.text.put_front(*self.runs.allocator(), text)?;
-        Ok(true)
-    }
-
-    /// Puts a text under a tag in front, where that takes a short time and no run, and says whether it did.
-    ///
-    /// # Errors
-    ///
-    /// `OutOfMemory`.
-    pub fn put_front(&mut self, text: &str, tag: T) -> Result<bool, AllocError>
-        ensures { IfOk result (λ done. self.new.elements ≡ cond done (under tag (chars text.now)) [] ++ self.old.elements) }
-    {
-        if self.is_empty() {
-            self.push_str(text, tag)?;
-            return Ok(true);
-        }
-        if !self.is_under(tag) {
-            return Ok(false);
-        }
-        self.put_front_here(text, tag)
-    }
-
-    /// Puts a word's text with one of its style's tags.
-    #[inline]
-    fn push_str_as(
-        &mut self,
-        text: &str,
-        style: TextStyle<T>,
-        continues: bool,
-    ) -> Result<(), AllocError>
-        ensures { OnOk result (self.new.elements ≡ self.old.elements ++ under (style_tag continues style) (chars text.now)) }
-    {
-        self.push_str(text, style_tag(style, continues))
-    }
-
-    /// Puts what an open run makes of a word's text.
-    #[inline]
-    #[tactic(auto, using(crate::proofs::TaggedTexts::placing))]
-    fn push_open_as(
-        &mut self,
-        style: Option<TextStyle<T>>,
-        text: &str,
-        continues: bool,
-    ) -> Result<(), AllocError>
-        ensures { OnOk result (self.new.elements ≡ self.old.elements ++ map (element_of continues) (items_of (open_elements style text.now))) }
-    {
-        if let Some(style) = style {
-            self.push_str_as(text, style, continues)?;
-        }
-        Ok(())
-    }
-
-    /// Puts what runs make of a word's text.
-    fn push_runs_as(
-        &mut self,
-        runs: &[Run<TextStyle<T>, M>],
-        text: &str,
-        continues: bool,
-    ) -> Result<(), AllocError>
-        requires { Cuts runs.now text.now }
-        ensures { OnOk result (self.new.elements ≡ self.old.elements ++ styled_elements continues runs.now text.now) }
-    {
-        let mut at = 0;
-        for run in runs {
-            match run {
-                Run::Text(len, style) => {
-                    let end = at + *len;
-                    self.push_str_as(&text[at..end], *style, continues)?;
-                    at = end;
-                }
-                Run::Mark(mark) => self.push_mark(*mark)?,
-            }
-        }
-        Ok(())
-    }
-
     /// Its elements in order, as parts that need not be copied.
     #[inline]
     pub fn parts(&self) -> TextParts<'_, T, M>
@@ -353,110 +214,12 @@ impl<T: Tag, M: Copy> TaggedText<T, M> {
         }
     }
 
-    /// Puts a word behind this text, with the tags of a line that continues another, or of an ordinary line.
-    ///
-    /// # Errors
-    ///
-    /// `OutOfMemory`. A part of the word may then stand behind this text.
-    pub fn append_as(
-        &mut self,
-        word: &TaggedText<TextStyle<T>, M>,
-        continues: bool,
-    ) -> Result<(), AllocError>
-        ensures { OnOk result (self.new.elements ≡ self.old.elements ++ map (element_of continues) (items_of word.now.elements)) }
-    {
-        let cut = word.parts();
-        self.push_runs_as(cut.closed, cut.closed_text, continues)?;
-        self.push_open_as(cut.tag, cut.open_text, continues)?;
-        Ok(())
-    }
-
-    /// Puts a text under its tag, if it has one.
-    fn push_open(&mut self, tag: Option<T>, text: &str) -> Result<(), AllocError>
-        ensures { OnOk result (self.new.elements ≡ self.old.elements ++ open_elements tag text.now) }
-    {
-        if let Some(tag) = tag {
-            self.push_str(text, tag)?;
-        }
-        Ok(())
-    }
-
-    /// Puts runs with their text.
-    fn push_runs(&mut self, runs: &[Run<T, M>], text: &str) -> Result<(), AllocError>
-        requires { Cuts runs.now text.now }
-        ensures { OnOk result (self.new.elements ≡ self.old.elements ++ elements_of runs.now text.now) }
-    {
-        let mut at = 0;
-        for run in runs {
-            match run {
-                Run::Text(len, tag) => {
-                    let end = at + *len;
-                    self.push_str(&text[at..end], *tag)?;
-                    at = end;
-                }
-                Run::Mark(mark) => self.push_mark(*mark)?,
-            }
-        }
-        Ok(())
-    }
-
-    /// Puts an element.
-    fn push(&mut self, element: Element<T, M>) -> Result<(), AllocError>
-        ensures { OnOk result (self.new.elements ≡ self.old.elements ++ element ∷ []) }
-    {
-        match element {
-            Element::Character(c, tag) => self.push_char(c, tag),
-            Element::Mark(mark) => self.push_mark(mark),
-        }
-    }
-
-    /// Puts elements, the last one first.
-    fn push_reversed(&mut self, elements: &[Element<T, M>]) -> Result<(), AllocError>
-        ensures { OnOk result (self.new.elements ≡ self.old.elements ++ reverse elements.now) }
-    {
-        for element in elements.iter().rev() {
-            self.push(*element)?;
-        }
-        Ok(())
-    }
-
-    /// Puts elements, the last one first, and another text.
-    ///
-    /// # Errors
-    ///
-    /// `OutOfMemory`. A part of them may then stand behind this text.
-    pub fn append(
-        &mut self,
-        front: &[Element<T, M>],
-        text: &TaggedText<T, M>,
-    ) -> Result<(), AllocError>
-        ensures { OnOk result (self.new.elements ≡ self.old.elements ++ (reverse front.now ++ text.now.elements)) }
-    {
-        let parts = text.parts();
-        self.push_reversed(front)?;
-        self.push_runs(parts.closed, parts.closed_text)?;
-        self.push_open(parts.tag, parts.open_text)?;
-        Ok(())
-    }
-
     /// Whether it holds neither a character nor a mark.
     #[inline]
     pub fn is_empty(&self) -> bool
         ensures { result ≡ (length self.now.elements == 0) }
     {
         self.text.as_str().is_empty() && self.runs.as_slice().is_empty()
-    }
-
-    /// Adds its characters to a string.
-    ///
-    /// # Errors
-    ///
-    /// `OutOfMemory`.
-    pub fn write_to(&self, out: &mut String) -> Result<(), AllocError>
-        ensures { OnOk result (string_bytes out.new ≡ string_bytes out.old ++ text_bytes self.now.elements) }
-    {
-        out.push_str(self.text.as_str())?;
-        Ok(())
     }
 }
 

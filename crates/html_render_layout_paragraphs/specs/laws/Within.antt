@@ -1,11 +1,10 @@
 -- With overflow off no line passes the width.
-use Rattle.std.proofs.Common.{◌≡◌, ℕ, ◌+◌, ◌≤◌, Bool, true, false, cond, ◌||◌, List, Option, Some, None, IfSome, refl, sym, ap, ◌∙◌, arith, leb}
+use Rattle.std.proofs.Common.{◌≡◌, ℕ, ◌+◌, ◌≤◌, true, false, ◌||◌, List, Option, Some, None, IfSome, refl, sym, ap, ◌∙◌, arith, leb}
 use Rattle.std.proofs.lemmas.List.Elements.{All-push, All-nil}
 use Rattle.std.proofs.lemmas.Bool.{leb-true, le-leb}
 use Rattle.std.proofs.Math.Bool.{or-false}
 use Rattle.html_render_layout_lines.specs.declared.character.Character.{Character}
 use Rattle.html_render_layout_lines.specs.declared.character.Item.{Item}
-use Rattle.html_render_layout_lines.specs.declared.line.Element.TheVariants as element
 use Rattle.html_render_layout_lines.specs.Character.{width_of, tag_on}
 use Rattle.html_render_layout_lines.specs.laws.Columns.{columns-push}
 use Rattle.html_render_layout_lines.specs.Line.{Line, columns, is_empty, AllWithinWidth}

@@ -10,8 +10,8 @@ ghost use Rattle.html_render_layout_paragraphs.specs.Stream.{styled};
 use crate::paragraph::Paragraph;
 use html_render_dom_values::Error;
 use html_render_dom_values::white_space::WhiteSpace;
+use html_render_layout_buffer::finished::FinishedLines;
 use html_render_layout_lines::character::TextStyle;
-use html_render_layout_lines::line::Line;
 use html_render_layout_lines::tag::Tag;
 use std::alloc::{AllocError, Global};
 
@@ -28,22 +28,21 @@ fn kept_style<T: Copy>(tag: T) -> TextStyle<T>
 
 impl<T: Tag, M: Copy> Paragraph<T, M> {
     /// Ends the open line, even an empty one, and moves all lines to the end of `lines`.
-    fn move_ended_lines(&mut self, lines: &mut Vec<Line<T, M>>) -> Result<(), AllocError>
-        ensures { OnOk result (lines.new.items ≡ lines.old.items ++ (self.old.page.lines ++ self.old.page.line ∷ [])) }
+    fn move_ended_lines(&mut self, lines: &mut FinishedLines<T, M>) -> Result<(), AllocError>
+        ensures { OnOk result (lines.new ≡ lines.old ++ (self.old.page.lines ++ self.old.page.line ∷ [])) }
     {
         self.break_line()?;
-        self.move_lines(lines)
+        lines.append_buffer(&mut self.lines)
     }
 
     /// Places the characters of a text one by one, and moves all lines, the open one included, to the end of `lines`.
     #[tactic(auto, using(html_render_dom_values::specs::laws::Outcome::refusals))]
-    fn cut_text(&mut self, lines: &mut Vec<Line<T, M>>, text: &str, tag: T) -> Result<(), Error>
-        ensures ok { OnOk result (option_map (λ cut. lines.old.items ++ cut) (option_map (λ p. p.lines ++ p.line ∷ [])
-            (put_items self.old.setting self.old.page (styled (kept_style tag) (chars text.now)))) ≡ Some lines.new.items) }
+    fn cut_text(&mut self, lines: &mut FinishedLines<T, M>, text: &str, tag: T) -> Result<(), Error>
+        ensures ok { OnOk result (option_map (λ cut. lines.old ++ cut) (option_map (λ p. p.lines ++ p.line ∷ [])
+            (put_items self.old.setting self.old.page (styled (kept_style tag) (chars text.now)))) ≡ Some lines.new) }
         ensures err { IfErr result (λ e. Refuses e (option_map (λ p. p.lines ++ p.line ∷ [])
             (put_items self.old.setting self.old.page (styled (kept_style tag) (chars text.now))))) }
     {
-        self.make_room(text.len())?;
         self.put_characters(text, kept_style(tag))?;
         self.move_ended_lines(lines)?;
         Ok(())
@@ -64,14 +63,14 @@ impl<T: Tag, M: Copy> Paragraph<T, M> {
 #[tactic(auto, using(html_render_dom_values::specs::laws::Outcome::refusals))]
 pub fn push_cut_text<T: Tag, M: Copy>(
     alloc: Global,
-    lines: &mut Vec<Line<T, M>>,
+    lines: &mut FinishedLines<T, M>,
     text: &str,
     tag: T,
     width: usize,
     overflow: bool,
 ) -> Result<(), Error>
-    ensures ok { OnOk result (option_map (λ cut. lines.old.items ++ cut)
-        (text_lines (record { width = width; overflow = overflow }) true tag (chars text.now)) ≡ Some lines.new.items) }
+    ensures ok { OnOk result (option_map (λ cut. lines.old ++ cut)
+        (text_lines (record { width = width; overflow = overflow }) true tag (chars text.now)) ≡ Some lines.new) }
     ensures err { IfErr result (λ e. Refuses e (text_lines {M = M} (record { width = width; overflow = overflow }) true tag (chars text.now))) }
 {
     let mut paragraph: Paragraph<T, M> = Paragraph::new(alloc, width, overflow);

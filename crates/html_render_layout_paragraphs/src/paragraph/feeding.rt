@@ -2,7 +2,7 @@
 //!
 //! A letter is a character of [`Kind::Letter`], a part of a word.
 
-ghost use Rattle.std.specs.Prelude.{IfErr, IfOk, length, take, drop, ◌≡◌, ◌+◌, ◌≤◌, ◌<◌, [], ◌∷◌, ◌++◌, Some, None, OnOk, true};
+ghost use Rattle.std.specs.Prelude.{IfErr, IfOk, length, take, drop, ◌≡◌, ◌+◌, ◌≤◌, ◌<◌, [], Some, None, OnOk, true};
 ghost use Rattle.std.specs.Bool.{OnTrue};
 ghost use Rattle.std.specs.List.{list_all, slice_index};
 ghost use Rattle.std.specs.Str.{chars, IsUtf8};
@@ -177,10 +177,10 @@ impl<T: Tag, M: Copy> Paragraph<T, M> {
     fn room_behind_space(&self) -> usize
         ensures { 0 < result → HasFreeColumns self.now result }
     {
-        if self.line.is_empty() || !self.waiting.is_empty() {
+        if self.lines.is_line_empty() || !self.waiting.is_empty() {
             return 0;
         }
-        match self.line.columns() {
+        match self.lines.open_columns() {
             Some(columns) if columns <= self.width => self.width - columns,
             _ => 0,
         }

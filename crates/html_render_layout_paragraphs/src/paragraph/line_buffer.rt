@@ -1,6 +1,6 @@
 //! Placing on a line buffer: characters with the marks that wait for them, pending spaces, and ends of lines.
 
-ghost use Rattle.std.specs.Prelude.{IfErr, fold, map, nat_le, replicate, ◌≡◌, ◌+◌, ◌-◌, ◌%◌, ◌||◌, [], ◌∷◌, ◌++◌, Some, None, OnOk, if◌then◌else◌};
+ghost use Rattle.std.specs.Prelude.{IfErr, fold, map, replicate, ◌≡◌, ◌+◌, ◌-◌, ◌%◌, [], ◌∷◌, ◌++◌, Some, None, OnOk, if◌then◌else◌};
 ghost use Rattle.html_render_dom_values.specs.Outcome.{Refuses};
 ghost use Rattle.html_render_layout_lines.specs.Character.{width_of, tag_on};
 ghost use Rattle.html_render_layout_lines.specs.Line.{columns};
@@ -14,20 +14,9 @@ use crate::word::tag_on;
 use html_render_dom_values::Error;
 use html_render_dom_values::room::{fits_after_gap, is_allowed_on_line};
 use html_render_layout_lines::character::{Character, Class, Item, Kind, width_of};
-use html_render_layout_lines::line::{Element, Line};
+use html_render_layout_lines::line::Element;
 use html_render_layout_lines::tag::Tag;
 use std::alloc::AllocError;
-use std::mem;
-
-/// Reports whether a line has at most `width` columns, or `overflow` is on.
-pub fn line_fits<T: Tag, M: Copy>(line: &Line<T, M>, width: usize, overflow: bool) -> bool
-    ensures { result ≡ (overflow || nat_le (columns line.now) width) }
-{
-    match line.columns() {
-        Some(columns) => is_allowed_on_line(columns, width, overflow),
-        None => overflow,
-    }
-}
 
 impl<T: Tag, M: Copy> Paragraph<T, M> {
     /// Reports whether `more` columns fit on the open line.
@@ -36,7 +25,7 @@ impl<T: Tag, M: Copy> Paragraph<T, M> {
         ensures { result ≡ fits self.now.setting self.now.page more }
     {
         let width = self.width;
-        match self.line.columns() {
+        match self.lines.open_columns() {
             Some(columns) => fits_after_gap(columns, 0, more, width),
             None => false,
         }
@@ -48,7 +37,7 @@ impl<T: Tag, M: Copy> Paragraph<T, M> {
         ensures { result ≡ fits self.now.setting (with_due_space self.now.page self.now.pending) more }
     {
         let (width, gap) = (self.width, self.gap_width());
-        match self.line.columns() {
+        match self.lines.open_columns() {
             Some(columns) => fits_after_gap(columns, gap, more, width),
             None => false,
         }
@@ -60,7 +49,7 @@ impl<T: Tag, M: Copy> Paragraph<T, M> {
     fn gap_width(&self) -> usize
         ensures { columns (with_due_space self.now.page self.now.pending).line ≡ columns self.now.page.line + result }
     {
-        if self.pending.is_some() && !self.line.is_empty() {
+        if self.pending.is_some() && !self.lines.is_line_empty() {
             1
         } else {
             0
@@ -75,7 +64,7 @@ impl<T: Tag, M: Copy> Paragraph<T, M> {
         }) }
     {
         if !self.waiting.is_empty() {
-            push_marks(&mut self.line, self.waiting.as_slice())?;
+            self.lines.push_marks(self.waiting.as_slice())?;
             self.waiting.clear();
         }
         Ok(())
@@ -88,7 +77,7 @@ impl<T: Tag, M: Copy> Paragraph<T, M> {
     {
         let tag = tag_on(self.continues, &character);
         self.push_waiting()?;
-        self.line.push_char(character.code, width, tag)
+        self.lines.push_char(character.code, width, tag)
     }
 
     /// Appends a space to the open line, under the tag of the white space `character`.
@@ -99,7 +88,7 @@ impl<T: Tag, M: Copy> Paragraph<T, M> {
         }) }
     {
         let tag = tag_on(self.continues, &character);
-        self.line.push_char(' ', 1, tag)
+        self.lines.push_char(' ', 1, tag)
     }
 
     /// Appends the pending space to the open line, or drops it if the line is empty.
@@ -108,7 +97,7 @@ impl<T: Tag, M: Copy> Paragraph<T, M> {
         ensures { OnOk result (self.new ≡ record self.old { page = with_due_space self.old.page self.old.pending; pending = None }) }
     {
         if let Some(character) = self.pending.take() {
-            if !self.line.is_empty() {
+            if !self.lines.is_line_empty() {
                 self.push_space(character)?;
             }
         }
@@ -132,21 +121,8 @@ impl<T: Tag, M: Copy> Paragraph<T, M> {
     pub(super) fn continue_line(&mut self) -> Result<(), AllocError>
         ensures { OnOk result (self.new ≡ record self.old { page = continued self.old.page }) }
     {
-        if self.line.is_empty() {
-            return Ok(());
-        }
-        let next = self.line.next(self.alloc)?;
-        self.continue_with(next)
-    }
-
-    /// Ends the open line, unless it is empty, and makes `next`, which is empty, its continuation line.
-    pub(super) fn continue_with(&mut self, next: Line<T, M>) -> Result<(), AllocError>
-        requires { next ≡ [] }
-        ensures { OnOk result (self.new ≡ record self.old { page = continued self.old.page }) }
-    {
-        if !self.line.is_empty() {
-            let line = mem::replace(&mut self.line, next);
-            self.lines.push(line)?;
+        if !self.lines.is_line_empty() {
+            self.lines.end_line()?;
             self.continues = true;
         }
         Ok(())
@@ -180,8 +156,7 @@ impl<T: Tag, M: Copy> Paragraph<T, M> {
     pub(super) fn break_line(&mut self) -> Result<(), AllocError>
         ensures { OnOk result (self.new ≡ record self.old { page = with_line_break self.old.page }) }
     {
-        let line = mem::replace(&mut self.line, Line::new(self.alloc));
-        self.lines.push(line)?;
+        self.lines.end_line()?;
         self.continues = false;
         Ok(())
     }
@@ -232,7 +207,7 @@ impl<T: Tag, M: Copy> Paragraph<T, M> {
     fn tab_count(&self) -> usize
         ensures { result ≡ 8 - columns self.now.page.line % 8 }
     {
-        8 - self.line.past_tab_stop()
+        8 - self.lines.past_tab_stop()
     }
 
     /// Places a character `count` times, each time on the open line if it fits there, and otherwise on a continuation
@@ -331,14 +306,4 @@ impl<T: Tag, M: Copy> Paragraph<T, M> {
         self.settle_for(class.kind)?;
         self.put_single(class, character)
     }
-}
-
-/// Appends marks to a line.
-fn push_marks<T: Tag, M: Copy>(line: &mut Line<T, M>, marks: &[M]) -> Result<(), AllocError>
-    ensures { OnOk result (line.new ≡ line.old ++ map (λ m. Element.Mark m) marks.now) }
-{
-    for mark in marks {
-        line.push_mark(*mark)?;
-    }
-    Ok(())
 }

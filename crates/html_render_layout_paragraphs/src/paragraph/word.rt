@@ -1,6 +1,6 @@
 //! The open word, and placing of words: as a whole if they fit on the line, otherwise character by character.
 
-ghost use Rattle.std.specs.Prelude.{IfErr, IfOk, ◌≤◌, length, take, ◌≡◌, ◌+◌, ◌<◌, [], ◌∷◌, ◌++◌, Some, None, OnOk, option_map, IfSome, encode_utf8, map, true, false};
+ghost use Rattle.std.specs.Prelude.{IfErr, IfOk, ◌≤◌, length, ◌≡◌, ◌+◌, ◌<◌, [], ◌∷◌, ◌++◌, Some, None, OnOk, IfSome, encode_utf8, map, true, false};
 ghost use Rattle.std.specs.Bool.{OnTrue};
 ghost use Rattle.std.specs.Str.{chars, IsUtf8};
 ghost use Rattle.html_render_dom_values.specs.Outcome.{Refuses};
@@ -76,7 +76,7 @@ impl<T: Tag, M: Copy> Paragraph<T, M> {
         ensures { OnOk result (self.new ≡ record self.old { page = with_word self.old.page self.old.word; word = []; open_word = None }) }
     {
         self.push_waiting()?;
-        push_word(&mut self.line, &self.word, width, self.continues)?;
+        push_word(&mut self.lines, &self.word, width, self.continues)?;
         self.clear_word();
         Ok(())
     }
@@ -234,7 +234,7 @@ impl<T: Tag, M: Copy> Paragraph<T, M> {
         ensures fits { 0 < result.bytes → fits self.now.setting self.now.page result.columns ≡ true }
     {
         let width = self.width;
-        match self.line.columns() {
+        match self.lines.open_columns() {
             Some(columns) if columns <= width => longest_front(text, width - columns),
             _ => Front {
                 bytes: 0,
@@ -294,7 +294,7 @@ impl<T: Tag, M: Copy> Paragraph<T, M> {
         }) }
     {
         self.push_waiting()?;
-        self.line
+        self.lines
             .push_str(text, width, style_tag(style, self.continues))
     }
 

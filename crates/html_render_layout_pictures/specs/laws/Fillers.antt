@@ -17,8 +17,8 @@ use Rattle.html_render_layout_lines.specs.declared.line.Element.TheVariants.{Cha
 use Rattle.html_render_layout_lines.specs.Character.{width_of}
 use Rattle.html_render_layout_lines.specs.Line.{Line}
 use Rattle.html_render_layout_lines.specs.TaggedText.{text_columns, under}
-use Rattle.html_render_layout_pictures.specs.Padding.{character_of, repeated}
-use Rattle.html_render_layout_pictures.specs.laws.Padding.{filled_line}
+use Rattle.html_render_layout_buffer.specs.Padding.{repeated}
+use Rattle.html_render_layout_pictures.specs.Fillers.{character_of}
 use Rattle.html_render_layout_pictures.specs.declared.gaps.Filler.{Filler}
 use Rattle.html_render_layout_pictures.specs.declared.gaps.Filler.TheVariants.{Space, Slash, Dash}
 use Rattle.html_render_layout_pictures.specs.laws.Glyphs.{space_width, slash_width, joint_width, separator_width}
@@ -123,15 +123,6 @@ fillers_parted {T} {M} filler tag line next left h =
     ∙ append_assoc line (repeated tag c next) (repeated tag c (left - next))
     ∙ ap (λ l. line ++ l) (replicate-append-replicate next (left - next) (Character c tag))
     ∙ ap (λ n. line ++ repeated tag c n) whole
-
--- one more
-pub filler_more : {T M : Type 0} (filler : Filler) (tag : T) (count : ℕ) →
-    repeated {M = M} tag (character_of filler) count ++ Character (character_of filler) tag ∷ [] ≡ repeated tag (character_of filler) (count + 1)
-filler_more filler tag count = replicate-append-replicate count 1 (Character (character_of filler) tag)
-
--- an empty line is filled with spaces alone
-pub blank_filled : {T M : Type 0} (tag : T) (width : ℕ) → filled_line {M = M} tag width [] ≡ repeated tag (character_of Space) width
-blank_filled {T} {M} tag width = ap (λ n. repeated {M = M} tag 0x20 n) (sub-zero width)
 
 -- spaces before a separator, or one more space
 pub gap_width : (borders : Bool) (count : ℕ) → text_columns (replicate count 0x20 ++ cond borders BORDERS.separator 0x20 ∷ []) ≡ count + 1

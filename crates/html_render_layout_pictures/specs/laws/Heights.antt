@@ -3,8 +3,8 @@ use Rattle.std.proofs.Common.{◌≡◌, ℕ, suc, ◌-◌, ◌≤◌, ◌++◌,
 use Rattle.std.proofs.lemmas.List.{length-append, length-map, length-replicate}
 use Rattle.std.proofs.lemmas.List.Elements.{All-nil, All-cons}
 use Rattle.html_render_layout_lines.specs.Line.{Line}
-use Rattle.html_render_layout_pictures.specs.Marked.{marked_behind}
-use Rattle.html_render_layout_pictures.specs.laws.Padding.{filled_line}
+use Rattle.html_render_layout_buffer.specs.Marked.{marked_behind}
+use Rattle.html_render_layout_buffer.specs.Padding.{filled_line}
 use Rattle.html_render_layout_pictures.specs.declared.picture.Frame.{Frame}
 use Rattle.html_render_layout_pictures.specs.Picture.{KeptCell, cell_lines, beside, height}
 
@@ -19,6 +19,10 @@ module _ {T M : Type 0} where
   highest-more : (n : ℕ) (cells : List (KeptCell T M)) → n ≤ highest n cells
   highest-more n [] = omega arith
   highest-more n (c ∷ cs) = let e = highest-more (max n (length c.lines)) cs in omega (arith, e)
+
+  -- a row has a line
+  pub row_some : (cells : List (KeptCell T M)) → 1 ≤ height cells
+  row_some cells = highest-more 1 cells
 
   none_higher : (n : ℕ) (cells : List (KeptCell T M)) → All (IsNoHigher (highest n cells)) cells
   none_higher n [] = All-nil (IsNoHigher n)

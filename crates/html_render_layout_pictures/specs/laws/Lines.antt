@@ -8,7 +8,7 @@ use Rattle.html_render_layout_lines.specs.Tags.{element_with, line_with, lines_w
 use Rattle.html_render_layout_lines.specs.Visible.{visible_in_line, visible_in_lines}
 use Rattle.html_render_layout_lines.specs.laws.Tags.{marks-with}
 use Rattle.html_render_layout_lines.specs.laws.Visible.{visible_in_line-append, visible_in_line-marks}
-use Rattle.html_render_layout_pictures.specs.Marked.{marked_behind}
+use Rattle.html_render_layout_buffer.specs.Marked.{marked_behind}
 use Rattle.html_render_layout_pictures.specs.Visible.{count}
 
 pub lines-append : {T M : Type 0} (ls ks : List (Line T M)) → visible_in_lines (ls ++ ks) ≡ visible_in_lines ls ++ visible_in_lines ks

@@ -10,11 +10,7 @@ use Rattle.html_render_layout_lines.specs.Visible.{is_visible, visible_in_line, 
 use Rattle.html_render_layout_lines.specs.laws.Tags.{columns-with}
 use Rattle.html_render_layout_lines.specs.laws.Visible.{visible_in_line-append}
 use Rattle.html_render_layout_lines.specs.laws.Columns.{columns-append, columns-cons, width-space}
-use Rattle.html_render_layout_pictures.specs.Padding.{repeated, filled}
-
--- a line with spaces behind it, under a tag, up to `width` columns
-abbrev pub filled_line : {T M : Type 0} → T → (width : ℕ) → Line T M → Line T M
-filled_line tag width l = l ++ repeated tag 0x20 (width - columns l)
+use Rattle.html_render_layout_buffer.specs.Padding.{repeated, filled_line, filled}
 
 -- ---- under whatever tags
 

@@ -2,7 +2,7 @@
 use Rattle.std.proofs.Common.{◌≡◌, ◌++◌, Bool, true, false, cond, Some, None, List, [], ◌∷◌, replicate, refl, sym, ap, ◌∙◌}
 use Rattle.std.proofs.lemmas.List.{append-nil, append_assoc}
 use Rattle.html_render_layout_lines.specs.Line.{Line}
-use Rattle.html_render_layout_pictures.specs.Marked.{marked_before}
+use Rattle.html_render_layout_buffer.specs.Marked.{marked_before}
 use Rattle.html_render_layout_pictures.specs.declared.picture.Frame.{Frame}
 use Rattle.html_render_layout_pictures.specs.Picture.{TableRow, is_drawn, waiting_in, separators_of, next_separators, left_waiting, border, row_lines}
 use Rattle.html_render_layout_pictures.specs.Picture.{rows_lines, has_top, picture}

@@ -7,8 +7,8 @@ use Rattle.html_render_layout_lines.specs.declared.line.Element.TheVariants.{Cha
 use Rattle.html_render_layout_lines.specs.Line.{Line, marks_line, is_empty}
 use Rattle.html_render_layout_lines.specs.Tags.{element_with, line_with, lines_with}
 use Rattle.html_render_layout_lines.specs.laws.Tags.{if_with, marks-with}
-use Rattle.html_render_layout_pictures.specs.Marked.{marked_before, marked_behind}
-use Rattle.html_render_layout_pictures.specs.Padding.{filled}
+use Rattle.html_render_layout_buffer.specs.Marked.{marked_before, marked_behind}
+use Rattle.html_render_layout_buffer.specs.Padding.{filled}
 use Rattle.html_render_layout_pictures.specs.laws.Lines.{marked_behind-with}
 use Rattle.html_render_layout_pictures.specs.laws.Padding.{filled-with}
 use Rattle.html_render_layout_pictures.specs.declared.picture.Frame.{Frame}

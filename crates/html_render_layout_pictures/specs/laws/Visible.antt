@@ -9,7 +9,7 @@ use Rattle.html_render_layout_lines.specs.Line.{Line, marks_line, is_empty}
 use Rattle.html_render_layout_lines.specs.Visible.{visible_in_line, visible_in_lines, if_visible}
 use Rattle.html_render_layout_lines.specs.laws.Cases.{if_cases}
 use Rattle.html_render_layout_lines.specs.laws.Visible.{visible_in_line-append, visible_in_line-marks}
-use Rattle.html_render_layout_pictures.specs.Marked.{marked_before, marked_behind}
+use Rattle.html_render_layout_buffer.specs.Marked.{marked_before, marked_behind}
 use Rattle.html_render_layout_pictures.specs.Visible.{count, visible_in_cells, visible_in_rows}
 use Rattle.html_render_layout_pictures.specs.laws.Lines.{lines-append, marked_behind_same, count-append}
 use Rattle.html_render_layout_pictures.specs.laws.Padding.{filled-visible}

@@ -10,14 +10,14 @@ use Rattle.html_render_layout_lines.specs.declared.line.Element.TheVariants.{Cha
 use Rattle.html_render_layout_lines.specs.Character.{width_of}
 use Rattle.html_render_layout_lines.specs.Line.{Line, columns, marks_line, AllWithinWidth}
 use Rattle.html_render_layout_lines.specs.laws.Columns.{columns-append, columns-cons, columns-marks, width-space}
-use Rattle.html_render_layout_pictures.specs.Marked.{marked_before, marked_behind}
-use Rattle.html_render_layout_pictures.specs.Padding.{repeated}
+use Rattle.html_render_layout_buffer.specs.Marked.{marked_before, marked_behind}
+use Rattle.html_render_layout_buffer.specs.Padding.{repeated, filled_line}
 use Rattle.html_render_layout_pictures.specs.declared.picture.Frame.{Frame}
 use Rattle.html_render_layout_pictures.specs.Picture.{KeptCell, TableRow, is_drawn, waiting_in, separators_of, next_separators}
 use Rattle.html_render_layout_pictures.specs.Picture.{joint, height, separator, has_top, border, cell_lines, beside, row_lines, rows_lines, picture_lines}
 use Rattle.html_render_layout_pictures.specs.Widths.{row_width, KeepsToWidth, RowWithin, AllAsWide}
 use Rattle.html_render_layout_pictures.specs.laws.Glyphs.{joint_width, separator_width}
-use Rattle.html_render_layout_pictures.specs.laws.Padding.{filled_line, repeated-columns}
+use Rattle.html_render_layout_pictures.specs.laws.Padding.{repeated-columns}
 use Rattle.html_render_layout_pictures.specs.laws.Heights.{IsNoHigher, row_highest, cell-height, beside-height}
 
 module _ {T M : Type 0} where

@@ -66,7 +66,7 @@ impl<D: TextDecorator> Config<D> {
             self.block(width),
             &self.settings,
         )?;
-        Ok(string_of(alloc, &lines)?)
+        Ok(string_of(lines)?)
     }
 
     /// Renders a tree as tagged lines, wrapped to `width` columns. A line's strings are the longest runs of characters whose

@@ -26,7 +26,7 @@ pub returns-clause-ok : goal.returns-clause-ok
 returns-clause-ok g c =
     IfOk-weaker c.untagged_lines_from.result _ _
     (λ lines e. unannotated-are-lines g.D.TextDecorator.decoration c.args.settings.now c.args.tree c.args.decorator.now c.args.block
-    lines.items (sym (works g c) ∙ e)) c.untagged_lines_from.ensures.ok
+    lines (sym (works g c) ∙ e)) c.untagged_lines_from.ensures.ok
 
 pub returns-clause-err : goal.returns-clause-err
 returns-clause-err g c = by c.untagged_lines_from.result c.untagged_lines_from.ensures.err

@@ -1,6 +1,6 @@
-use Rattle.std.proofs.Common.{◌≡◌, take}
-use Rattle.html_render_layout_pictures.specs.Picture as definition
+use Rattle.std.proofs.Common.{◌≡◌, fold, max, take}
+use Rattle.html_render_layout_pictures.specs.declared.cells.RowCell.{RowCell}
 use Rattle.html_render_layout_pictures.proofs.row.height.Given as goal
 
 abbrev pub invariant-loop-cell : goal.invariant-loop-cell
-invariant-loop-cell g l = l.height ≡ definition.height (take l.cell-index l.cells)
+invariant-loop-cell g l = l.height ≡ fold (λ h (c : RowCell g.row.M.Denot). max h c.count) 1 (take l.cell-index l.cells)

@@ -10,7 +10,7 @@ use Rattle.html_render_layout_tagged.proofs.grouping.tagged_lines.Given.{Over}
 -- the tagged lines, by the layout's definition
 answered : (g : Over) (c : goal.After-drop-layout-3 g) →
     IfOk c.all_tagged.result (λ made. lines_of made.items ≡ map (grouped (pointwise g.A.PartialEq.eq) c.args.layout.names) (laid_out c.args.layout))
-answered g c = rw (c.deref.ensures.value, c.as_slice.ensures) at c.all_tagged.ensures.ok
+answered g c = rw (c.in_ok-lines.ensures, c.as_slice.ensures) at c.all_tagged.ensures.ok
 
 pub returns-clause-ok : goal.returns-clause-ok
 returns-clause-ok g c = answered g c

@@ -11,8 +11,8 @@ unfolding operations
 returns-clause-ok g c =
     on_ok_weaker c.append_lines.result
     (λ e. append-is c.args.self.now c.flush.new.self c.args.sub.now c.flush_whole.new.self c.args.tag (chars c.args.first.now) (chars c.args.later.now)
-    c.in_ok-lines.lines.items c.as_slice.result.now c.in_ok-flush.ensures.ok c.in_ok-flush_whole.ensures.ok
-    (c.in_ok-lines.ensures ∙ c.take_lines.ensures.lines ∙ ap (λ (x : MachineBlock g.row.T.Denot g.row.M.Denot). x.lines) c.take_waiting-end.ensures.after)
+    c.sub.inside.lines c.as_slice.result.now c.in_ok-flush.ensures.ok c.in_ok-flush_whole.ensures.ok
+    (ap (λ (x : MachineBlock g.row.T.Denot g.row.M.Denot). x.lines) (c.sub.view_is ∙ c.take_waiting-end.ensures.after))
     (c.as_slice.ensures.value ∙ c.take_waiting-end.ensures.marks) ∙ e)
     c.append_lines.ensures.ok
 
@@ -22,7 +22,7 @@ returns-clause-err g c =
     IfErr-weaker c.append_lines.result _ _
     (λ e r. Refuses-same e _ _
     (append-is c.args.self.now c.flush.new.self c.args.sub.now c.flush_whole.new.self c.args.tag (chars c.args.first.now) (chars c.args.later.now)
-    c.in_ok-lines.lines.items c.as_slice.result.now c.in_ok-flush.ensures.ok c.in_ok-flush_whole.ensures.ok
-    (c.in_ok-lines.ensures ∙ c.take_lines.ensures.lines ∙ ap (λ (x : MachineBlock g.row.T.Denot g.row.M.Denot). x.lines) c.take_waiting-end.ensures.after)
+    c.sub.inside.lines c.as_slice.result.now c.in_ok-flush.ensures.ok c.in_ok-flush_whole.ensures.ok
+    (ap (λ (x : MachineBlock g.row.T.Denot g.row.M.Denot). x.lines) (c.sub.view_is ∙ c.take_waiting-end.ensures.after))
     (c.as_slice.ensures.value ∙ c.take_waiting-end.ensures.marks)) r)
     c.append_lines.ensures.err

@@ -8,5 +8,5 @@ use Rattle.html_render_layout_blocks.proofs.block.closing.closing_lines.Given as
 abbrev pub invariant-loop-text : goal.invariant-loop-text
 invariant-loop-text g l =
     closing_lines l.setting l.cut l.tag (map (λ t. chars (string_bytes t)) l.texts)
-    ≡ option_map (λ ls. l.lines.items ++ ls)
+    ≡ option_map (λ ls. l.lines ++ ls)
     (closing_lines l.setting l.cut l.tag (map (λ t. chars (string_bytes t)) (drop l.text-index l.texts)))

@@ -11,10 +11,10 @@ returns-then-place-clause-ahead g c =
 pub returns-then-place-clause-cells : goal.returns-then-place-clause-cells
 returns-then-place-clause-cells g c =
     sym (c.loop-place.invariant.cells
-    ∙ ap (λ cs. c.loop-place.cells.items ++ cs)
+    ∙ ap (λ cs. c.loop-place.cells ++ cs)
     (before-reversed {T = g.row.T.Denot} {M = g.row.M.Denot} c.loop-place.ahead.items c.pop.new.self.items c.in-Some.place true
     c.in-Some.ensures.items c.if-place.true)
-    ∙ append-nil c.loop-place.cells.items)
+    ∙ append-nil c.loop-place.cells)
 
 pub loop-place-preserved : goal.loop-place-preserved
 loop-place-preserved g c =
@@ -23,9 +23,9 @@ loop-place-preserved g c =
       ahead = c.loop-place.invariant.ahead
           ∙ behind-reversed c.loop-place.ahead.items c.pop.new.self.items c.in-Some.place false c.in-Some.ensures.items c.if-place.false;
       cells = c.loop-place.invariant.cells
-          ∙ ap (λ cs. c.loop-place.cells.items ++ cs)
+          ∙ ap (λ cs. c.loop-place.cells ++ cs)
           (before-reversed {T = g.row.T.Denot} {M = g.row.M.Denot} c.loop-place.ahead.items c.pop.new.self.items c.in-Some.place false
           c.in-Some.ensures.items c.if-place.false)
-          ∙ sym (append_assoc c.loop-place.cells.items (empty_cell c.in-Some.place.width) left)
+          ∙ sym (append_assoc c.loop-place.cells (empty_cell c.in-Some.place.width) left)
           ∙ ap (λ cs. cs ++ left) (sym c.in_ok-push_empty.ensures);
     }

@@ -7,8 +7,8 @@ abbrev pub invariant-loop-place : goal.invariant-loop-place
 invariant-loop-place g l = record {
   ahead : drop (suc (length (before_cell (reverse l.initial.ahead.items)))) (reverse l.initial.ahead.items)
       ≡ drop (suc (length (before_cell (reverse l.ahead.items)))) (reverse l.ahead.items);
-  cells : l.initial.cells.items ++ empty_cells (before_cell (reverse l.initial.ahead.items))
-      ≡ l.cells.items ++ empty_cells (before_cell (reverse l.ahead.items));
+  cells : l.initial.cells ++ empty_cells (before_cell (reverse l.initial.ahead.items))
+      ≡ l.cells ++ empty_cells (before_cell (reverse l.ahead.items));
 }
 
 abbrev pub decreases-loop-place : goal.decreases-loop-place

@@ -4,4 +4,4 @@ use Rattle.html_render_layout_blocks.proofs.block.rows.push_rest.Given as goal
 
 -- The cells end with the empty cells of the places so far.
 abbrev pub invariant-loop-place : goal.invariant-loop-place
-invariant-loop-place g l = l.cells.items ≡ l.fn.cells.items ++ empty_cells (map (λ p. p.now) l.yielded)
+invariant-loop-place g l = l.cells ≡ l.fn.cells ++ empty_cells (map (λ p. p.now) l.yielded)

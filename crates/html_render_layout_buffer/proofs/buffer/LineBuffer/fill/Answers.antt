@@ -1,5 +1,4 @@
 use Rattle.std.proofs.Common.{rules, ◌≡◌, ◌≤◌, [], sym, ap, ◌∙◌}
-use Rattle.html_render_layout_buffer.specs.Lines.{BufferedLines}
 use Rattle.html_render_layout_buffer.proofs.PieceLines.{wide_filled}
 use Rattle.html_render_layout_buffer.proofs.buffer.LineBuffer.fill.Goals as goal
 

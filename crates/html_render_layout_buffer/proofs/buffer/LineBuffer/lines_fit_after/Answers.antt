@@ -1,4 +1,4 @@
-use Rattle.std.proofs.Common.{rules, ◌≡◌, ◌<◌, ◌+◌, ◌∙◌, [], nat_le, true, false, length, get_or, sym, arith}
+use Rattle.std.proofs.Common.{rules, ◌≡◌, ◌+◌, ◌∙◌, [], nat_le, true, false, sym, arith}
 use Rattle.html_render_layout_lines.specs.Line.{columns}
 use Rattle.html_render_layout_buffer.proofs.PieceLines.{all-more, fails-at}
 use Rattle.html_render_layout_buffer.proofs.buffer.LineBuffer.lines_fit_after.Goals as goal

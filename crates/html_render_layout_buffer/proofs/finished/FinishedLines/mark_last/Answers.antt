@@ -1,4 +1,4 @@
-use Rattle.std.proofs.Common.{rules, ◌≡◌, ◌<◌, [], ◌++◌, length, append-nil, sym, ap, ◌∙◌}
+use Rattle.std.proofs.Common.{rules, ◌≡◌, ◌<◌, ◌++◌, length, sym, ap, ◌∙◌}
 use Rattle.std.proofs.lemmas.List.{nil_from_length}
 use Rattle.std.proofs.lemmas.Result.{on_ok_weaker}
 use Rattle.html_render_layout_buffer.specs.Marked.{marked_behind}
@@ -19,15 +19,3 @@ returns-then-line_count-gt0 g c =
     on_ok_weaker c.mark_last.result
     (λ e. ap (λ q. first ++ q.lines) e ∙ sym (marked-behind ms first last some) ∙ ap (λ y. marked_behind ms y) c.self.view_is)
     c.mark_last.ensures.ok
-
-pub returns-in_ok-push : goal.returns-in_ok-push
-returns-in_ok-push g c =
-    let ms = c.args.marks.now in
-    let first = c.self.inside.pieces in
-    let rest = c.pop_last.new.self in
-    let piece = c.in-Some.piece in
-    let few : length c.self.inside.last.lines ≡ 0 = search rules in
-    let none : c.self.inside.last.lines ≡ [] = nil_from_length c.self.inside.last.lines few in
-    let whole : c.args.self.now ≡ rest ++ piece = sym c.self.view_is ∙ ap (λ y. first ++ y) none ∙ append-nil first ∙ c.in-Some.ensures.some in
-    ap (λ y. c.push.new.self ++ y) none ∙ append-nil c.push.new.self ∙ c.in_ok-push.ensures ∙ ap (λ y. rest ++ y) c.in_ok-marked_last.ensures
-    ∙ sym (marked-behind ms rest piece c.in-Some.ensures.filled) ∙ ap (λ y. marked_behind ms y) (sym whole)

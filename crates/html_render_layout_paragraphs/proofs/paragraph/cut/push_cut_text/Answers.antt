@@ -10,9 +10,9 @@ use Rattle.html_render_layout_paragraphs.proofs.paragraph.cut.push_cut_text.Goal
 pub returns-clause-ok : goal.returns-clause-ok
 returns-clause-ok g c =
     subst (λ (q : State g.row.T.Denot g.row.M.Denot).
-    OnOk c.cut_text.result (option_map (λ (cut : List (Line g.row.T.Denot g.row.M.Denot)). c.args.lines.now.items ++ cut)
+    OnOk c.cut_text.result (option_map (λ (cut : List (Line g.row.T.Denot g.row.M.Denot)). c.args.lines.now ++ cut)
     (option_map (λ (p : LineBuffer g.row.T.Denot g.row.M.Denot). p.lines ++ p.line ∷ [])
-    (put_items q.setting q.page (styled (kept_style c.args.tag) (chars c.args.text.now)))) ≡ Some c.cut_text.new.lines.items))
+    (put_items q.setting q.page (styled (kept_style c.args.tag) (chars c.args.text.now)))) ≡ Some c.cut_text.new.lines))
     c.new-paragraph.ensures c.cut_text.ensures.ok
 
 pub returns-clause-err : goal.returns-clause-err

@@ -18,10 +18,11 @@ loop-drawn-preserved g c =
     let ea = c.loop-drawn.invariant.above c.loop-drawn-test.true in
     let eb = c.loop-drawn.invariant.below c.loop-drawn-test.true in
     record {
+      lines = c.in_ok-piece.ensures.lines ∙ c.loop-drawn.invariant.lines;
       line = c.in_ok-piece.ensures.drawn
           ∙ ap (λ l. l ++ piece) c.loop-drawn.invariant.line
-          ∙ append_assoc c.args.line.now before piece
-          ∙ ap (λ l. c.args.line.now ++ l) (piece-behind g.row.M.Denot c.args.self.now above below up down at n ea eb);
+          ∙ append_assoc c.args.to.now.line before piece
+          ∙ ap (λ l. c.args.to.now.line ++ l) (piece-behind g.row.M.Denot c.args.self.now above below up down at n ea eb);
       within = omega (arith, c.in_ok-piece.ensures.within, c.loop-drawn-test.true);
       above = λ h. places-behind above up _ at n ea (c.in_ok-piece.ensures.above (omega (arith, h)));
       below = λ h. places-behind below down _ at n eb (c.in_ok-piece.ensures.below (omega (arith, h)));

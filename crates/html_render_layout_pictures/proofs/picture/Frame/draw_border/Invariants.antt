@@ -9,7 +9,8 @@ invariant-loop-drawn g l =
     let above = separators_from l.initial.above.blank l.initial.above.others.now in
     let below = separators_from l.initial.below.blank l.initial.below.others.now in
     record {
-      line : l.line ≡ l.initial.line ++ map (joint_at g.row.M.Denot l.self above below) (range_with_len 0 l.drawn);
+      lines : l.to.lines ≡ l.initial.to.lines;
+      line : l.to.line ≡ l.initial.to.line ++ map (joint_at g.row.M.Denot l.self above below) (range_with_len 0 l.drawn);
       within : l.drawn ≤ l.width;
       above : l.drawn < l.width → (j : ℕ) → get_or (separators_from l.above.blank l.above.others.now) j false ≡ get_or above (l.drawn + j) false;
       below : l.drawn < l.width → (j : ℕ) → get_or (separators_from l.below.blank l.below.others.now) j false ≡ get_or below (l.drawn + j) false;

@@ -2,7 +2,8 @@ use Rattle.std.proofs.Common.{◌++◌, ◌∷◌, [], ◌≤◌, append_assoc, 
 use Rattle.html_render_layout_pictures.specs.declared.borders.TheConstants.{BORDERS}
 use Rattle.html_render_layout_lines.specs.declared.line.Element.TheVariants.{Character}
 use Rattle.html_render_layout_lines.specs.Line.{Line}
-use Rattle.html_render_layout_pictures.specs.Padding.{repeated}
+use Rattle.html_render_layout_buffer.specs.Lines.{BufferedLines}
+use Rattle.html_render_layout_buffer.specs.Padding.{repeated}
 use Rattle.html_render_layout_pictures.specs.Picture.{joint}
 use Rattle.html_render_layout_pictures.specs.Separators.{blank_before}
 use Rattle.html_render_layout_pictures.proofs.Separators.{dashes-drawn, piece-drawn}
@@ -15,9 +16,9 @@ returns-then-dashes-most-clause-drawn g c =
     let tag = c.args.self.now.tag in
     let ha : c.args.most ≤ blank_before above.blank above.others.now = omega arith in
     let hb : c.args.most ≤ blank_before below.blank below.others.now = omega arith in
-    c.in_ok-push_fillers.ensures
-    ∙ ap (λ n. c.args.line.now ++ repeated tag BORDERS.line n) c.if-dashes-most.true
-    ∙ ap (λ l. c.args.line.now ++ l)
+    ap (λ (b : BufferedLines g.row.T.Denot g.row.M.Denot). b.line) c.in_ok-push_fillers.ensures
+    ∙ ap (λ n. c.args.to.now.line ++ repeated tag BORDERS.line n) c.if-dashes-most.true
+    ∙ ap (λ l. c.args.to.now.line ++ l)
     (sym (dashes-drawn g.row.M.Denot c.args.self.now above.blank above.others.now below.blank below.others.now c.args.most ha hb))
 
 pub returns-clause-drawn : goal.returns-clause-drawn
@@ -29,9 +30,9 @@ returns-clause-drawn g c =
     let ha : n ≤ blank_before above.blank above.others.now = omega arith in
     let hb : n ≤ blank_before below.blank below.others.now = omega arith in
     let sign : Line g.row.T.Denot g.row.M.Denot = Character (joint c.pass-up.result c.pass-down.result) tag ∷ [] in
-    c.in_ok-draw_joint.ensures
-    ∙ ap (λ l. l ++ sign) c.in_ok-push_fillers.ensures
-    ∙ append_assoc c.args.line.now (repeated tag BORDERS.line n) sign
-    ∙ ap (λ l. c.args.line.now ++ l)
+    ap (λ (b : BufferedLines g.row.T.Denot g.row.M.Denot). b.line) c.in_ok-draw_joint.ensures
+    ∙ ap (λ (b : BufferedLines g.row.T.Denot g.row.M.Denot). b.line ++ sign) c.in_ok-push_fillers.ensures
+    ∙ append_assoc c.args.to.now.line (repeated tag BORDERS.line n) sign
+    ∙ ap (λ l. c.args.to.now.line ++ l)
     (sym (piece-drawn g.row.M.Denot c.args.self.now above.blank above.others.now below.blank below.others.now n c.pass-up.result c.pass-down.result
     ha hb c.pass-up.ensures.here c.pass-down.ensures.here))

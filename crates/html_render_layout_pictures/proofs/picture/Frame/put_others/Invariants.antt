@@ -1,13 +1,16 @@
-use Rattle.std.proofs.Common.{◌≡◌, ◌++◌, ◌∷◌, take}
-use Rattle.std.specs.List.{flat_map}
-use Rattle.html_render_layout_pictures.specs.Padding.{repeated}
-use Rattle.html_render_layout_pictures.specs.Picture.{KeptCell, separator}
-use Rattle.html_render_layout_pictures.specs.Rows.{filled_at}
+use Rattle.std.proofs.Common.{◌≡◌, ◌+◌, ◌≤◌, ◌++◌, length, drop}
+use Rattle.html_render_layout_buffer.specs.Padding.{repeated}
+use Rattle.html_render_layout_pictures.specs.RowCells.{cells_of, line_total}
+use Rattle.html_render_layout_pictures.specs.Rows.{cells_behind}
 use Rattle.html_render_layout_pictures.proofs.picture.Frame.put_others.Given as goal
 
--- with the spaces that are missing the line has what the cells so far put on it
+-- the open line with the spaces that are missing, and what the cells that are left have on it
 abbrev pub invariant-loop-cell : goal.invariant-loop-cell
-invariant-loop-cell g l =
-    l.line ++ repeated l.self.tag 0x20 l.missing
-    ≡ (l.initial.line ++ repeated l.self.tag 0x20 l.initial.missing)
-    ++ flat_map (λ (d : KeptCell g.row.T.Denot g.row.M.Denot). separator l.self ∷ filled_at l.self.tag l.number d) (take l.cell-index l.others)
+invariant-loop-cell g l = record {
+  lines : l.to.lines ≡ l.initial.to.lines;
+  line : (l.to.line ++ repeated l.self.tag 0x20 l.missing)
+      ++ cells_behind l.self l.line.number (cells_of (drop l.cell-index l.others) (drop l.start l.line.lines.now.lines))
+      ≡ (l.initial.to.line ++ repeated l.self.tag 0x20 l.fn.missing)
+      ++ cells_behind l.self l.line.number (cells_of l.others (drop l.fn.start l.line.lines.now.lines));
+  within : l.start + line_total (drop l.cell-index l.others) ≤ length l.line.lines.now.lines;
+}

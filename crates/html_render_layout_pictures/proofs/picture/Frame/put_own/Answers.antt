@@ -1,13 +1,21 @@
-use Rattle.std.proofs.Common.{◌++◌, ◌-◌, replicate, ap, ◌∙◌}
-use Rattle.html_render_layout_lines.specs.Line.{Line, columns}
+use Rattle.std.proofs.Common.{◌++◌, drop, ap, ◌∙◌}
 use Rattle.html_render_layout_lines.specs.TaggedText.{under}
-use Rattle.html_render_layout_pictures.proofs.Blanks.{own_put}
+use Rattle.html_render_layout_pictures.specs.Blank.{BlankText}
+use Rattle.html_render_layout_buffer.specs.Lines.{BufferedLines}
+use Rattle.html_render_layout_pictures.specs.Rows.{marked_cell, filled_at}
+use Rattle.html_render_layout_pictures.specs.RowCells.{cell_at}
+use Rattle.html_render_layout_pictures.specs.laws.Fillers.{under-replicate}
 use Rattle.html_render_layout_pictures.proofs.picture.Frame.put_own.Goals as goal
 
 pub returns-clause-line : goal.returns-clause-line
 returns-clause-line g c =
-    let start : Line g.row.T.Denot g.row.M.Denot = c.args.line.now ++ under c.args.self.now.tag c.args.blank.now.due in
-    ap (λ l. l ++ under c.args.self.now.tag c.pass_all_but.new.self.due)
-    (c.in_ok-append.ensures.ok ∙ ap (λ l. l ++ c.args.own.now) c.in_ok-put.ensures.line)
-    ∙ own_put c.args.self.now.tag start c.args.own.now (c.args.width - columns c.args.own.now) c.pass_all_but.new.self.due
-    (ap (λ p. p.due) c.pass_all_but.ensures ∙ ap (λ n. replicate n 0x20) c.missing.ensures)
+    let tag = c.args.self.now.tag in
+    let to = c.put_cell.new.to in
+    let n = c.in_ok-missing.missing in
+    ap (λ (b : BlankText). record { lines = to.lines; line = to.line ++ under tag b.due }) c.pass_all_but.ensures
+    ∙ ap (λ l. record { lines = to.lines; line = to.line ++ l }) (under-replicate g.row.M.Denot tag 0x20 n)
+    ∙ c.in_ok-missing.ensures.put
+    ∙ ap (λ (b : BufferedLines g.row.T.Denot g.row.M.Denot). record {
+      lines = b.lines;
+      line = b.line ++ filled_at tag c.args.line.now.number (marked_cell (cell_at c.args.cell.now (drop c.args.start c.args.line.now.lines.now.lines)));
+    }) c.in_ok-put.ensures.line

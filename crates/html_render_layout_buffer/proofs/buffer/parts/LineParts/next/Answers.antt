@@ -1,4 +1,4 @@
-use Rattle.std.proofs.Common.{◌≡◌, ◌+◌, ◌-◌, ◌<◌, ◌≤◌, ◌∷◌, take, drop, length, replicate, sym, ap, ◌∙◌, subst, arith}
+use Rattle.std.proofs.Common.{◌≡◌, ◌+◌, ◌-◌, ◌<◌, ◌∷◌, take, drop, length, replicate, sym, ap, ◌∙◌, subst, arith}
 use Rattle.html_render_layout_lines.specs.declared.line.Element.TheVariants as element
 use Rattle.html_render_layout_buffer.specs.declared.slot.Slot.TheVariants as slot
 use Rattle.html_render_layout_buffer.specs.Fields.{line_slots}

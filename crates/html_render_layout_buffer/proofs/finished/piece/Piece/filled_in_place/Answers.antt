@@ -1,4 +1,4 @@
-use Rattle.std.proofs.Common.{◌≡◌, ◌+◌, ◌-◌, ◌++◌, ◌∷◌, [], Some, length, get_or, reverse, sym, ap, ◌∙◌}
+use Rattle.std.proofs.Common.{◌≡◌, ◌+◌, ◌-◌, ◌++◌, ◌∷◌, [], Some, length, reverse, sym, ap, ◌∙◌}
 use Rattle.html_render_layout_lines.specs.Line.{columns}
 use Rattle.html_render_layout_lines.specs.laws.Columns.{columns-append}
 use Rattle.html_render_layout_buffer.specs.Padding.{filled}

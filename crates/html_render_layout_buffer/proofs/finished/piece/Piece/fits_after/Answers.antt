@@ -1,4 +1,4 @@
-use Rattle.std.proofs.Common.{◌≡◌, ◌+◌, ◌&&◌, nat_le, true, false, [], drop, get_or, reverse, sym, ap, ◌∙◌}
+use Rattle.std.proofs.Common.{◌+◌, ◌&&◌, nat_le, drop, reverse, sym, ap, ◌∙◌}
 use Rattle.std.specs.List.{list_all}
 use Rattle.html_render_layout_lines.specs.Line.{columns}
 use Rattle.html_render_layout_buffer.specs.Pieces.{fits_after}

@@ -1,20 +1,15 @@
-use Rattle.std.proofs.Common.{◌≡◌, ◌≤◌, sym, ap, ◌∙◌, subst, arith}
-use Rattle.html_render_layout_buffer.specs.Pieces.{lines_of, AllAtLeast}
-use Rattle.html_render_layout_buffer.proofs.PieceLines.{least-fewer, least-both, lines_of-end}
+use Rattle.std.proofs.Common.{◌≡◌, ◌+◌, ◌++◌, length, ap, ◌∙◌, subst, arith, length-append}
+use Rattle.html_render_layout_buffer.specs.Pieces.{lines_of, IsCount}
+use Rattle.html_render_layout_buffer.proofs.PieceLines.{lines_of-end}
+use Rattle.html_render_layout_buffer.proofs.KnownPieces.{known-pushed}
 use Rattle.html_render_layout_buffer.proofs.finished.pieces.Pieces.push.Goals as goal
-
-pub invariant_of-self : goal.invariant_of-self
-invariant_of-self g c =
-    let n = c.min-self-inside.result in
-    let fewer : n ≤ c.self.inside.least = omega (arith, c.min-self-inside.ensures) in
-    subst (λ y. AllAtLeast n (lines_of y)) (sym c.in_err-push_back.ensures.items)
-    (least-fewer c.self.inside.least n (lines_of c.self.inside.pieces.items) c.self.invariant fewer)
 
 pub invariant_of-self-2 : goal.invariant_of-self-2
 invariant_of-self-2 g c =
-    let n = c.min-self-inside.result in
     let old = c.self.inside.pieces.items in
-    let fewer : n ≤ c.self.inside.least = omega (arith, c.min-self-inside.ensures) in
-    let own : n ≤ c.least.result = omega (arith, c.min-self-inside.ensures) in
-    subst (λ y. AllAtLeast n y) (sym (ap (λ y. lines_of y) c.in_ok-push_back.ensures.items ∙ lines_of-end old c.args.piece))
-    (least-both n c.self.inside.least c.least.result (lines_of old) c.args.piece c.self.invariant c.least.ensures fewer own)
+    let new = c.push_back.new.self.items in
+    let all : lines_of new ≡ lines_of old ++ c.args.piece = ap (λ y. lines_of y) c.in_ok-push_back.ensures.items ∙ lines_of-end old c.args.piece in
+    let count : length (lines_of old) + c.line_count.result ≡ length (lines_of new) =
+    omega (arith, c.line_count.ensures, ap length all, length-append (lines_of old) c.args.piece) in
+    known-pushed c.self.inside.known old new c.args.piece c.in_ok-back.back c.more_lines-count.result c.self.invariant c.in_ok-push_back.ensures.items
+    c.in_ok-back.ensures (subst (λ k. IsCount c.more_lines-count.result k) count (c.more_lines-count.ensures (length (lines_of old)) c.self.invariant.counts))
