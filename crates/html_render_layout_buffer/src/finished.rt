@@ -129,6 +129,16 @@ impl<T: Tag, M: Copy> FinishedLines<T, M> {
         Ok(())
     }
 
+    /// Moves the last lines out. They have the memory that further lines are best written to.
+    #[inline]
+    pub fn take_last(&mut self) -> LineBuffer<T, M>
+        ensures lines { self.old ≡ self.new ++ result.lines }
+        ensures open { result.line ≡ [] }
+    {
+        let none = LineBuffer::new(self.last.alloc());
+        mem::replace(&mut self.last, none)
+    }
+
     /// Moves the lines of a buffer, whose open line must be empty, to the end.
     ///
     /// # Errors

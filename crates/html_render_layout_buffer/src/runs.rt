@@ -172,6 +172,9 @@ impl<T: Tag> TagRuns<T> {
         ensures { OnOk result (self.new ≡ self.old ++ drop from (take to other.now)) }
     {
         let runs = other.closed.as_slice();
+        if runs.is_empty() {
+            return self.push_last(other.tag, to - from);
+        }
         let first = first_after(runs, from);
         self.push_runs(&runs[first..], other.tag, from, to)
     }

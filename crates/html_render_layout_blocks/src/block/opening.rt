@@ -16,7 +16,6 @@ use super::Block;
 use super::rows::Widths;
 use super::tables::OpenTable;
 use html_render_dom_values::Error;
-use html_render_layout_buffer::buffer::LineBuffer;
 use html_render_layout_lines::tag::Tag;
 use html_render_layout_pictures::gaps::{Filler, push_fillers};
 use html_render_layout_pictures::picture::{Frame, Picture};
@@ -86,11 +85,11 @@ impl<T: Tag, M: Copy> Block<T, M> {
             return Ok(());
         };
         let marks = self.take_waiting();
-        let mut line = LineBuffer::new(self.alloc);
-        line.push_marks(marks.as_slice())?;
-        push_fillers(&mut line, filler, self.setting.width, tag)?;
-        line.end_line()?;
-        self.lines.append_buffer(&mut line)
+        let mut last = self.lines.take_last();
+        last.push_marks(marks.as_slice())?;
+        push_fillers(&mut last, filler, self.setting.width, tag)?;
+        last.end_line()?;
+        self.lines.append_buffer(&mut last)
     }
 
     /// Makes a stacked table the open one.
@@ -101,11 +100,12 @@ impl<T: Tag, M: Copy> Block<T, M> {
     ) -> Result<(), AllocError>
         ensures { OnOk result (self.new ≡ record self.old { table = Some (Stacked border has_lines) }) }
     {
-        let stacked = OpenTable::Stacked { border, has_lines };
-        match &mut self.table {
-            Some(table) => **table = stacked,
-            None => self.table = Some(Box::new(self.alloc, stacked)?),
+        if let Some(table) = &mut self.table {
+            table.become_stacked(border, has_lines);
+            return Ok(());
         }
+        let stacked = OpenTable::Stacked { border, has_lines };
+        self.table = Some(Box::new(self.alloc, stacked)?);
         Ok(())
     }
 

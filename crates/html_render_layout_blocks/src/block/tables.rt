@@ -3,6 +3,7 @@
 ghost use Rattle.std.specs.Prelude.{◌≡◌, ◌++◌, Some, None, OnOk, IfOk, IfErr, option_map};
 ghost use Rattle.html_render_dom_values.specs.Outcome.{OnlyOutOfMemory, Refuses};
 ghost use Rattle.html_render_layout_pictures.specs.Picture.{TableRow};
+ghost use Rattle.html_render_layout_blocks.specs.declared.block.tables.OpenTable.TheVariants.{Stacked};
 ghost use Rattle.html_render_layout_blocks.specs.Tables.{with_open, with_ahead};
 ghost use Rattle.html_render_layout_blocks.specs.Block as block;
 ghost use Rattle.html_render_layout_blocks.specs.Block.{mark_items};
@@ -39,6 +40,23 @@ pub enum OpenTable<P, T, M> {
         /// Whether a cell of the row has lines.
         has_lines: bool,
     },
+}
+
+impl<T: Tag, M: Copy> OpenTable<Picture<T, M>, T, M> {
+    /// Makes this a stacked table. One that is stacked already is changed in place.
+    pub(super) fn become_stacked(&mut self, new_border: Option<T>, new_has_lines: bool)
+        ensures { self.new ≡ Stacked new_border new_has_lines }
+    {
+        if let OpenTable::Stacked { border, has_lines } = self {
+            *border = new_border;
+            *has_lines = new_has_lines;
+            return;
+        }
+        *self = OpenTable::Stacked {
+            border: new_border,
+            has_lines: new_has_lines,
+        };
+    }
 }
 
 /// Adds the open row to a picture, if there is one.

@@ -19,6 +19,9 @@ use html_render_layout_lines::tag::Tag;
 use std::alloc::AllocError;
 use std::mem;
 
+/// A text of at most so many bytes is copied to a buffer without memory.
+const FEW: usize = 1024;
+
 impl<T: Tag, M: Copy> LineBuffer<T, M> {
     /// Appends copies of another buffer's lines. Its open line becomes the open line.
     ///
@@ -168,6 +171,12 @@ impl<T: Tag, M: Copy> LineBuffer<T, M> {
         Ok(())
     }
 
+    /// Reports whether the memory of this buffer is large enough for another one's text, or that is too long to be copied.
+    fn is_as_large(&self, other: &LineBuffer<T, M>) -> bool {
+        let bytes = other.byte_count();
+        self.text.capacity() >= bytes || bytes > FEW
+    }
+
     /// Moves another buffer's lines to the end of this one. Its open line becomes the open line.
     ///
     /// Takes the other buffer's memory where this one has no lines.
@@ -182,7 +191,7 @@ impl<T: Tag, M: Copy> LineBuffer<T, M> {
         ensures err { OnErr result (self.new ≡ no_lines) }
         ensures kept { OnErr result (other.new ≡ other.old) }
     {
-        if self.line_count() == 0 {
+        if self.line_count() == 0 && self.is_as_large(other) {
             mem::swap(self, other);
             return Ok(());
         }

@@ -64,7 +64,7 @@ impl<T: Tag, M: Copy> LineBuffer<T, M> {
         requires { n < length self.now.lines }
         ensures { result ≡ counted (columns (slice_index_or self.now.lines n [])) }
     {
-        self.stored_line(n).columns
+        columns_at(self.ends.as_slice(), n)
     }
 }
 
