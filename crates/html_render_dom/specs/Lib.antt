@@ -10,6 +10,8 @@ pub mod Moves
 pub mod Attributes
 pub mod ElementStyle
 pub mod RuleIndex
+-- scripts and the documents that they build
+pub mod script
 -- definitions for private functions
 pub mod Frames
 -- laws of these definitions

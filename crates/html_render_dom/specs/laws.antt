@@ -2,3 +2,4 @@ pub mod Forests
 pub mod Changes
 pub mod Members
 pub mod Trees
+pub mod script

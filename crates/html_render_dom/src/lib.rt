@@ -1,7 +1,9 @@
-//! The document object model (DOM), from which render trees are converted, and the computed styles of its elements.
+//! The document object model (DOM), from which render trees are converted, the computed styles of its elements, and documents
+//! that scripts build.
 #![tactic(auto)]
 
 pub mod dom;
+pub mod script;
 pub mod style;
 
 pub use html_render_dom_values::{Error, text};

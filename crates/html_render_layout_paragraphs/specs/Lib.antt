@@ -1,5 +1,7 @@
 -- The definition of a paragraph.
 pub mod Paragraph
+-- The meaning of a paragraph's lines: a definition that places nothing.
+pub mod Meaning
 -- The machine of a paragraph, which is fed character by character.
 pub mod Stream
 -- The open word.

@@ -20,3 +20,5 @@ pub mod Visible
 pub mod Tags
 -- Texts that are cut where lines are full.
 pub mod CutText
+-- The lines that place nothing are the placed lines.
+pub mod meaning

@@ -9,6 +9,8 @@ ghost use Rattle.html_render_layout_lines.specs.TaggedText.{under};
 ghost use Rattle.html_render_layout_lines.specs.Visible.{visible_in_items, visible_in_lines};
 ghost use Rattle.html_render_layout_lines.specs.declared.character.Item.{Item};
 
+mod meaning;
+
 /// States that the lines have exactly the visible characters that were fed, in order: none is lost, and none is added.
 /// This holds for each width, with overflow on and off, unless the paragraph is too narrow.
 #[tactic(auto, using(crate::specs::laws::Visible::paragraph_keeps))]

@@ -5,8 +5,8 @@ use Rattle.std.specs.declared.io.ErrorKind.{ErrorKind}
 use Rattle.std.specs.declared.io.ErrorKind.TheVariants as kind
 use Rattle.html_render_dom_values.specs.Outcome as refusal
 use Rattle.html_render_dom_values.specs.declared.errors.Error.TheVariants as error
-use Rattle.html_render_tree_scripts.specs.declared.building.ScriptError.{ScriptError}
-use Rattle.html_render_tree_scripts.specs.declared.building.ScriptError.TheVariants as script
+use Rattle.html_render_dom.specs.declared.script.building.ScriptError.{ScriptError}
+use Rattle.html_render_dom.specs.declared.script.building.ScriptError.TheVariants as script
 use Rattle.html_render_tree.specs.declared.htree.faults.Fault.{Fault}
 use Rattle.html_render_tree.specs.declared.htree.faults.Fault.TheVariants.{Refused, Arguments, Line, Input, Output}
 

@@ -17,7 +17,7 @@ pub mod laws
 -- documents, for callers that keep handles
 pub use Rattle.html_render_dom.specs.Dom
 -- documents that the calls of a script build
-pub use Rattle.html_render_tree_scripts.specs.Scripts
+pub use Rattle.html_render_dom.specs.script.Scripts
 -- the render tree that a document becomes
 pub use Rattle.html_render_tree_mapping.specs.Tables
 pub use Rattle.html_render_tree_mapping.specs.Conversion

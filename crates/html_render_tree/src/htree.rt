@@ -13,7 +13,7 @@ ghost use Rattle.html_render_tree.specs.Words.{settings_of};
 
 use faults::Fault;
 use html_render_dom::dom::RcDom;
-use html_render_tree_scripts::building::built;
+use html_render_dom::script::built;
 use std::alloc::Global;
 use std::io;
 use std::io::{Read, Write};

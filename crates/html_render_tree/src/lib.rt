@@ -22,5 +22,5 @@ pub mod table {
 
 /// Documents that scripts build. Each line of a script is a call on a DOM.
 pub mod script {
-    pub use html_render_tree_scripts::building::{ScriptError, built};
+    pub use html_render_dom::script::{ScriptError, built};
 }

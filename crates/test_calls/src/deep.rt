@@ -1,6 +1,6 @@
 //! Calls on deep documents: dumps and paths.
 
-use html_render_tree_scripts::building::built;
+use html_render_dom::script::built;
 use std::alloc::{AllocError, Global};
 use std::test::Fail;
 

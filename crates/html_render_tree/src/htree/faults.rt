@@ -5,7 +5,7 @@ ghost use Rattle.std.specs.IoError.{error_kind};
 ghost use Rattle.html_render_tree.specs.Faults.{fault_message, read_fault, exit_status, words_fault};
 
 use html_render_dom::Error;
-use html_render_tree_scripts::building::ScriptError;
+use html_render_dom::script::ScriptError;
 use std::io::ErrorKind;
 use std::{fmt, io};
 

@@ -1,0 +1,13 @@
+use Rattle.std.proofs.Common.{ℕ, List, None, sym, lit<}
+use Rattle.std.proofs.lemmas.Str.Pattern.{strip_prefix_char}
+use Rattle.html_render_dom.specs.laws.script.Calls.{call-none}
+use Rattle.html_render_dom.proofs.script.calls.Call.read.Goals as goal
+
+pub returns-in-None : goal.returns-in-None
+returns-in-None c =
+    let line : List ℕ = c.args.line.now in
+    sym (call-none line
+    (strip_prefix_char 60 line None c.in_default.ensures.cases (lit< tt))
+    (strip_prefix_char 62 line None c.in_default-strip_prefix.ensures.cases (lit< tt))
+    (strip_prefix_char 64 line None c.in_default-strip_prefix-2.ensures.cases (lit< tt))
+    (strip_prefix_char 33 line None c.in-None.ensures.cases (lit< tt)))

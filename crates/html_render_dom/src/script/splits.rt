@@ -1,0 +1,119 @@
+//! Parts of a script: its lines, and the texts around a byte.
+
+ghost use Rattle.std.specs.Prelude.{◌≡◌, ◌==◌, ◌<◌, ◌-◌, ◌∷◌, ◌++◌, [], length, take, drop, true, MatchOption};
+ghost use Rattle.std.specs.List.{after_first, before_first, position_or_len};
+ghost use Rattle.std.specs.Str.Lines.{lines, strip_carriage_return};
+ghost use Rattle.html_render_dom.specs.script.Plain.{Lacks};
+
+use memchr::memchr;
+use std::marker::Model;
+
+/// Returns the text before the first byte with this value, which is an ASCII character, and the text after that byte; `None`
+/// if there is no such byte.
+#[inline(always)]
+pub fn split_at_byte(byte: u8, text: &str) -> Option<(&str, &str)>
+    requires { byte < 128 }
+    ensures { MatchOption result (position_or_len (λ b. b == byte) text.now ≡ length text.now)
+        (λ x. (position_or_len (λ b. b == byte) text.now < length text.now) × (x.0.now ≡ before_first (λ b. b == byte) text.now)
+        × (x.1.now ≡ after_first (λ b. b == byte) text.now)) }
+{
+    match memchr(byte, text.as_bytes()) {
+        Some(at) => {
+            let before = &text[..at];
+            let after = &text[at + 1..];
+            Some((before, after))
+        }
+        None => None,
+    }
+}
+
+/// Returns a line without the carriage return at its end, if it has one.
+#[inline(always)]
+fn without_carriage_return(line: &str) -> &str
+    ensures { result.now ≡ strip_carriage_return line.now }
+{
+    match line.strip_suffix('\r') {
+        Some(front) => front,
+        None => line,
+    }
+}
+
+/// Returns the number of bytes of a script before its first backslash.
+fn plain_len(script: &str) -> usize
+    ensures { Lacks 92 (take result script.now) }
+{
+    memchr(b'\\', script.as_bytes()).unwrap_or(script.len())
+}
+
+/// Returns the first line of a script, without its line feed and a carriage return before that, and the lines after it.
+#[inline(always)]
+fn split_line(script: &str) -> (&str, &str)
+    requires { 0 < length script.now }
+    ensures lines { lines script.now ≡ result.0.now ∷ lines result.1.now }
+    ensures front { result.0.now ≡ take (length result.0.now) script.now }
+    ensures rest { result.1.now ≡ drop (length script.now - length result.1.now) script.now }
+    ensures shorter { length result.1.now < length script.now }
+{
+    // a line that closes an element, of which there are most, needs no search
+    if let Some(after) = script.strip_prefix(">\n") {
+        return (">", after);
+    }
+    match split_at_byte(b'\n', script) {
+        Some((line, after)) => (without_carriage_return(line), after),
+        None => (script, ""),
+    }
+}
+
+/// The remaining lines of a script.
+#[derive(Drop)]
+pub struct Lines<'a> {
+    /// The script from its next line.
+    rest: &'a str,
+    /// A number of bytes at the start of `rest` without a backslash among them.
+    plain: usize,
+}
+
+impl<'a> Model for Lines<'a> {
+    ghost use Rattle.std.specs.Prelude.{ℕ, List, take};
+    ghost use Rattle.html_render_dom.specs.script.Plain.{Lacks};
+
+    ghost Value = { List ℕ };
+
+    ghost view = { λ s. s.rest.now };
+
+    ghost invariant = { λ s. Lacks 92 (take s.plain s.rest.now) };
+}
+
+impl<'a> Lines<'a> {
+    /// Returns all lines of a script.
+    pub fn new(script: &'a str) -> Lines<'a>
+        ensures { result ≡ script.now }
+    {
+        Lines {
+            rest: script,
+            plain: 0,
+        }
+    }
+
+    /// Takes the next line. Returns it, and whether it is known to have no backslash.
+    #[inline(always)]
+    pub fn next_line(&mut self) -> Option<(&'a str, bool)>
+        ensures { MatchOption result (self.old ≡ []) (λ x. (lines self.old ≡ x.0.now ∷ lines self.new) × (length self.new < length self.old) × (x.1 ≡ true → Lacks 92 x.0.now)) }
+    {
+        let script = self.rest;
+        if script.is_empty() {
+            return None;
+        }
+        let (line, after) = split_line(script);
+        // so that no line is searched twice for a backslash
+        let plain = if self.plain < line.len() {
+            plain_len(script)
+        } else {
+            self.plain
+        };
+        let is_plain = line.len() <= plain;
+        self.plain = plain.saturating_sub(script.len() - after.len());
+        self.rest = after;
+        Some((line, is_plain))
+    }
+}

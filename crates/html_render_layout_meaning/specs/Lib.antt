@@ -1,4 +1,0 @@
--- the meaning of a paragraph's lines
-pub mod Meaning
--- laws of the definitions
-pub mod laws
