@@ -17,6 +17,12 @@ use smallvec::SmallVec;
 use std::alloc::{AllocError, Global};
 use std::mem::size_of;
 
+/// Number of children that a node stores without an allocation.
+const FEW_CHILDREN: usize = 2;
+
+/// Number of children that memory is reserved for at a node's first one without room.
+const MORE_CHILDREN: usize = 6;
+
 /// A node of the document: its data, and its place in the forest.
 #[derive(Drop)]
 pub struct Node {
@@ -74,6 +80,19 @@ impl Node {
     }
 }
 
+/// Appends a child to a list of children. An error leaves the children as they are.
+#[inline]
+fn put_last(children: &mut SmallVec<Handle, 2>, child: Handle) -> Result<(), AllocError>
+    ensures ok { OnOk result (children.new.items ≡ children.old.items ++ child ∷ []) }
+    ensures err { OnErr result (children.new.items ≡ children.old.items) }
+{
+    if children.len() == FEW_CHILDREN {
+        children.reserve(MORE_CHILDREN)?;
+    }
+    children.push(child)?;
+    Ok(())
+}
+
 /// Appends the child to the parent's list.
 fn push_child(nodes: &mut Vec<Node>, parent: Handle, child: Handle) -> Result<(), AllocError>
     requires { parent < vec_len nodes.old }
@@ -83,7 +102,7 @@ fn push_child(nodes: &mut Vec<Node>, parent: Handle, child: Handle) -> Result<()
         OnOk result (nodes_of nodes.new.items ≡ with_children old parent ((node_in old parent).children ++ child ∷ [])) }
     ensures err { OnErr result (nodes_of nodes.new.items ≡ nodes_of nodes.old.items) }
 {
-    nodes[parent.number()].children.push(child)?;
+    put_last(&mut nodes[parent.number()].children, child)?;
     Ok(())
 }
 

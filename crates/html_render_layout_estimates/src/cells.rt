@@ -60,6 +60,15 @@ fn add_rows(
     Ok(())
 }
 
+/// Returns the number of cells of these rows.
+fn cell_count(rows: &[Vec<GridCell>]) -> usize {
+    let mut count = 0usize;
+    for cells in rows {
+        count = count.saturating_add(cells.len());
+    }
+    count
+}
+
 /// Returns the minimum and preferred width that each cell of a table needs over its columns, row by row.
 ///
 /// `rows` are the table's rows with their cells, all measured. Only the cells' own nodes are read, not their contents.
@@ -77,7 +86,8 @@ pub fn cell_needs(
     ensures cells { IfOk result (λ needs. AreCells (columns_of grid.now) needs.items) }
     ensures err { OnlyOutOfMemory result }
 {
-    let mut needs = Vec::new(alloc);
-    add_rows(&mut needs, grid.rows(), rows)?;
+    let cells = grid.rows();
+    let mut needs = Vec::with_capacity(alloc, cell_count(cells))?;
+    add_rows(&mut needs, cells, rows)?;
     Ok(needs)
 }

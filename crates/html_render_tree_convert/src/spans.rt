@@ -17,6 +17,9 @@ use html_render_tree_mapping::tables::CellSpan;
 use std::alloc::Global;
 use std::marker::Model;
 
+/// Number of cells that memory is reserved for at a row's first one.
+const USUAL_CELLS: usize = 8;
+
 /// Cells of a row, as its elements ask for them.
 #[derive(Drop)]
 pub struct RowCells {
@@ -51,6 +54,9 @@ impl RowCells {
         ensures ok { OnOk result (self.new ≡ self.old ++ cell ∷ []) }
         ensures err { OnlyOutOfMemory result }
     {
+        if self.cells.is_empty() {
+            self.cells.reserve(USUAL_CELLS)?;
+        }
         self.cells.push(cell)?;
         Ok(())
     }

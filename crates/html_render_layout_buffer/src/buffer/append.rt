@@ -19,7 +19,8 @@ use html_render_layout_lines::tag::Tag;
 use std::alloc::AllocError;
 use std::mem;
 
-/// A text of at most so many bytes is copied to a buffer without memory.
+/// Maximum length, in bytes, of a text that is copied to a buffer whose memory is too small for it. The memory of a longer text
+/// is taken instead.
 const FEW: usize = 1024;
 
 impl<T: Tag, M: Copy> LineBuffer<T, M> {
@@ -179,7 +180,8 @@ impl<T: Tag, M: Copy> LineBuffer<T, M> {
 
     /// Moves another buffer's lines to the end of this one. Its open line becomes the open line.
     ///
-    /// Takes the other buffer's memory where this one has no lines.
+    /// If this buffer has no lines, the two exchange their memory, unless this one's is too small for the other text and that has
+    /// at most [`FEW`] bytes. In all other cases the lines are copied.
     ///
     /// # Errors
     ///

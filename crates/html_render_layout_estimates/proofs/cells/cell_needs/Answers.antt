@@ -10,6 +10,6 @@ use Rattle.html_render_layout_estimates.proofs.cells.cell_needs.Goals as goal
 pub returns-clause-cells : goal.returns-clause-cells
 returns-clause-cells c =
     let trees = forest_of c.args.rows.now in
-    let is = c.in_ok-add_rows.ensures ∙ ap (λ l. l ++ cell_needs (lists c.rows.result.now) trees) c.new-needs.ensures.items
-    ∙ ap (λ rows. cell_needs rows trees) c.rows.ensures.rows in
-    subst (AreCells (columns_of c.args.grid.now)) (sym is) (cells_are (columns_of c.args.grid.now) c.args.grid.now.rows trees c.rows.ensures.on_columns)
+    let is = c.in_ok-add_rows.ensures ∙ ap (λ l. l ++ cell_needs (lists c.rows-cells.result.now) trees) c.in_ok-needs.ensures.items
+    ∙ ap (λ rows. cell_needs rows trees) c.rows-cells.ensures.rows in
+    subst (AreCells (columns_of c.args.grid.now)) (sym is) (cells_are (columns_of c.args.grid.now) c.args.grid.now.rows trees c.rows-cells.ensures.on_columns)
