@@ -1,9 +1,8 @@
 -- A declaration changes its own property, and nothing else.
 use Rattle.std.proofs.Common.{◌≡◌, ℕ, ◌+◌, ◌<◌, Bool, true, false, List, [], ◌∷◌, ◌++◌, length, get_or, take, map, filter, Option, Some, None}
-use Rattle.std.proofs.Common.{option_to_list, String, refl, sym, ap, ◌∙◌, append_assoc, cond, inl, inr, Global}
+use Rattle.std.proofs.Common.{option_to_list, String, refl, sym, ap, ◌∙◌, append_assoc, Global}
 use Rattle.std.proofs.lemmas.List.{append-nil, take_more}
-use Rattle.std.proofs.lemmas.List.Elements.{filter_map-append}
-use Rattle.std.proofs.lemmas.Bool.{cases_Bool}
+use Rattle.std.proofs.lemmas.List.Elements.{filter-append, filter_map-append}
 use Rattle.std.proofs.lemmas.Grind.{flat_map-append}
 use Rattle.std.specs.List.{flat_map}
 use Rattle.html_render_dom_styles.specs.declared.updates.Update.{Update}
@@ -120,23 +119,21 @@ said_by-all rule = each rule.declarations.items
     each [] = refl
     each (d ∷ ds) = rw (each ds) refl
 
--- the declarations of a rule if it selects the element, otherwise none
-abbrev pub said_to : (selects : Rule → Bool) → StyleRule → List Applied
-said_to selects rule = cond (selects (rule_of rule)) (applied (rule_of rule)) []
+-- the declarations of a rule if it is selected, otherwise none
+abbrev pub said_to : (selects : Rule → Bool) → Rule → List Applied
+said_to selects rule = flat_map applied (filter selects (rule ∷ []))
 
-pub said_to-all : (selects : Rule → Bool) (rules : List StyleRule) →
-    flat_map (said_to selects) rules ≡ flat_map applied (filter selects (map rule_of rules))
+pub said_to-all : (selects : Rule → Bool) (rules : List Rule) → flat_map (said_to selects) rules ≡ flat_map applied (filter selects rules)
 said_to-all selects [] = refl
-said_to-all selects (r ∷ rules) = let more = said_to-all selects rules in elim (cases_Bool (selects (rule_of r))) [
-  | inl e ↦ rw e (ap (λ ds. applied (rule_of r) ++ ds) more)
-  | inr e ↦ rw e more
-]
+said_to-all selects (r ∷ rules) =
+    ap (λ ds. said_to selects r ++ ds) (said_to-all selects rules)
+    ∙ sym (flat_map-append applied (filter selects (r ∷ [])) (filter selects rules))
+    ∙ ap (flat_map applied) (sym (filter-append selects (r ∷ []) rules))
 
-pub said_to-selected : (selects : Rule → Bool) (rule : StyleRule) → selects (rule_of rule) ≡ true → applied (rule_of rule) ≡ said_to selects rule
-said_to-selected selects rule e = rw e refl
+pub said_to-selected : (selects : Rule → Bool) (rule : Rule) → selects rule ≡ true → applied rule ≡ said_to selects rule
+said_to-selected selects rule e = rw e (sym (append-nil (applied rule)))
 
-pub said_to-other : (selects : Rule → Bool) (rule : StyleRule) (s : ElementStyle) → selects (rule_of rule) ≡ false →
-    s ≡ with_declarations s (said_to selects rule)
+pub said_to-other : (selects : Rule → Bool) (rule : Rule) (s : ElementStyle) → selects rule ≡ false → s ≡ with_declarations s (said_to selects rule)
 said_to-other selects rule s e = rw e (still s)
 
 pub ruleset contents = (taken, left)

@@ -1,9 +1,9 @@
 -- The index of rules by the texts that they state.
-use Rattle.std.specs.Prelude.{◌≡◌, ℕ, ◌+◌, ◌*◌, ◌%◌, ◌<◌, ◌≤◌, Bool, true, ◌||◌, is_some, List, [], ◌∷◌, ◌++◌, length, get_or, Option, Some, None, option_to_list, slice_index_or, string_bytes, All}
+use Rattle.std.specs.Prelude.{◌≡◌, ℕ, ◌+◌, ◌*◌, ◌%◌, ◌<◌, Bool, true, ◌||◌, is_some, List, [], ◌∷◌, ◌++◌, length, get_or, Option, Some, None, filter, option_to_list, slice_get, slice_index_or, string_bytes, All}
 use Rattle.std.specs.BTreeMap.{get_by_text}
-use Rattle.std.specs.List.{Contains, list_any}
+use Rattle.std.specs.List.{Contains, flat_map, list_any}
 use Rattle.std.specs.Option.{option_map_or, unwrap_or}
-use Rattle.html_render_dom.specs.ElementStyle.{element_style, style_of}
+use Rattle.html_render_dom.specs.ElementStyle.{Applied, applied, element_style, style_of}
 use Rattle.html_render_dom.specs.declared.style.index.PlainStyle.{PlainStyle}
 use Rattle.html_render_dom.specs.declared.style.index.RuleIndex.{RuleIndex}
 use Rattle.html_render_dom_styles.specs.Rules.{Rule}
@@ -57,7 +57,6 @@ IsPlain rules p = style_of p.style ≡ element_style rules (string_bytes p.name)
 abbrev pub Finds : RuleIndex → List Rule → Type 0
 Finds index rules = Indexes index rules × All (IsPlain rules) index.plain.items
 
--- whether a list has the numbers of all rules from `next` on for which `selects` is true
-abbrev pub HasSelected : (selects : Rule → Bool) → List Rule → (next : ℕ) → (numbers : List ℕ) → Type 0
-HasSelected selects rules next numbers = (number : ℕ) (rule : Rule) → next ≤ number → number < length rules →
-    selects (get_or rules number rule) ≡ true → Contains numbers number
+-- the declarations of the rule with a number, if there is one and it is selected
+abbrev pub said_at : (selects : Rule → Bool) → List Rule → (number : ℕ) → List Applied
+said_at selects rules number = flat_map applied (filter selects (option_to_list (slice_get rules number)))

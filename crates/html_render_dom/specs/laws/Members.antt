@@ -1,10 +1,10 @@
 -- Members of lists.
 use Rattle.std.proofs.Common.{◌≡◌, ℕ, true, false, List, [], ◌∷◌, ◌⊎◌, inl, inr, refl, subst, arith, eqb, Contains}
-use Rattle.std.specs.List.{list_any}
+use Rattle.std.specs.List.{flat_map, list_any}
 use Rattle.std.proofs.lemmas.Bool.{cases_Bool, eqb-true}
 use Rattle.std.proofs.lemmas.Cmp.{nat_eq_equiv}
 use Rattle.std.proofs.lemmas.Map.Views as Views
-use Rattle.std.proofs.lemmas.List.Elements.{Contains-append_right, Contains-append_cases, Contains-push_cases}
+use Rattle.std.proofs.lemmas.List.Elements.{Contains-append_left, Contains-append_right, Contains-append_cases, Contains-push_cases}
 
 pub Contains-nil : {X : Type 0} (x : X) → Contains [] x → ⊥
 Contains-nil x h = omega (arith, h.1)
@@ -25,6 +25,13 @@ Contains-cons_cases x xs y h =
 -- each member of a list of one has the properties of that one
 pub Contains-single : {X : Type 0} (P : X → Type 0) (x : X) → P x → (y : X) → Contains (x ∷ []) y → P y
 Contains-single P x p y h = elim (Contains-cons_cases x [] y h) [ inl e ↦ subst P e p | inr n ↦ absurd (Contains-nil y n) ]
+
+pub Contains-flat_map : {X Y : Type 0} (f : X → List Y) (xs : List X) (x : X) (y : Y) → Contains xs x → Contains (f x) y → Contains (flat_map f xs) y
+Contains-flat_map f [] x y h within = absurd (Contains-nil x h)
+Contains-flat_map f (z ∷ xs) x y h within = elim (Contains-cons_cases z xs x h) [
+  | inl e ↦ Contains-append_left (f z) (flat_map f xs) y (rw e within)
+  | inr t ↦ Contains-append_right (f z) (flat_map f xs) y (Contains-flat_map f xs x y t within)
+]
 
 -- `list_any` finds a number exactly if the number is in the list
 pub Contains-from_any : (xs : List ℕ) (y : ℕ) → list_any (eqb y) xs ≡ true → Contains xs y

@@ -1,14 +1,13 @@
 //! Computed styles of elements.
 
-ghost use Rattle.std.specs.Prelude.{◌≡◌, [], ◌∷◌, ◌++◌, IfOk, None, OnOk, Some, filter, map, option_copied, option_to_list, string_bytes};
+ghost use Rattle.std.specs.Prelude.{◌≡◌, [], ◌∷◌, ◌++◌, IfOk, None, OnOk, Some, map, option_copied, option_to_list, string_bytes};
 ghost use Rattle.std.specs.List.{flat_map};
-ghost use Rattle.std.specs.List.Sorted.{IsNonDecreasing};
 ghost use Rattle.html_render_dom_values.specs.Outcome.{OnlyOutOfMemory};
 ghost use Rattle.html_render_dom_values.specs.declared.errors.Error.TheVariants.{OutOfMemory};
 ghost use Rattle.html_render_dom_nodes.specs.Content.{property_of};
 ghost use Rattle.html_render_dom_styles.specs.Cascade.{winner};
 ghost use Rattle.html_render_dom.specs.ElementStyle.{applied, element_style, style_by, style_of, with_declarations};
-ghost use Rattle.html_render_dom.specs.RuleIndex.{HasSelected};
+ghost use Rattle.html_render_dom.specs.RuleIndex.{said_at};
 ghost use Rattle.html_render_dom_styles.specs.Rules.{declared_of, rule_of};
 ghost use Rattle.html_render_dom_styles.specs.Selectors.{selects};
 
@@ -216,10 +215,9 @@ pub fn computed_style(
     Ok(style)
 }
 
-/// Returns the style that the rules with these numbers give an element with this local name, id and classes.
+/// Returns the style that the rules with these numbers, in this order, give an element with this local name, id and classes.
 ///
-/// `numbers` ascends and has the number of each rule that selects the element. It may also have numbers of other rules, and
-/// numbers twice: each rule is tested, and applied once at most.
+/// Skips numbers without a rule.
 pub(super) fn style_of_rules(
     rules: &[StyleRule],
     numbers: &[usize],
@@ -227,19 +225,14 @@ pub(super) fn style_of_rules(
     id: Option<&str>,
     classes: Option<&str>,
 ) -> Result<ComputedStyle, AllocError>
-    requires ascending { IsNonDecreasing numbers.now }
-    requires all { HasSelected (selects element.now (option_copied id) (option_copied classes)) (map rule_of rules.now) 0 numbers.now }
     ensures { IfOk result (λ style. style_of style
-        ≡ style_by (flat_map applied (filter (selects element.now (option_copied id.entry) (option_copied classes.entry)) (map rule_of rules.now)))) }
+        ≡ style_by (flat_map (said_at (selects element.now (option_copied id.entry) (option_copied classes.entry)) (map rule_of rules.now)) numbers.now)) }
 {
     let mut style = ComputedStyle::unset();
-    // the number after that of the last applied rule
-    let mut next = 0;
     for number in numbers {
         if let Some(rule) = rules.get(*number) {
-            if next <= *number && rule.selects(element, id, classes) {
+            if rule.selects(element, id, classes) {
                 style.update_all(rule)?;
-                next = *number + 1;
             }
         }
     }

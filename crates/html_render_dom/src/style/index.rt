@@ -1,9 +1,8 @@
 //! An index of rules by the texts that they state. With it, only few of many rules are tested for an element.
 
 ghost use Rattle.std.specs.Prelude.{◌≡◌, ◌<◌, ◌||◌, ◌&&◌, [], ◌∷◌, ◌++◌, All, filter, find, if◌then◌else◌, IfOk, IfSome, length, List, ℕ, map, OnOk, option_copied, option_map, set, string_bytes, true};
-ghost use Rattle.std.specs.Borrow.{Bor};
 ghost use Rattle.std.specs.List.{Contains};
-ghost use Rattle.std.specs.List.Sorted.{IsNonDecreasing};
+ghost use Rattle.std.specs.List.Sorted.{IsStrictlyIncreasing};
 ghost use Rattle.std.specs.Bool.{OnFalse};
 ghost use Rattle.std.specs.Str.{bytes_eq};
 ghost use Rattle.html_render_dom_values.specs.Outcome.{OnlyOutOfMemory};
@@ -250,23 +249,22 @@ impl RuleIndex {
         Ok(())
     }
 
-    /// Returns the numbers of the rules that state no text or are indexed under one of these texts, ascending.
+    /// Returns the numbers of the rules that state no text or are indexed under one of these texts, strictly ascending.
     fn numbers(&self, alloc: Global, mut texts: Vec<&str>) -> Result<Vec<usize>, AllocError>
-        ensures found { IfOk result (λ numbers. (text : Bor (List ℕ)) (number : ℕ) → Contains texts.entry.items text →
-            Contains (numbers_under self.now text.now) number → Contains numbers.items number) }
-        ensures general { IfOk result (λ numbers. (number : ℕ) → Contains self.now.general.items number → Contains numbers.items number) }
-        ensures ascending { IfOk result (λ numbers. IsNonDecreasing numbers.items) }
+        ensures found { IfOk result (λ numbers. All (λ text. All (Contains numbers.items) (numbers_under self.now text.now)) texts.entry.items) }
+        ensures general { IfOk result (λ numbers. All (Contains numbers.items) self.now.general.items) }
+        ensures ascending { IfOk result (λ numbers. IsStrictlyIncreasing numbers.items) }
     {
         let mut numbers = Vec::new(alloc);
         numbers.extend_from_slice(self.general.as_slice())?;
         // equal texts, such as a repeated class, are looked up once
         texts.sort_unstable();
-        for (place, text) in texts.iter().enumerate() {
-            if place == 0 || texts[place - 1] != *text {
-                self.add_numbers(*text, &mut numbers)?;
-            }
+        texts.dedup();
+        for text in &texts {
+            self.add_numbers(*text, &mut numbers)?;
         }
         numbers.sort_unstable();
+        numbers.dedup();
         Ok(numbers)
     }
 
@@ -282,8 +280,8 @@ impl RuleIndex {
             element_style rules element.now (map property_of attrs.now) ≡ style_by []) }
     {
         self.keys[text_key(element)]
-            || !self.general.is_empty()
-            || (self.asks_attributes && !attrs.is_empty())
+            | !self.general.is_empty()
+            | (self.asks_attributes & !attrs.is_empty())
     }
 
     /// Returns the style that `rules` give an element with this local name and these attributes.

@@ -1,7 +1,8 @@
 -- Each iteration of the loop applies the declarations of the next rule if it selects the element.
-use Rattle.std.proofs.Common.{ℕ, List, [], Option, sym, ap, ◌∙◌, arith, codes, filter, map, option_copied}
+use Rattle.std.proofs.Common.{◌≡◌, ℕ, List, [], Option, sym, ap, ◌∙◌, arith, codes, filter, map, option_copied}
 use Rattle.std.specs.List.{flat_map}
 use Rattle.std.proofs.lemmas.List.{take_all}
+use Rattle.std.proofs.lemmas.List.Folds.{flat_map-map}
 use Rattle.html_render_dom_nodes.specs.Content.{property_of}
 use Rattle.html_render_dom_styles.specs.Rules.{rule_of}
 use Rattle.html_render_dom.specs.Attributes.{first_value}
@@ -15,33 +16,28 @@ pub loop-rule-preserved : goal.loop-rule-preserved
 loop-rule-preserved c =
     let asked = selects c.args.element.now (option_copied c.first_value-id.result) (option_copied c.first_value-classes.result) in
     let rule = c.rule-item.result in
-    let turn =
-    ap (λ s. with_declarations s (said_to asked rule)) c.loop-rule.invariant
-    ∙ with_declarations-more (said_to asked) (style_by []) c.args.rules.now c.loop-rule.rule-index rule (omega arith) c.rule-item.is in
-    elim c.if-selects.branch [
+    let old = style_of c.loop-rule.style in
+    let turn : style_of c.if-selects.style ≡ with_declarations old (said_to asked (rule_of rule)) = elim c.if-selects.branch [
       | then-selects+in_ok-update_all w ↦ (
           ap style_of w.style-is
           ∙ w.in_ok-update_all.ensures
-          ∙ ap (with_declarations (style_of c.loop-rule.style)) (said_to-selected asked rule (sym c.selects.ensures ∙ w.if-selects.true))
-          ∙ turn
+          ∙ ap (with_declarations old) (said_to-selected asked (rule_of rule) (sym c.selects.ensures ∙ w.if-selects.true))
           )
-      | else-selects w ↦ (
-          ap style_of w.style-is
-          ∙ said_to-other asked rule (style_of c.loop-rule.style) (sym c.selects.ensures ∙ w.if-selects.false)
-          ∙ turn
-          )
-    ]
+      | else-selects w ↦ ap style_of w.style-is ∙ said_to-other asked (rule_of rule) old (sym c.selects.ensures ∙ w.if-selects.false)
+    ] in
+    turn
+    ∙ ap (λ s. with_declarations s (said_to asked (rule_of rule))) c.loop-rule.invariant
+    ∙ with_declarations-more (λ r. said_to asked (rule_of r)) (style_by []) c.args.rules.now c.loop-rule.rule-index rule (omega arith) c.rule-item.is
 
 pub returns-clause-ok : goal.returns-clause-ok
 returns-clause-ok c =
     let rules = c.args.rules.now in
     let properties = map property_of c.args.attrs.now in
-    let id = option_copied c.first_value-id.result in
     let classes = option_copied c.first_value-classes.result in
-    let asked = selects c.args.element.now in
-    let style_for = λ (v w : Option (List ℕ)). style_by (flat_map applied (filter (asked v w) (map rule_of rules))) in
+    let asked = selects c.args.element.now (option_copied c.first_value-id.result) classes in
+    let style_for = λ (v w : Option (List ℕ)). style_by (flat_map applied (filter (selects c.args.element.now v w) (map rule_of rules))) in
     c.loop-rule.invariant
-    ∙ ap (λ rs. with_declarations (style_by []) (flat_map (said_to (asked id classes)) rs)) (take_all c.loop-rule.rule-index rules (omega arith))
-    ∙ ap (with_declarations (style_by [])) (said_to-all (asked id classes) rules)
+    ∙ ap (λ rs. style_by (flat_map (λ rule. said_to asked (rule_of rule)) rs)) (take_all c.loop-rule.rule-index rules (omega arith))
+    ∙ ap style_by (sym (flat_map-map (said_to asked) rule_of rules) ∙ said_to-all asked (map rule_of rules))
     ∙ ap (λ v. style_for v classes) c.first_value-id.ensures
     ∙ ap (style_for (first_value (codes "id") properties)) c.first_value-classes.ensures

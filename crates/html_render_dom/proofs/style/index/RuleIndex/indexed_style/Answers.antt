@@ -1,12 +1,25 @@
-use Rattle.std.proofs.Common.{map, option_copied, sym, subst}
-use Rattle.std.specs.List.{Contains}
+use Rattle.std.proofs.Common.{ℕ, List, Option, codes, filter, map, option_copied, ap, ◌∙◌}
+use Rattle.std.specs.List.{flat_map}
+use Rattle.html_render_dom_nodes.specs.Content.{property_of}
 use Rattle.html_render_dom_styles.specs.Rules.{rule_of}
-use Rattle.html_render_dom.proofs.RuleIndex.{finds-selected}
+use Rattle.html_render_dom_styles.specs.Selectors.{selects}
+use Rattle.html_render_dom.specs.Attributes.{first_value}
+use Rattle.html_render_dom.specs.ElementStyle.{applied, style_by}
+use Rattle.html_render_dom.specs.RuleIndex.{said_at}
+use Rattle.html_render_dom.proofs.RuleIndex.{offered}
 use Rattle.html_render_dom.proofs.style.index.RuleIndex.indexed_style.Goals as goal
 
-pub style_of_rules-requires-clause-all : goal.style_of_rules-requires-clause-all
-style_of_rules-requires-clause-all c =
-    let has = finds-selected c.args.self.now (map rule_of c.args.rules.now) c.args.element.now (option_copied c.first_value-id.result)
-    (option_copied c.first_value-classes.result) c.in_ok-texts.texts.items c.in_ok-numbers.numbers.items c.requires
-    c.in_ok-texts.ensures c.in_ok-numbers.ensures.found c.in_ok-numbers.ensures.general in
-    λ number rule le lt selected. subst (λ ns. Contains ns number) (sym c.as_slice.ensures.value) (has number rule le lt selected)
+pub returns-clause-ok : goal.returns-clause-ok
+returns-clause-ok c =
+    let rules = map rule_of c.args.rules.now in
+    let name = c.args.element.now in
+    let id = option_copied c.first_value-id.result in
+    let classes = option_copied c.first_value-classes.result in
+    let numbers = c.in_ok-numbers.ensures in
+    let style_for = λ (v w : Option (List ℕ)). style_by (flat_map applied (filter (selects name v w) rules)) in
+    c.in_ok-style_of_rules.ensures
+    ∙ ap (λ ns. style_by (flat_map (said_at (selects name id classes) rules) ns)) c.as_slice.ensures.value
+    ∙ ap style_by (offered c.args.self.now rules name id classes c.in_ok-texts.texts.items c.in_ok-numbers.numbers.items c.requires
+    c.in_ok-texts.ensures numbers.found numbers.general numbers.ascending)
+    ∙ ap (λ v. style_for v classes) c.first_value-id.ensures
+    ∙ ap (style_for (first_value (codes "id") (map property_of c.args.attrs.now))) c.first_value-classes.ensures
