@@ -58,51 +58,40 @@ IsFresh-next {old} {new} s f more = record {
 }
 
 -- a forest remains one if a node without a parent is appended to a list
-IsForest-attached : (dom : Dom) → IsForest dom → (p c : ℕ) → IsNode dom p →
+pub IsForest-attached : (dom : Dom) → IsForest dom → (p c : ℕ) → IsNode dom p →
     IsNode dom c × (parent_at dom c ≡ None) × ¬ IsInclusiveAncestor dom c p → IsForest (record dom { nodes = attached dom.nodes p c })
 IsForest-attached dom f p c at_p can =
     let cs = children_at dom p in
     IsForest-put f can.1 (rewritten dom p (cs ++ c ∷ []) c (Some p) at_p can.0) (Contains-push_cases cs c) (Contains-append_left cs (c ∷ []))
     (Contains-push cs c) (λ out. IsDistinct-push nat_eq_equiv cs c (f.once p) (any-from_absent cs c out)) can.0 can.2
 
-pub IsForest-append_node : (dom now : Dom) → dom ≡ now → IsForest dom → (p c : ℕ) → IsNode now p →
-    IsNode now c × (parent_at now c ≡ None) × ¬ IsInclusiveAncestor now c p → (nodes : List Node) → nodes ≡ attached dom.nodes p c →
-    IsForest (record dom { nodes = nodes })
-IsForest-append_node dom now same f p c at_p can nodes e =
-    subst (λ ns. IsForest (record dom { nodes = ns })) (sym e) (IsForest-attached dom f p c (subst (λ d. IsNode d p) (sym same) at_p)
-    (subst (λ d. IsNode d c × (parent_at d c ≡ None) × ¬ IsInclusiveAncestor d c p) (sym same) can))
-
-pub IsForest-with_content : (dom now : Dom) → dom ≡ now → IsForest dom → (h : ℕ) (change : Content → Content) →
-    change document ≡ document → ((c : Content) → contents_in (change c) ≡ contents_in c) → IsNode now h → (nodes : List Node) →
-    nodes ≡ with_content dom.nodes h (change (content_at dom h)) → IsForest (record dom { nodes = nodes })
-IsForest-with_content dom now same f h change keeps keeps_contents at nodes e =
-    let in_h : IsNode dom h = subst (λ d. IsNode d h) (sym same) at in
+pub IsForest-with_content : (dom : Dom) → IsForest dom → (h : ℕ) (change : Content → Content) → change document ≡ document →
+    ((c : Content) → contents_in (change c) ≡ contents_in c) → IsNode dom h →
+    IsForest (record dom { nodes = with_content dom.nodes h (change (content_at dom h)) })
+IsForest-with_content dom f h change keeps keeps_contents at =
     let n = record (node_in dom.nodes h) { content = change (content_at dom h) } in
     let shape : SameShape dom (record dom { nodes = slice_set dom.nodes h n }) = record {
       grows = omega (arith, length-set dom.nodes h n);
-      children = kept (λ x. x.children) dom.nodes h n in_h refl;
-      parents = kept (λ x. x.parent) dom.nodes h n in_h refl;
+      children = kept (λ x. x.children) dom.nodes h n at refl;
+      parents = kept (λ x. x.parent) dom.nodes h n at refl;
     } in
     let top : content_at (record dom { nodes = slice_set dom.nodes h n }) 0 ≡ document =
     elim (eqb_tells 0 h) [
-      | inl s ↦ ap (λ k. (node_in (slice_set dom.nodes h n) k).content) s.1 ∙ there (λ x. x.content) dom.nodes h n in_h
+      | inl s ↦ ap (λ k. (node_in (slice_set dom.nodes h n) k).content) s.1 ∙ there (λ x. x.content) dom.nodes h n at
           ∙ ap change (ap (content_at dom) (sym s.1) ∙ f.document_content) ∙ keeps
       | inr d ↦ elsewhere (λ x. x.content) dom.nodes h n 0 d.1 ∙ f.document_content
     ] in
     let contents : (k : ℕ) → contents_in (content_at (record dom { nodes = slice_set dom.nodes h n }) k) ≡ contents_in (content_at dom k) =
-    kept (λ x. contents_in x.content) dom.nodes h n in_h (keeps_contents (content_at dom h)) in
-    subst (λ ns. IsForest (record dom { nodes = ns })) (sym e)
-    (IsForest-same_shape shape top (λ k c q. omega (arith, f.template_contents_is_node k c (sym (contents k) ∙ q), shape.grows)) f)
+    kept (λ x. contents_in x.content) dom.nodes h n at (keeps_contents (content_at dom h)) in
+    IsForest-same_shape shape top (λ k c q. omega (arith, f.template_contents_is_node k c (sym (contents k) ∙ q), shape.grows)) f
 
-pub IsForest-attach_new : (dom now : Dom) → dom ≡ now → IsForest dom → (p : ℕ) (c : Content) → contents_in c ≡ None → IsNode now p →
-    (nodes : List Node) → nodes ≡ attached_new dom.nodes c p → IsForest (record dom { nodes = nodes })
-IsForest-attach_new dom now same f p c no_contents at nodes e =
-    let in_p : IsNode dom p = subst (λ d. IsNode d p) (sym same) at in
-    let mid = record dom { nodes = created dom.nodes c } in
+pub IsForest-attach_new : (dom : Dom) → IsForest dom → (p : ℕ) (c : Content) → contents_in c ≡ None → IsNode dom p →
+    IsForest (record dom { nodes = attached_new dom.nodes c p })
+IsForest-attach_new dom f p c no_contents at =
     let count = length-append dom.nodes (lone c ∷ []) in
     let fresh = IsFresh-next (created-shape dom c) f (omega (arith, count)) in
-    subst (λ ns. IsForest (record dom { nodes = ns })) (sym e) (IsForest-attached mid (IsForest-created dom c no_contents f) p (node_count dom)
-    (omega (arith, count, in_p)) (fresh.is_node, fresh.no_parent, fresh.above_none p in_p))
+    IsForest-attached (record dom { nodes = created dom.nodes c }) (IsForest-created dom c no_contents f) p (node_count dom)
+    (omega (arith, count, at)) (fresh.is_node, fresh.no_parent, fresh.above_none p at)
 
 -- joining a text and adding attributes leave template contents unchanged
 pub contents_in-joined : (c : Content) (more : List ℕ) → contents_in (joined c more) ≡ contents_in c
@@ -113,12 +102,10 @@ pub contents_in-completed : (c : Content) (given : List Property) → contents_i
 contents_in-completed document given = refl
 contents_in-completed c given = refl
 
-pub IsForest-put_text : (dom now : Dom) → dom ≡ now → IsForest dom → (p : ℕ) → IsNode now p → (before : Option ℕ) →
-    IfSome before (IsNode now) → (more : List ℕ) (nodes : List Node) → nodes ≡ text_put dom.nodes p before more →
-    IsForest (record dom { nodes = nodes })
-IsForest-put_text dom now same f p at None is more nodes e = IsForest-attach_new dom now same f p (text more) refl at nodes e
-IsForest-put_text dom now same f p at (Some h) is more nodes e =
-    IsForest-with_content dom now same f h (λ c. joined c more) refl (λ c. contents_in-joined c more) is nodes e
+pub IsForest-put_text : (dom : Dom) → IsForest dom → (p : ℕ) → IsNode dom p → (before : Option ℕ) → IfSome before (IsNode dom) → (more : List ℕ) →
+    IsForest (record dom { nodes = text_put dom.nodes p before more })
+IsForest-put_text dom f p at None is more = IsForest-attach_new dom f p (text more) refl at
+IsForest-put_text dom f p at (Some h) is more = IsForest-with_content dom f h (λ c. joined c more) refl (λ c. contents_in-joined c more) is
 
 shape-trans : {a b c : Dom} → SameShape a b → SameShape b c → SameShape a c
 shape-trans s t = record {
@@ -179,10 +166,6 @@ IsFresh-create_element dom now same f name properties flags nodes e h next =
     let g = grown-element dom f name properties flags nodes e in
     subst (λ d. IsFresh d (record dom { nodes = nodes }) h) same
     (subst (λ k. IsFresh dom (record dom { nodes = nodes }) k) (sym next) (IsFresh-next g.shape f g.more))
-
-pub IsForest-create : (dom : Dom) → IsForest dom → (c : Content) → contents_in c ≡ None → (nodes : List Node) →
-    nodes ≡ created dom.nodes c → IsForest (record dom { nodes = nodes })
-IsForest-create dom f c no_contents nodes e = subst (λ ns. IsForest (record dom { nodes = ns })) (sym e) (IsForest-created dom c no_contents f)
 
 pub IsFresh-create : (dom now : Dom) → dom ≡ now → IsForest dom → (c : Content) (nodes : List Node) → nodes ≡ created dom.nodes c →
     (h : ℕ) → h ≡ node_count dom → IsFresh now (record dom { nodes = nodes }) h

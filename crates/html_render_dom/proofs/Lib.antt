@@ -6,6 +6,5 @@ pub mod Forests
 pub mod Lists
 pub mod Moves
 pub mod Outcomes
-pub mod PlainStyles
 pub mod RuleIndex
 pub mod Words

@@ -1,6 +1,6 @@
 -- Calls that move nodes leave a forest.
 use Rattle.std.proofs.Common.{◌≡◌, ◌≢◌, ℕ, List, [], ◌∷◌, length, Option, Some, None, IfSome, Contains, eqb, ◌⊎◌, inl, inr, refl}
-use Rattle.std.proofs.Common.{sym, ◌∙◌, subst, arith, length-append}
+use Rattle.std.proofs.Common.{sym, ◌∙◌, arith, length-append}
 use Rattle.std.specs.List.{list_any}
 use Rattle.std.proofs.lemmas.Bool.{cases_Bool, false≢true}
 use Rattle.std.proofs.lemmas.Bool.Decides.{eqb_tells}
@@ -35,7 +35,7 @@ taken_facts : (dom : Dom) → IsForest dom → (p c : ℕ) → parent_at dom c �
 taken_facts dom f p c e = let at = IsNode-named dom f p c e in rewritten dom p _ c None at.0 at.1
 
 -- a forest remains one if a child is removed from its list
-IsForest-out : (dom : Dom) → IsForest dom → (p c : ℕ) → parent_at dom c ≡ Some p → IsForest (record dom { nodes = taken_out dom.nodes (Some p) c })
+pub IsForest-out : (dom : Dom) → IsForest dom → (p c : ℕ) → parent_at dom c ≡ Some p → IsForest (record dom { nodes = taken_out dom.nodes (Some p) c })
 IsForest-out dom f p c named = IsForest-taken f (taken_facts dom f p c named) (record {
   from = λ x l. inl (Contains-from_without c (children_at dom p) x l);
   still = Contains-without c (children_at dom p);
@@ -43,12 +43,6 @@ IsForest-out dom f p c named = IsForest-taken f (taken_facts dom f p c named) (r
   nowhere_else = λ r other l. other (same_value r p (sym (f.child_names_parent r c l) ∙ named));
   once = IsDistinct-without c (children_at dom p) (f.once p);
 })
-
-pub IsForest-taken_out : (dom now : Dom) → dom ≡ now → IsForest dom → (p c : ℕ) → parent_at now c ≡ Some p → (nodes : List Node) →
-    nodes ≡ taken_out dom.nodes (Some p) c → IsForest (record dom { nodes = nodes })
-IsForest-taken_out dom now same f p c named nodes e =
-    subst (λ ns. IsForest (record dom { nodes = ns })) (sym e)
-    (IsForest-out dom f p c (subst (λ d. parent_at d c ≡ Some p) (sym same) named))
 
 -- an inclusive ancestor in the document with c removed from its list is one in the old document
 ancestor_before : {old new : Dom} {c : ℕ} → parent_at new c ≡ None → ((h : ℕ) → h ≢ c → parent_at new h ≡ parent_at old h) → {a h : ℕ} →
@@ -80,20 +74,16 @@ IsForest-placed dom f p s c named at_c lone_c away =
     IsForest-put f lone_c (rewritten dom p _ c (Some p) (IsNode-named dom f p s named).0 at_c) (Contains-from_before s c cs)
     (Contains-before s c cs) (Contains-placed s c cs (f.parent_lists_child p s named)) (IsDistinct-before s c cs (f.once p)) at_c away
 
-pub IsForest-move_before : (dom now : Dom) → dom ≡ now → IsForest dom → (p s c : ℕ) → parent_at now s ≡ Some p →
-    IsNode now c × ¬ IsInclusiveAncestor now c s → (from : Option ℕ) → from ≡ parent_at now c → (nodes : List Node) →
-    nodes ≡ inserted_before (taken_out dom.nodes from c) p s c → IsForest (record dom { nodes = nodes })
-IsForest-move_before dom now same f p s c named can from is_from nodes e =
-    let named' : parent_at dom s ≡ Some p = subst (λ d. parent_at d s ≡ Some p) (sym same) named in
-    let can' = subst (λ d. IsNode d c × ¬ IsInclusiveAncestor d c s) (sym same) can in
-    let from' : from ≡ parent_at dom c = subst (λ d. from ≡ parent_at d c) (sym same) is_from in
-    let g = freed dom f c from from' in
+pub IsForest-move_before : (dom : Dom) → IsForest dom → (p s c : ℕ) → parent_at dom s ≡ Some p → IsNode dom c × ¬ IsInclusiveAncestor dom c s →
+    (from : Option ℕ) → from ≡ parent_at dom c → IsForest (record dom { nodes = inserted_before (taken_out dom.nodes from c) p s c })
+IsForest-move_before dom f p s c named can from is_from =
+    let g = freed dom f c from is_from in
     let mid = record dom { nodes = taken_out dom.nodes from c } in
-    let other : s ≢ c = λ q. can'.1 (rw q itself) in
-    let in_p : parent_at mid s ≡ Some p = g.others s other ∙ named' in
-    let at : IsNode mid c = omega (arith, g.count, can'.0) in
-    let out : IsInclusiveAncestor mid c p → ⊥ = λ up. can'.1 (above p named' (ancestor_before g.lone_c g.others up)) in
-    subst (λ ns. IsForest (record dom { nodes = ns })) (sym e) (IsForest-placed mid g.forest p s c in_p at g.lone_c out)
+    let other : s ≢ c = λ q. can.1 (rw q itself) in
+    let in_p : parent_at mid s ≡ Some p = g.others s other ∙ named in
+    let at : IsNode mid c = omega (arith, g.count, can.0) in
+    let out : IsInclusiveAncestor mid c p → ⊥ = λ up. can.1 (above p named (ancestor_before g.lone_c g.others up)) in
+    IsForest-placed mid g.forest p s c in_p at g.lone_c out
 
 IsForest-place_new : (dom : Dom) → IsForest dom → (p s : ℕ) → parent_at dom s ≡ Some p → (c : Content) → contents_in c ≡ None →
     IsForest (record dom { nodes = inserted_before (created dom.nodes c) p s (length dom.nodes) })
@@ -105,14 +95,10 @@ IsForest-place_new dom f p s named c no_contents =
     IsForest-placed mid (IsForest-created dom c no_contents f) p s (node_count dom) (shape.parents s ∙ named) fresh.is_node fresh.no_parent
     (fresh.above_none p at.0)
 
-pub IsForest-text_placed : (dom now : Dom) → dom ≡ now → IsForest dom → (p s : ℕ) → parent_at now s ≡ Some p → (last : Option ℕ) →
-    IfSome last (IsNode now) → (more : List ℕ) (nodes : List Node) → nodes ≡ text_placed dom.nodes p s last more →
-    IsForest (record dom { nodes = nodes })
-IsForest-text_placed dom now same f p s named None is more nodes e =
-    subst (λ ns. IsForest (record dom { nodes = ns })) (sym e)
-    (IsForest-place_new dom f p s (subst (λ d. parent_at d s ≡ Some p) (sym same) named) (text more) refl)
-IsForest-text_placed dom now same f p s named (Some h) is more nodes e =
-    IsForest-with_content dom now same f h (λ c. joined c more) refl (λ c. contents_in-joined c more) is nodes e
+pub IsForest-text_placed : (dom : Dom) → IsForest dom → (p s : ℕ) → parent_at dom s ≡ Some p → (last : Option ℕ) → IfSome last (IsNode dom) →
+    (more : List ℕ) → IsForest (record dom { nodes = text_placed dom.nodes p s last more })
+IsForest-text_placed dom f p s named None is more = IsForest-place_new dom f p s named (text more) refl
+IsForest-text_placed dom f p s named (Some h) is more = IsForest-with_content dom f h (λ c. joined c more) refl (λ c. contents_in-joined c more) is
 
 -- ---- moving all children to another parent
 
@@ -176,14 +162,10 @@ module _ {old new : Dom} {u v : ℕ} (f : IsForest old) (apart : u ≢ v) (a : R
     ];
   }
 
-pub IsForest-reparented : (dom now : Dom) → dom ≡ now → IsForest dom → (u v : ℕ) → IsNode now u → IsNode now v →
-    ¬ IsInclusiveAncestor now u v → (nodes : List Node) → nodes ≡ reparented dom.nodes u v → IsForest (record dom { nodes = nodes })
-IsForest-reparented dom now same f u v at_u at_v out nodes e =
-    let in_u : IsNode dom u = subst (λ d. IsNode d u) (sym same) at_u in
-    let in_v : IsNode dom v = subst (λ d. IsNode d v) (sym same) at_v in
-    let out' = subst (λ d. ¬ IsInclusiveAncestor d u v) (sym same) out in
-    let apart : u ≢ v = λ q. out' (rw q itself) in
-    let a = reparented-facts dom u v in_u in_v apart (f.child_is_node u) in
-    subst (λ ns. IsForest (record dom { nodes = ns })) (sym e)
-    (IsForest-same_contents (Moves-reparented f apart a) f (f.child_is_node u)
-    (λ c l up. out' (descend dom u c (f.child_names_parent u c l) up)) a.contents)
+pub IsForest-reparented : (dom : Dom) → IsForest dom → (u v : ℕ) → IsNode dom u → IsNode dom v → ¬ IsInclusiveAncestor dom u v →
+    IsForest (record dom { nodes = reparented dom.nodes u v })
+IsForest-reparented dom f u v at_u at_v out =
+    let apart : u ≢ v = λ q. out (rw q itself) in
+    let a = reparented-facts dom u v at_u at_v apart (f.child_is_node u) in
+    IsForest-same_contents (Moves-reparented f apart a) f (f.child_is_node u)
+    (λ c l up. out (descend dom u c (f.child_names_parent u c l) up)) a.contents

@@ -1,8 +1,7 @@
 -- An index has each rule that is added to it, and finds each rule that selects an element.
-use Rattle.std.proofs.Common.{◌≡◌, ◌⊎◌, ℕ, suc, ◌+◌, ◌-◌, ◌<◌, ◌≤◌, Bool, true, false, ◌&&◌, ◌||◌, nat_lt, if◌then◌else◌, List, [], ◌∷◌, ◌++◌, length, get_or, set, take}
-use Rattle.std.proofs.Common.{Option, Some, None, is_some, codes, cond, map, filter, option_to_list, slice_get, refl, sym, ap, subst, ◌∙◌, inl, inr, arith, Bor}
-use Rattle.std.proofs.lemmas.Bool.{and_parts, cases_Bool, false≢true, or_parts}
-use Rattle.std.proofs.lemmas.Bool.Decides.{nat_tests}
+use Rattle.std.proofs.Common.{◌≡◌, ◌⊎◌, ℕ, suc, ◌+◌, ◌-◌, ◌<◌, ◌≤◌, Bool, true, false, ◌&&◌, ◌||◌, if◌then◌else◌, List, [], ◌∷◌, ◌++◌, length, get_or, set, take}
+use Rattle.std.proofs.Common.{find, string_bytes, Option, Some, None, is_some, codes, cond, map, filter, option_to_list, slice_get, refl, sym, ap, subst, ◌∙◌, inl, inr, arith, Bor}
+use Rattle.std.proofs.lemmas.Bool.{and_parts, cases_Bool, cases_lt, false≢true, or_parts}
 use Rattle.std.proofs.lemmas.List.{get_or-set_same}
 use Rattle.std.proofs.lemmas.List.Elements.{All-nil, All-cons, All-head, All-tail, All-map, All-contains, Contains-append_left, Contains-append_right, Contains-push}
 use Rattle.std.proofs.lemmas.List.Kept.{AllPairs-from_increasing}
@@ -15,11 +14,12 @@ use Rattle.std.specs.List.{All, AllPairs, Contains, flat_map, list_all, list_any
 use Rattle.std.specs.List.Sorted.{IsStrictlyIncreasing}
 use Rattle.std.specs.Option.{unwrap_or}
 use Rattle.std.specs.Str.{bytes_eq}
+use Rattle.html_render_dom.specs.declared.style.index.PlainStyle.{PlainStyle}
 use Rattle.html_render_dom.specs.declared.style.index.RuleIndex.{RuleIndex}
 use Rattle.html_render_dom.proofs.Applies.{said_to-all}
 use Rattle.html_render_dom.specs.laws.Members.{Contains-cons_cases, Contains-head, Contains-tail}
-use Rattle.html_render_dom.specs.ElementStyle.{applied, element_style, style_by}
-use Rattle.html_render_dom.specs.RuleIndex.{asks_attributes, Finds, Indexes, IsFound, is_told, said_at, text_key, numbers_under, stated_text, text_stated, texts_of}
+use Rattle.html_render_dom.specs.ElementStyle.{applied, element_style, style_by, style_of}
+use Rattle.html_render_dom.specs.RuleIndex.{asks_attributes, Finds, Indexes, IsFound, IsPlain, is_told, said_at, text_key, numbers_under, stated_text, text_stated, texts_of}
 use Rattle.html_render_dom_nodes.specs.declared.names.Attribute.{Attribute}
 use Rattle.html_render_dom_nodes.specs.Content.{property_of}
 use Rattle.html_render_dom_styles.specs.Rules.{Rule}
@@ -36,15 +36,16 @@ HasFirst index rules count = (length index.keys.items ≡ 64)
 
 pub HasFirst-more : (old new : RuleIndex) (rules : List Rule) (i : ℕ) (rule : Rule) → HasFirst old rules i → slice_get rules i ≡ Some rule →
     length new.keys.items ≡ length old.keys.items → new.asks_attributes ≡ (old.asks_attributes || asks_attributes rule) →
-    ((n : ℕ) (stated : Option (List ℕ)) → IsFound old n stated → IsFound new n stated) → IsFound new i (stated_text rule) → HasFirst new rules (i + 1)
-HasFirst-more old new rules i rule has is long asks kept found = (
+    (stated : Option (List ℕ)) → stated ≡ stated_text rule →
+    ((n : ℕ) (stated : Option (List ℕ)) → IsFound old n stated → IsFound new n stated) × IsFound new i stated → HasFirst new rules (i + 1)
+HasFirst-more old new rules i rule has is long asks stated states found = (
   long ∙ has.0,
-  λ n d lt. elim (cases_Bool (nat_lt n i)) [
-    | inl e ↦ kept n (stated_text (get_or rules n d)) (has.1 n d (grind (arith, nat_tests, e)))
-    | inr e ↦ (
-        let last : i ≡ n = grind (arith, nat_tests, e, lt) in
+  λ n d lt. elim (cases_lt n i) [
+    | inl before ↦ found.0 n (stated_text (get_or rules n d)) (has.1 n d before)
+    | inr ge ↦ (
+        let last : i ≡ n = omega (arith, ge, lt) in
         subst (λ k. IsFound new k (stated_text (get_or rules k d))) last
-        (subst (λ r. IsFound new i (stated_text r)) (sym (get_or_from_slice_get rules i rule d is)) found)
+        (subst (λ r. IsFound new i (stated_text r)) (sym (get_or_from_slice_get rules i rule d is)) (subst (IsFound new i) states found.1))
         )
   ],
   asks ∙ ap (λ b. b || asks_attributes rule) has.2 ∙ sym (list_any_more asks_attributes rules i rule (slice_get_within rules i rule is)
@@ -52,38 +53,43 @@ HasFirst-more old new rules i rule has is long asks kept found = (
 )
 
 -- adding a number under a text keeps each number that was there
-pub put-kept : (old new : RuleIndex) (text : List ℕ) (number : ℕ) → length old.keys.items ≡ 64 →
+pub put-found : (old new : RuleIndex) (text : List ℕ) (number : ℕ) → length old.keys.items ≡ 64 →
     new.keys.items ≡ set old.keys.items (text_key text) true → new.general.items ≡ old.general.items →
     ((t : List ℕ) → numbers_under new t ≡ (if bytes_eq t text then numbers_under old t ++ number ∷ [] else numbers_under old t)) →
-    (n : ℕ) (stated : Option (List ℕ)) → IsFound old n stated → IsFound new n stated
-put-kept old new text number long keys general numbers n None found = subst (λ ns. Contains ns n) (sym general) found
-put-kept old new text number long keys general numbers n (Some t) (told, found) = (
-  ap (λ ks. get_or ks (text_key t) true) keys ∙ kept,
-  subst (λ ns. Contains ns n) (sym (numbers t)) (elim (cases_Bool (bytes_eq t text)) [
-    | inl e ↦ rw e (Contains-append_left (numbers_under old t) (number ∷ []) n found)
-    | inr e ↦ rw e found
-  ]),
+    ((n : ℕ) (stated : Option (List ℕ)) → IsFound old n stated → IsFound new n stated) × IsFound new number (Some text)
+put-found old new text number long keys general numbers = (
+  kept,
+  (
+    told text (get_or-set_same old.keys.items (text_key text) true true (omega (arith, long))),
+    subst (λ ns. Contains ns number) (sym (numbers text)) (rw ((bytes_eq-Decides text text).1 refl) (Contains-push (numbers_under old text) number)),
+  ),
 )
   where
-    kept : get_or (set old.keys.items (text_key text) true) (text_key t) true ≡ true
-    kept = grind (arith, common_steps)
+    told : (t : List ℕ) → get_or (set old.keys.items (text_key text) true) (text_key t) true ≡ true → is_told new.keys.items t ≡ true
+    told t is = ap (λ ks. get_or ks (text_key t) true) keys ∙ is
 
-pub put-found : (old new : RuleIndex) (text : List ℕ) (number : ℕ) → length old.keys.items ≡ 64 →
-    new.keys.items ≡ set old.keys.items (text_key text) true →
-    ((t : List ℕ) → numbers_under new t ≡ (if bytes_eq t text then numbers_under old t ++ number ∷ [] else numbers_under old t)) →
-    IsFound new number (Some text)
-put-found old new text number long keys numbers = (
-  ap (λ ks. get_or ks (text_key text) true) keys ∙ get_or-set_same old.keys.items (text_key text) true true (omega (arith, long)),
-  subst (λ ns. Contains ns number)
-      (sym (numbers text ∙ ap (λ c. if c then numbers_under old text ++ number ∷ [] else numbers_under old text) ((bytes_eq-Decides text text).1 refl)))
-      (Contains-push (numbers_under old text) number),
-)
+    still : (t : List ℕ) → is_told old.keys.items t ≡ true → get_or (set old.keys.items (text_key text) true) (text_key t) true ≡ true
+    still t told = grind (arith, common_steps)
+
+    kept : (n : ℕ) (stated : Option (List ℕ)) → IsFound old n stated → IsFound new n stated
+    kept n None found = subst (λ ns. Contains ns n) (sym general) found
+    kept n (Some t) found = (
+      told t (still t found.0),
+      subst (λ ns. Contains ns n) (sym (numbers t)) (elim (cases_Bool (bytes_eq t text)) [
+        | inl e ↦ rw e (Contains-append_left (numbers_under old t) (number ∷ []) n found.1)
+        | inr e ↦ rw e found.1
+      ]),
+    )
 
 -- adding the number of a rule that states no text keeps each number that was there
-pub general-kept : (old new : RuleIndex) (number : ℕ) → new.keys.items ≡ old.keys.items → new.by_text ≡ old.by_text →
-    new.general.items ≡ old.general.items ++ number ∷ [] → (n : ℕ) (stated : Option (List ℕ)) → IsFound old n stated → IsFound new n stated
-general-kept old new number keys texts general n None found = rw general (Contains-append_left old.general.items (number ∷ []) n found)
-general-kept old new number keys texts general n (Some t) found = rw (keys, texts) found
+pub general-found : (old new : RuleIndex) (number : ℕ) → new.keys.items ≡ old.keys.items → new.by_text ≡ old.by_text →
+    new.general.items ≡ old.general.items ++ number ∷ [] →
+    ((n : ℕ) (stated : Option (List ℕ)) → IsFound old n stated → IsFound new n stated) × IsFound new number None
+general-found old new number keys texts general = (kept, rw general (Contains-push old.general.items number))
+  where
+    kept : (n : ℕ) (stated : Option (List ℕ)) → IsFound old n stated → IsFound new n stated
+    kept n None found = rw general (Contains-append_left old.general.items (number ∷ []) n found)
+    kept n (Some t) found = rw (keys, texts) found
 
 -- ---- lookup for an element
 
@@ -134,16 +140,16 @@ first from [] rise low = inl (All-nil (λ n. from < n))
 first from (m ∷ ms) rise low =
     let over : from ≤ m = All-head (λ n. from ≤ n) m ms low in
     let above : All (λ n. from < n) ms = λ k d lt. omega (arith, over, rise 0 (suc k) d (omega arith) (omega (arith, lt))) in
-    elim (cases_Bool (nat_lt from m)) [
-      | inl e ↦ inl (All-cons (λ n. from < n) m ms (grind (arith, nat_tests, e)) above)
-      | inr e ↦ (
-          let same : m ≡ from = grind (arith, nat_tests, e, over) in
+    elim (cases_lt from m) [
+      | inl lt ↦ inl (All-cons (λ n. from < n) m ms lt above)
+      | inr ge ↦ (
+          let same : m ≡ from = omega (arith, over, ge) in
           inr (ms, ap (λ n. n ∷ ms) same, λ i j d lt fits. rise (suc i) (suc j) d (omega (arith, lt)) (omega (arith, fits)), above)
           )
     ]
 
--- strictly ascending numbers that have each number where `g` gives anything gather all that `g` gives, which is what `h` gives of
--- the items of a list
+-- if `g` gives of each item's number what `h` gives of the item, strictly ascending numbers with each number where `g` isn't
+-- empty give what all items give
 gathered : {X Y : Type 0} (h : Option X → List Y) (g : ℕ → List Y) (xs : List X) (from : ℕ) (ns : List ℕ) → h None ≡ [] →
     ((k : ℕ) → g (from + k) ≡ h (slice_get xs k)) → AllPairs (λ m n. m < n) ns → All (λ n. from ≤ n) ns →
     ((n : ℕ) → from ≤ n → (g n ≡ []) ⊎ Contains ns n) → flat_map g ns ≡ flat_map (λ x. h (Some x)) xs
@@ -245,3 +251,19 @@ none_selects index name attrs none rules finds =
     empty : (ns : List ℕ) → is_filled ns ≡ false → All (Contains []) ns
     empty [] none = All-nil (Contains [])
     empty (n ∷ ns) none = absurd (cc)
+
+-- ---- styles of elements without attributes
+
+-- a style that is found is that of its name
+pub plain-found : (rules : List Rule) (name : List ℕ) (ps : List PlainStyle) (p : PlainStyle) → All (IsPlain rules) ps →
+    find (λ (q : PlainStyle). bytes_eq (string_bytes q.name) name) ps ≡ Some p → style_of p.style ≡ element_style rules name []
+plain-found rules name [] p all is = cc
+plain-found rules name (q ∷ qs) p all is = elim (cases_Bool (bytes_eq (string_bytes q.name) name)) [
+  | inl h ↦ (
+      let same : string_bytes q.name ≡ name = (bytes_eq-Decides (string_bytes q.name) name).0 h in
+      let found : q ≡ p = cc in
+      subst (λ (x : PlainStyle). style_of x.style ≡ element_style rules name []) found
+      (All-head (IsPlain rules) q qs all ∙ ap (λ n. element_style rules n []) same)
+      )
+  | inr h ↦ plain-found rules name qs p (All-tail (IsPlain rules) q qs all) (rw h at is)
+]

@@ -230,11 +230,9 @@ impl RuleIndex {
         if let Some(id) = id {
             self.add_told(id, &mut texts)?;
         }
-        if let Some(classes) = classes {
-            let mut words = classes.split_ascii_whitespace();
-            while let Some(word) = words.next() {
-                self.add_told(word, &mut texts)?;
-            }
+        let mut words = classes.unwrap_or("").split_ascii_whitespace();
+        while let Some(word) = words.next() {
+            self.add_told(word, &mut texts)?;
         }
         Ok(texts)
     }

@@ -4,14 +4,16 @@ use Rattle.html_render_dom_nodes.specs.Content.{content_of}
 use Rattle.html_render_dom.specs.Documents.{dom_of}
 use Rattle.html_render_dom_nodes.specs.Nodes.{node_of}
 use Rattle.html_render_dom_nodes.specs.Edits.{created}
-use Rattle.html_render_dom.proofs.Forests.{IsForest-create, IsFresh-create}
+use Rattle.html_render_dom.proofs.Forests.{IsForest-created, IsFresh-create}
+use Rattle.html_render_dom.proofs.Outcomes.{IsForest-changed}
 use Rattle.html_render_dom.proofs.dom.documents.RcDom.create.Goals as goal
 
 pub invariant_of-self-2 : goal.invariant_of-self-2
 invariant_of-self-2 c =
     let made : map node_of c.push.new.self.items ≡ created (map node_of c.self.inside.nodes.items) (content_of c.args.contents) =
     rw (c.in_ok-push.ensures.items, map-append, c.lone.ensures) in
-    IsForest-create (dom_of c.self.inside) c.self.invariant _ c.requires _ made
+    IsForest-changed (λ ns. created ns (content_of c.args.contents)) c.self.view_is c.self.invariant
+    (IsForest-created c.args.self.now (content_of c.args.contents) c.requires) _ made
 
 pub returns-clause-fresh : goal.returns-clause-fresh
 returns-clause-fresh c =

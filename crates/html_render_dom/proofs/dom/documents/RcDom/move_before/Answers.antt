@@ -3,6 +3,7 @@ use Rattle.std.proofs.lemmas.List.{length-map}
 use Rattle.html_render_dom.specs.Dom.{parent_at}
 use Rattle.html_render_dom.specs.Documents.{dom_of}
 use Rattle.html_render_dom_nodes.specs.Nodes.{node_of}
+use Rattle.html_render_dom_nodes.specs.Moves.{inserted_before, taken_out}
 use Rattle.html_render_dom.proofs.Moves.{IsForest-move_before, IsNode-named}
 use Rattle.html_render_dom.proofs.Outcomes.{IsForest-either}
 use Rattle.html_render_dom.proofs.dom.documents.RcDom.move_before.Goals as goal
@@ -17,7 +18,8 @@ move_before-requires-clause-parent c =
 
 pub invariant_of-self : goal.invariant_of-self
 invariant_of-self c =
-    let dom = dom_of c.self.inside in
-    IsForest-either c.move_before.result dom _ _ c.self.invariant c.move_before.ensures.ok c.move_before.ensures.err
-    (IsForest-move_before dom _ c.self.view_is c.self.invariant c.args.parent c.args.sibling c.args.child c.requires.parent
-    c.requires.child _ c.get_parent-from.ensures.parent)
+    IsForest-either c.move_before.result
+    (λ ns. inserted_before (taken_out ns c.get_parent-from.result c.args.child) c.args.parent c.args.sibling c.args.child) c.self.view_is
+    c.self.invariant
+    (λ f. IsForest-move_before c.args.self.now f c.args.parent c.args.sibling c.args.child c.requires.parent c.requires.child _
+    c.get_parent-from.ensures.parent) _ c.move_before.ensures.ok c.move_before.ensures.err

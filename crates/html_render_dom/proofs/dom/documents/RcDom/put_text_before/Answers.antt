@@ -1,8 +1,9 @@
-use Rattle.std.proofs.Common.{rules, arith, ◌≡◌, Some, length, map, subst, sym, vec_len}
+use Rattle.std.proofs.Common.{rules, arith, ◌≡◌, Some, length, map, string_bytes, subst, sym, vec_len}
 use Rattle.std.proofs.lemmas.List.{length-map}
 use Rattle.html_render_dom.specs.Dom.{parent_at, IsNode}
 use Rattle.html_render_dom.specs.Documents.{dom_of}
 use Rattle.html_render_dom_nodes.specs.Nodes.{node_of}
+use Rattle.html_render_dom_nodes.specs.Moves.{text_placed}
 use Rattle.html_render_dom.proofs.Moves.{IsForest-text_placed, IsNode-named}
 use Rattle.html_render_dom.proofs.Outcomes.{IsForest-either}
 use Rattle.html_render_dom.proofs.dom.documents.RcDom.put_text_before.Goals as goal
@@ -23,7 +24,8 @@ put_text_before-requires-clause-parent c =
 
 pub invariant_of-self : goal.invariant_of-self
 invariant_of-self c =
-    let dom = dom_of c.self.inside in
-    IsForest-either c.put_text_before.result dom _ _ c.self.invariant c.put_text_before.ensures.ok c.put_text_before.ensures.err
-    (IsForest-text_placed dom _ c.self.view_is c.self.invariant c.args.parent c.args.sibling c.requires _
-    c.text_before-last.ensures.is_node _)
+    IsForest-either c.put_text_before.result (λ ns. text_placed ns c.args.parent c.args.sibling c.text_before-last.result (string_bytes c.args.text)) c.self.view_is
+    c.self.invariant
+    (λ f. IsForest-text_placed c.args.self.now f c.args.parent c.args.sibling c.requires _ c.text_before-last.ensures.is_node
+    (string_bytes c.args.text)) _
+    c.put_text_before.ensures.ok c.put_text_before.ensures.err

@@ -5,7 +5,9 @@ use Rattle.html_render_dom.specs.Dom.{IsNode, IsInclusiveAncestor, itself, child
 use Rattle.html_render_dom.specs.laws.Forests.{All-children}
 use Rattle.html_render_dom.specs.Documents.{dom_of}
 use Rattle.html_render_dom_nodes.specs.Nodes.{node_of}
+use Rattle.html_render_dom_nodes.specs.Moves.{reparented}
 use Rattle.html_render_dom.proofs.Moves.{IsForest-reparented}
+use Rattle.html_render_dom.proofs.Outcomes.{IsForest-changed}
 use Rattle.html_render_dom.proofs.dom.documents.RcDom.reparent_children.Goals as goal
 
 pub move_children-requires-clause-apart : goal.move_children-requires-clause-apart
@@ -20,5 +22,6 @@ move_children-requires-clause-children c =
 
 pub invariant_of-self-2 : goal.invariant_of-self-2
 invariant_of-self-2 c =
-    IsForest-reparented (dom_of c.self.inside) c.args.self.now c.self.view_is c.self.invariant c.args.node c.args.new_parent
-    c.requires.node c.requires.new_parent c.requires.away _ c.in_ok-move_children.ensures.ok
+    IsForest-changed (λ ns. reparented ns c.args.node c.args.new_parent) c.self.view_is c.self.invariant
+    (λ f. IsForest-reparented c.args.self.now f c.args.node c.args.new_parent c.requires.node c.requires.new_parent c.requires.away) _
+    c.in_ok-move_children.ensures.ok

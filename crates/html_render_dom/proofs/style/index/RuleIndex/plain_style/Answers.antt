@@ -1,7 +1,7 @@
 use Rattle.std.proofs.Common.{ap, sym, ◌∙◌, string_bytes}
 use Rattle.std.specs.Prelude.{find, option_copied}
 use Rattle.std.specs.Str.{bytes_eq}
-use Rattle.html_render_dom.proofs.PlainStyles.{plain-found}
+use Rattle.html_render_dom.proofs.RuleIndex.{plain-found}
 use Rattle.html_render_dom.specs.declared.style.index.PlainStyle.{PlainStyle}
 use Rattle.html_render_dom.proofs.style.index.RuleIndex.plain_style.Goals as goal
 

@@ -1,13 +1,12 @@
 -- Each iteration of the loop adds the next rule to the index.
-use Rattle.std.proofs.Common.{◌≡◌, List, ℕ, Some, None, ◌||◌, true, length, map, option_map, string_bytes, refl, sym, ap, subst, ◌∙◌, arith}
+use Rattle.std.proofs.Common.{List, ℕ, Some, None, ◌||◌, true, length, map, option_map, string_bytes, refl, sym, ap, ◌∙◌, arith}
 use Rattle.std.proofs.lemmas.List.{length-map, length-set, take_all}
-use Rattle.std.proofs.lemmas.List.Elements.{Contains-push}
 use Rattle.std.proofs.lemmas.Option.{slice_get-map, slice_get_read}
-use Rattle.std.specs.List.{Contains, list_any}
+use Rattle.std.specs.List.{list_any}
 use Rattle.html_render_dom.specs.declared.style.index.RuleIndex.{RuleIndex}
-use Rattle.html_render_dom.specs.RuleIndex.{asks_attributes, IsFound, text_key, stated_text}
+use Rattle.html_render_dom.specs.RuleIndex.{asks_attributes, text_key}
 use Rattle.html_render_dom_styles.specs.Rules.{rule_of}
-use Rattle.html_render_dom.proofs.RuleIndex.{HasFirst-more, general-kept, put-found, put-kept}
+use Rattle.html_render_dom.proofs.RuleIndex.{HasFirst-more, general-found, put-found}
 use Rattle.html_render_dom.proofs.style.index.RuleIndex.without_styles.Goals as goal
 use Rattle.html_render_dom.proofs.style.index.RuleIndex.without_styles.Goals.{in-Some+in_ok-put-in-Some, in-None+in_ok-push-in-None}
 
@@ -24,21 +23,15 @@ loop-number-preserved c =
     elim c.match-stated_text.branch [
       | in-Some+in_ok-put-in-Some w ↦ (
           let text : List ℕ = string_bytes w.in-Some.text.now in
-          let stated : Some text ≡ stated_text (rule_of rule) =
-          sym (ap (option_map (λ t. string_bytes t.now)) w.in-Some.is) ∙ c.stated_text.ensures in
           let put = w.in_ok-put-in-Some.ensures in
-          let long = c.loop-number.invariant.0 in
-          rw w.index-is (more w.put.new.self (ap length put.keys ∙ length-set old.keys.items (text_key text) true) (put.asks ∙ asks)
-          (put-kept old w.put.new.self text i long put.keys put.general put.numbers)
-          (subst (IsFound w.put.new.self i) stated (put-found old w.put.new.self text i long put.keys put.numbers)))
+          rw w.index-is (more w.put.new.self (ap length put.keys ∙ length-set old.keys.items (text_key text) true) (put.asks ∙ asks) (Some text)
+          (ap (option_map (λ t. string_bytes t.now)) (sym w.in-Some.is) ∙ c.stated_text.ensures)
+          (put-found old w.put.new.self text i c.loop-number.invariant.0 put.keys put.general put.numbers))
           )
       | in-None+in_ok-push-in-None w ↦ (
-          let stated : None ≡ stated_text (rule_of rule) =
-          sym (ap (option_map (λ t. string_bytes t.now)) w.in-None.is) ∙ c.stated_text.ensures in
           let new : RuleIndex = record old { general = w.push.new.self; asks_attributes = old.asks_attributes || c.asks_attributes.result } in
-          let items = w.in_ok-push-in-None.ensures.items in
-          rw w.index-is (more new refl asks (general-kept old new i refl refl items)
-          (subst (IsFound new i) stated (subst (λ ns. Contains ns i) (sym items) (Contains-push old.general.items i))))
+          rw w.index-is (more new refl asks None (ap (option_map (λ t. string_bytes t.now)) (sym w.in-None.is) ∙ c.stated_text.ensures)
+          (general-found old new i refl refl w.in_ok-push-in-None.ensures.items))
           )
     ]
 
