@@ -1,7 +1,9 @@
 -- A declaration changes its own property, and nothing else.
 use Rattle.std.proofs.Common.{◌≡◌, ℕ, ◌+◌, ◌<◌, Bool, true, false, List, [], ◌∷◌, ◌++◌, length, get_or, take, map, filter, Option, Some, None}
 use Rattle.std.proofs.Common.{option_to_list, String, refl, sym, ap, ◌∙◌, append_assoc, Global}
-use Rattle.std.proofs.lemmas.List.{append-nil, take_more}
+use Rattle.std.proofs.lemmas.List.{append-nil, flat_map_more, take_more}
+use Rattle.std.proofs.lemmas.List.Concat.{flat_map_single}
+use Rattle.std.proofs.lemmas.List.Folds.{flat_map-map}
 use Rattle.std.proofs.lemmas.List.Elements.{filter-append, filter_map-append}
 use Rattle.std.proofs.lemmas.Grind.{flat_map-append}
 use Rattle.std.specs.List.{flat_map}
@@ -13,12 +15,11 @@ use Rattle.html_render_dom_styles.specs.declared.rules.PseudoElement.TheVariants
 use Rattle.html_render_dom_styles.specs.declared.origins.StyleOrigin.{StyleOrigin}
 use Rattle.html_render_dom_styles.specs.declared.specificities.Specificity.{Specificity}
 use Rattle.html_render_dom_styles.specs.declared.rules.Style.{Style}
-use Rattle.html_render_dom_styles.specs.declared.rules.Style.TheVariants.{Colour as ColourSet, BgColour, Display as DisplaySet}
-use Rattle.html_render_dom_styles.specs.declared.rules.Style.TheVariants.{WhiteSpace as WhiteSpaceSet, Content}
+use Rattle.html_render_dom_styles.specs.declared.rules.Style.TheVariants.{Content}
 use Rattle.html_render_dom_styles.specs.declared.rules.Declaration.{Declaration}
 use Rattle.html_render_dom_styles.specs.declared.rules.StyleRule.{StyleRule}
 use Rattle.html_render_dom_styles.specs.Selectors.{specificity_of}
-use Rattle.html_render_dom_styles.specs.Rules.{Rule, StyleValue, declared_of, rule_of, style_value_of}
+use Rattle.html_render_dom_styles.specs.Rules.{Declared, Rule, StyleValue, declared_of, rule_of, style_value_of}
 use Rattle.html_render_dom.specs.ElementStyle.{Applied, applied, ElementStyle, updates, with_more, with_declarations, colour_in, bg_colour_in}
 use Rattle.html_render_dom.specs.ElementStyle.{display_in, white_space_value, content_in}
 use Rattle.html_render_dom_styles.specs.laws.Winners.{winner-one, winner-front}
@@ -82,27 +83,18 @@ pub other_beside : (s : ElementStyle) (important : Bool) (origin : StyleOrigin) 
       pseudo = Some place;
       declared = record { important = important; style = style_value_of style };
     } ∷ [])
-other_beside s important origin specificity Before (ColourSet x) h = still s
-other_beside s important origin specificity After (ColourSet x) h = still s
-other_beside s important origin specificity Before (BgColour x) h = still s
-other_beside s important origin specificity After (BgColour x) h = still s
-other_beside s important origin specificity Before (DisplaySet x) h = still s
-other_beside s important origin specificity After (DisplaySet x) h = still s
-other_beside s important origin specificity Before (WhiteSpaceSet x) h = still s
-other_beside s important origin specificity After (WhiteSpaceSet x) h = still s
 other_beside s important origin specificity place (Content text) h = absurd (h text refl)
+other_beside s important origin specificity Before style h = still s
+other_beside s important origin specificity After style h = still s
 
 -- the declarations of i items of a list, and then those of the next one, are those of i + 1 items
 pub with_declarations-more : {X : Type 0} (f : X → List Applied) (s : ElementStyle) (xs : List X) (i : ℕ) (x : X) → i < length xs →
     x ≡ get_or xs i x → with_declarations (with_declarations s (flat_map f (take i xs))) (f x)
     ≡ with_declarations s (flat_map f (take (i + 1) xs))
 with_declarations-more f s xs i x lt e =
+    let one_more : take (i + 1) xs ≡ take i xs ++ x ∷ [] = take_more xs i x lt ∙ ap (λ z. take i xs ++ z ∷ []) (sym e) in
     with_declarations-append s (flat_map f (take i xs)) (f x)
-    ∙ ap (with_declarations s) (ap (λ zs. flat_map f (take i xs) ++ zs) (sym (append-nil (f x)))
-    ∙ sym (flat_map-append f (take i xs) (x ∷ [])) ∙ ap (flat_map f) (sym one_more))
-  where
-    one_more : take (i + 1) xs ≡ take i xs ++ x ∷ []
-    one_more = take_more xs i x lt ∙ ap (λ z. take i xs ++ z ∷ []) (sym e)
+    ∙ ap (with_declarations s) (flat_map_more f [] (take i xs) x ∙ ap (flat_map f) (sym one_more))
 
 -- a declaration with the origin, specificity and pseudo-element of its rule, as a list of one
 abbrev pub said_by : StyleOrigin → Specificity → Option PseudoElement → Declaration → List Applied
@@ -110,14 +102,10 @@ said_by origin specificity pseudo d = record { origin = origin; specificity = sp
 
 pub said_by-all : (rule : StyleRule) →
     flat_map (said_by rule.origin (specificity_of (rule_of rule)) rule.pseudo) rule.declarations.items ≡ applied (rule_of rule)
-said_by-all rule = each rule.declarations.items
-  where
-    each : (ds : List Declaration) →
-        flat_map (said_by rule.origin (specificity_of (rule_of rule)) rule.pseudo) ds
-        ≡ map (λ d. record { origin = rule.origin; specificity = specificity_of (rule_of rule); pseudo = rule.pseudo; declared = d })
-        (map declared_of ds)
-    each [] = refl
-    each (d ∷ ds) = rw (each ds) refl
+said_by-all rule =
+    let said : Declared → Applied =
+    λ d. record { origin = rule.origin; specificity = specificity_of (rule_of rule); pseudo = rule.pseudo; declared = d } in
+    sym (flat_map-map (λ d. said d ∷ []) declared_of rule.declarations.items) ∙ flat_map_single said (map declared_of rule.declarations.items)
 
 -- the declarations of a rule if it is selected, otherwise none
 abbrev pub said_to : (selects : Rule → Bool) → Rule → List Applied

@@ -1,8 +1,8 @@
 -- The rest of a dump after each step.
 use Rattle.std.proofs.Common.{◌≡◌, ℕ, ◌<◌, ◌≤◌, ◌+◌, ◌-◌, ◌*◌, List, [], ◌∷◌, ◌++◌, length, drop, slice_index_or, Result, Ok, Err, OnOk, Option}
-use Rattle.std.proofs.Common.{Bool, Contains, refl, sym, ap, ◌∙◌, subst, arith, append_assoc}
+use Rattle.std.proofs.Common.{All, Bool, Contains, refl, sym, ap, ◌∙◌, subst, arith, append_assoc}
 use Rattle.std.proofs.lemmas.List.{append-nil, at_drop_more}
-use Rattle.std.proofs.lemmas.List.Elements.{Contains-get_or}
+use Rattle.std.proofs.lemmas.List.Elements.{All-push, Contains-get_or}
 use Rattle.std.proofs.lemmas.List.Sums.{sum_by-append}
 use Rattle.html_render_dom.specs.declared.dom.dump.Frame.{Frame}
 use Rattle.html_render_dom_nodes.specs.Content.{Content, Name, Property, document, comment, element, instruction}
@@ -120,9 +120,11 @@ stepped dom g f x p out fs fs' e =
     ∙ ap (λ r. out ++ r) (sym (append_assoc d (rest_of dom (after_child f)) (rest dom fs))
     ∙ ap (λ r. r ++ rest dom fs) (sym (rest-child dom g f x p.0 p.1 p.2)))
 
-pub fits-fresh : (dom : Dom) → IsForest dom → (h indent i : ℕ) → IsNode dom h → i ≤ indent + 1 →
-    indent + depth (tree_of dom h) ≤ node_count dom → FrameFits dom (fresh_frame h i)
-fits-fresh dom g h indent i at le fits = let e = ap depth (tree-node dom g h at) in (at, omega (arith, e, fits, le))
+pub fits-fresh : (dom : Dom) → IsForest dom → (h indent i : ℕ) → IsNode dom h → i ≤ indent + 1 → indent + depth (tree_of dom h) ≤ node_count dom →
+    (fs fs' : List Frame) → All (FrameFits dom) fs → fs' ≡ fs ++ fresh_frame h i ∷ [] → All (FrameFits dom) fs'
+fits-fresh dom g h indent i at le fits fs fs' all e =
+    let deep = ap depth (tree-node dom g h at) in
+    rw e (All-push (FrameFits dom) fs (fresh_frame h i) all (at, omega (arith, deep, fits, le)))
 
 pub steps-fresh : (dom : Dom) → IsForest dom → (h i : ℕ) → IsNode dom h → (fs fs' : List Frame) → fs' ≡ fs ++ fresh_frame h i ∷ [] →
     steps dom fs' < 2 * count (tree_of dom h) + steps dom fs

@@ -3,6 +3,7 @@ use Rattle.std.proofs.Common.{◌≡◌, ℕ, zero, suc, ◌<◌, ◌+◌, ◌-�
 use Rattle.std.proofs.Common.{Option, Some, None, IfSome, ◌⊎◌, inl, inr, refl, sym, ap, ◌∙◌, subst, arith, length-append}
 use Rattle.std.proofs.lemmas.Bool.{cond_both}
 use Rattle.std.proofs.lemmas.Bool.Decides.{eqb_tells}
+use Rattle.std.proofs.lemmas.Option.{same_Some}
 use Rattle.std.proofs.lemmas.Cmp.{nat_eq_equiv}
 use Rattle.std.proofs.lemmas.List.{length-set, get_or-append_right}
 use Rattle.std.proofs.lemmas.List.Elements.{Contains-push, Contains-push_cases, Contains-append_left}
@@ -18,9 +19,6 @@ use Rattle.html_render_dom_nodes.specs.Edits.{with_content, attached, attached_n
 use Rattle.html_render_dom.specs.Edits.{IsFresh}
 use Rattle.html_render_dom.specs.laws.Members.{any-from_absent}
 use Rattle.html_render_dom.proofs.Changed.{IsForest-put, IsForest-same_shape}
-
-some_same : (a b : ℕ) → Some a ≡ Some b → a ≡ b
-some_same a b e = cc
 
 -- ---- each edit
 
@@ -141,7 +139,7 @@ grown-two dom c next f =
       forest = IsForest-same_shape shape top (λ h k e. elim (created-contents (created dom.nodes c) document h k e) [
         | inl o ↦ elim (created-contents dom.nodes c h k o) [
           | inl p ↦ omega (arith, f.template_contents_is_node h k p, shape.grows)
-          | inr n ↦ (let is : length dom.nodes + 1 ≡ k = some_same _ _ (sym next ∙ n) in omega (arith, is, one, two))
+          | inr n ↦ (let is : length dom.nodes + 1 ≡ k = same_Some _ _ (sym next ∙ n) in omega (arith, is, one, two))
         ]
         | inr n ↦ absurd (let none : None ≡ Some k = n in cc)
       ]) f;

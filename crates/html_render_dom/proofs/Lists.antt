@@ -1,51 +1,33 @@
 -- Members of lists of children after removals and insertions.
-use Rattle.std.proofs.Common.{◌≡◌, ◌≢◌, ◌==◌, ℕ, false, not, nat_eq, List, [], ◌∷◌, ◌++◌, slice_index_or, Contains}
-use Rattle.std.proofs.Common.{◌⊎◌, inl, inr, sym, ◌∙◌, subst}
+use Rattle.std.proofs.Common.{◌≡◌, ◌≢◌, ◌==◌, ℕ, true, false, not, nat_eq, List, [], ◌∷◌, ◌++◌, slice_index_or, Contains}
+use Rattle.std.proofs.Common.{◌⊎◌, inl, inr, refl, sym, ◌∙◌, subst}
 use Rattle.std.specs.List.{IsDistinct, AllByRecursion}
 use Rattle.std.proofs.lemmas.Bool.{false≢true}
 use Rattle.std.proofs.lemmas.Bool.Decides.{eqb_tells}
-use Rattle.std.proofs.lemmas.List.Elements.{Contains-get_or, All-filter, All-from_recursion, recursion_from_All, Contains-append_cases}
-use Rattle.std.proofs.lemmas.Map.Keys.{IsDistinct-head, IsDistinct-tail, IsDistinct-cons}
+use Rattle.std.proofs.lemmas.List.Elements.{Contains-get_or, All-contains, All-contains_itself, All-filter, All-from_recursion, filter_passes, recursion_from_All, Contains-append_cases}
+use Rattle.std.proofs.lemmas.List.Kept.{AllPairs-filter}
+use Rattle.std.proofs.lemmas.Map.Keys.{IsDistinct-head, IsDistinct-tail, IsDistinct-cons, IsDistinct-from_apart, apart_from_distinct}
 use Rattle.html_render_dom.specs.laws.Forests.{IsDistinct-nil}
-use Rattle.html_render_dom.specs.laws.Members.{Contains-nil, Contains-head, Contains-tail, Contains-cons_cases}
+use Rattle.html_render_dom.specs.laws.Members.{All-unfiltered, Contains-nil, Contains-head, Contains-tail, Contains-cons_cases}
 use Rattle.html_render_dom_nodes.specs.Moves.{without, before}
 
 pub Contains-from_without : (h : ℕ) (xs : List ℕ) (x : ℕ) → Contains (without h xs) x → Contains xs x × (x ≢ h)
-Contains-from_without h [] x m = absurd (Contains-nil x m)
-Contains-from_without h (y ∷ xs) x m =
-    elim (eqb_tells y h) [
-      | inl e ↦ (let r = Contains-from_without h xs x (rw e.0 at m) in (Contains-tail y xs x r.0, r.1))
-      | inr d ↦ elim (Contains-cons_cases y (without h xs) x (rw d.0 at m)) [
-        | inl e ↦ (rw e (Contains-head x xs), λ q. d.1 (e ∙ q))
-        | inr t ↦ (let r = Contains-from_without h xs x t in (Contains-tail y xs x r.0, r.1))
-      ]
-    ]
+Contains-from_without h xs x m =
+    let passed : not (x == h) ≡ true = All-contains (λ y. not (y == h) ≡ true) (without h xs) x (filter_passes (λ y. not (y == h)) xs) m in (
+      All-contains (Contains xs) (without h xs) x (All-filter (λ y. not (y == h)) (Contains xs) xs (All-contains_itself xs)) m,
+      elim (eqb_tells x h) [ inl e ↦ absurd (cc) | inr d ↦ d.1 ],
+    )
 
 pub Contains-without : (h : ℕ) (xs : List ℕ) (x : ℕ) → Contains xs x → x ≢ h → Contains (without h xs) x
-Contains-without h [] x m other = absurd (Contains-nil x m)
-Contains-without h (y ∷ xs) x m other =
-    elim (eqb_tells y h) [
-      | inl e ↦ elim (Contains-cons_cases y xs x m) [
-        | inl q ↦ absurd (other (sym q ∙ e.1))
-        | inr t ↦ rw e.0 (Contains-without h xs x t other)
-      ]
-      | inr d ↦ elim (Contains-cons_cases y xs x m) [
-        | inl q ↦ rw d.0 (subst (λ z. Contains (z ∷ without h xs) x) (sym q) (Contains-head x (without h xs)))
-        | inr t ↦ rw d.0 (Contains-tail y (without h xs) x (Contains-without h xs x t other))
-      ]
-    ]
+Contains-without h xs x m other =
+    All-contains (λ y. not (y == h) ≡ true → Contains (without h xs) y) xs x
+    (All-unfiltered (λ y. not (y == h)) (Contains (without h xs)) xs (All-contains_itself (without h xs))) m
+    (elim (eqb_tells x h) [ inl e ↦ absurd (other e.1) | inr d ↦ rw d.0 refl ])
 
 pub IsDistinct-without : (h : ℕ) (xs : List ℕ) → IsDistinct nat_eq xs → IsDistinct nat_eq (without h xs)
-IsDistinct-without h [] d = IsDistinct-nil
-IsDistinct-without h (x ∷ xs) d =
-    let kept = IsDistinct-without h xs (IsDistinct-tail nat_eq x xs d) in
-    elim (eqb_tells x h) [
-      | inl e ↦ rw e.0 kept
-      | inr n ↦ rw n.0 (IsDistinct-cons nat_eq x (without h xs)
-          (recursion_from_All (λ y. nat_eq x y ≡ false) (without h xs)
-          (All-filter (λ y. not (y == h)) (λ y. nat_eq x y ≡ false) xs
-          (All-from_recursion (λ y. nat_eq x y ≡ false) xs (IsDistinct-head nat_eq x xs d)))) kept)
-    ]
+IsDistinct-without h xs d =
+    IsDistinct-from_apart nat_eq (without h xs)
+    (AllPairs-filter (λ x y. nat_eq x y ≡ false) (λ y. not (y == h)) xs (λ i j k. apart_from_distinct nat_eq xs i j k d))
 
 pub Contains-from_before : (s c : ℕ) (xs : List ℕ) (x : ℕ) → Contains (before s c xs) x → Contains xs x ⊎ (c ≡ x)
 Contains-from_before s c [] x m = absurd (Contains-nil x m)

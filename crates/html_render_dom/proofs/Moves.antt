@@ -4,6 +4,7 @@ use Rattle.std.proofs.Common.{sym, ◌∙◌, arith, length-append}
 use Rattle.std.specs.List.{list_any}
 use Rattle.std.proofs.lemmas.Bool.{cases_Bool, false≢true}
 use Rattle.std.proofs.lemmas.Bool.Decides.{eqb_tells}
+use Rattle.std.proofs.lemmas.Option.{same_Some}
 use Rattle.std.proofs.lemmas.List.Elements.{Contains-append_left, Contains-append_right, Contains-append_cases}
 use Rattle.html_render_dom_nodes.specs.Content.{Content, text}
 use Rattle.html_render_dom_nodes.specs.Elements.{contents_in}
@@ -18,9 +19,6 @@ use Rattle.html_render_dom.proofs.Changed.{descend, Moves, IsForest-same_content
 use Rattle.html_render_dom.proofs.Lists.{Contains-from_without, Contains-without, IsDistinct-without, Contains-from_before, Contains-before}
 use Rattle.html_render_dom.proofs.Lists.{Contains-placed, IsDistinct-before, IsDistinct-append}
 use Rattle.html_render_dom.proofs.Forests.{IsForest-created, IsFresh-next, IsForest-with_content, contents_in-joined}
-
-same_value : (a b : ℕ) → Some a ≡ Some b → a ≡ b
-same_value a b e = cc
 
 -- ---- each move
 
@@ -40,7 +38,7 @@ IsForest-out dom f p c named = IsForest-taken f (taken_facts dom f p c named) (r
   from = λ x l. inl (Contains-from_without c (children_at dom p) x l);
   still = Contains-without c (children_at dom p);
   comes = λ r e. absurd (cc);
-  nowhere_else = λ r other l. other (same_value r p (sym (f.child_names_parent r c l) ∙ named));
+  nowhere_else = λ r other l. other (same_Some r p (sym (f.child_names_parent r c l) ∙ named));
   once = IsDistinct-without c (children_at dom p) (f.once p);
 })
 
@@ -112,7 +110,7 @@ listed_or_not cs h =
 module _ {old new : Dom} {u v : ℕ} (f : IsForest old) (apart : u ≢ v) (a : Reparents old new u v) where
   -- a child of a node other than u isn't a child of u
   not_moved : (q x : ℕ) → q ≢ u → Contains (children_at old q) x → Contains (children_at old u) x → ⊥
-  not_moved q x other l m = other (same_value q u (sym (f.child_names_parent q x l) ∙ f.child_names_parent u x m))
+  not_moved q x other l m = other (same_Some q u (sym (f.child_names_parent q x l) ∙ f.child_names_parent u x m))
 
   joined-listed : (q x : ℕ) → Contains (children_at new q) x → ((q ≢ u) × Contains (children_at old q) x) ⊎ ((q ≡ v) × Contains (children_at old u) x)
   joined-listed q x l =
@@ -130,7 +128,7 @@ module _ {old new : Dom} {u v : ℕ} (f : IsForest old) (apart : u ≢ v) (a : R
   joined-lists : (q x : ℕ) → parent_at new x ≡ Some q → Contains (children_at new q) x
   joined-lists q x e =
       elim (listed_or_not (children_at old u) x) [
-        | inl m ↦ (let q_is : v ≡ q = same_value v q (sym (a.named x m) ∙ e) in
+        | inl m ↦ (let q_is : v ≡ q = same_Some v q (sym (a.named x m) ∙ e) in
             rw (← q_is, a.list_to) (Contains-append_right (children_at old v) (children_at old u) x m))
         | inr out ↦ (let o = f.parent_lists_child q x (sym (a.parents_elsewhere x out) ∙ e) in
             elim (eqb_tells q u) [

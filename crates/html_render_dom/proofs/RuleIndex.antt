@@ -1,7 +1,7 @@
 -- An index has each rule that is added to it, and finds each rule that selects an element.
 use Rattle.std.proofs.Common.{◌≡◌, ◌⊎◌, ℕ, suc, ◌+◌, ◌-◌, ◌<◌, ◌≤◌, Bool, true, false, ◌&&◌, ◌||◌, if◌then◌else◌, List, [], ◌∷◌, ◌++◌, length, get_or, set, take}
 use Rattle.std.proofs.Common.{find, string_bytes, Option, Some, None, is_some, codes, cond, map, filter, option_to_list, slice_get, refl, sym, ap, subst, ◌∙◌, inl, inr, arith, Bor}
-use Rattle.std.proofs.lemmas.Bool.{and_parts, cases_Bool, cases_lt, false≢true, or_parts}
+use Rattle.std.proofs.lemmas.Bool.{and_parts, cases_Bool, cases_lt, or_parts}
 use Rattle.std.proofs.lemmas.List.{get_or-set_same}
 use Rattle.std.proofs.lemmas.List.Elements.{All-nil, All-cons, All-head, All-tail, All-map, All-contains, Contains-append_left, Contains-append_right, Contains-push}
 use Rattle.std.proofs.lemmas.List.Kept.{AllPairs-from_increasing}
@@ -17,7 +17,7 @@ use Rattle.std.specs.Str.{bytes_eq}
 use Rattle.html_render_dom.specs.declared.style.index.PlainStyle.{PlainStyle}
 use Rattle.html_render_dom.specs.declared.style.index.RuleIndex.{RuleIndex}
 use Rattle.html_render_dom.proofs.Applies.{said_to-all}
-use Rattle.html_render_dom.specs.laws.Members.{Contains-cons_cases, Contains-head, Contains-tail}
+use Rattle.html_render_dom.specs.laws.Members.{All-unfiltered, Contains-cons_cases, Contains-head, Contains-tail}
 use Rattle.html_render_dom.specs.ElementStyle.{applied, element_style, style_by, style_of}
 use Rattle.html_render_dom.specs.RuleIndex.{asks_attributes, Finds, Indexes, IsFound, IsPlain, is_told, said_at, text_key, numbers_under, stated_text, text_stated, texts_of}
 use Rattle.html_render_dom_nodes.specs.declared.names.Attribute.{Attribute}
@@ -60,21 +60,18 @@ pub put-found : (old new : RuleIndex) (text : List ℕ) (number : ℕ) → lengt
 put-found old new text number long keys general numbers = (
   kept,
   (
-    told text (get_or-set_same old.keys.items (text_key text) true true (omega (arith, long))),
+    ap (λ ks. is_told ks text) keys ∙ get_or-set_same old.keys.items (text_key text) true true (omega (arith, long)),
     subst (λ ns. Contains ns number) (sym (numbers text)) (rw ((bytes_eq-Decides text text).1 refl) (Contains-push (numbers_under old text) number)),
   ),
 )
   where
-    told : (t : List ℕ) → get_or (set old.keys.items (text_key text) true) (text_key t) true ≡ true → is_told new.keys.items t ≡ true
-    told t is = ap (λ ks. get_or ks (text_key t) true) keys ∙ is
-
-    still : (t : List ℕ) → is_told old.keys.items t ≡ true → get_or (set old.keys.items (text_key text) true) (text_key t) true ≡ true
+    still : (t : List ℕ) → is_told old.keys.items t ≡ true → is_told (set old.keys.items (text_key text) true) t ≡ true
     still t told = grind (arith, common_steps)
 
     kept : (n : ℕ) (stated : Option (List ℕ)) → IsFound old n stated → IsFound new n stated
     kept n None found = subst (λ ns. Contains ns n) (sym general) found
     kept n (Some t) found = (
-      told t (still t found.0),
+      ap (λ ks. is_told ks t) keys ∙ still t found.0,
       subst (λ ns. Contains ns n) (sym (numbers t)) (elim (cases_Bool (bytes_eq t text)) [
         | inl e ↦ rw e (Contains-append_left (numbers_under old t) (number ∷ []) n found.1)
         | inr e ↦ rw e found.1
@@ -119,17 +116,6 @@ has_stated name id classes rule text asked states =
         subst (Contains (texts_of name of_it classes)) (sym (same e name named) ∙ same_Some e text is)
         (Contains-head name (option_to_list of_it ++ words (unwrap_or classes [])))
     had [] None None of_it classed identified named is = absurd (cc)
-
--- what holds of each element that a filter keeps
-All-unfiltered : {X : Type 0} (p : X → Bool) (P : X → Type 0) (xs : List X) → All P (filter p xs) → All (λ x. p x ≡ true → P x) xs
-All-unfiltered p P [] all = All-nil (λ y. p y ≡ true → P y)
-All-unfiltered p P (x ∷ xs) all = elim (cases_Bool (p x)) [
-  | inl e ↦ (
-      let kept = rw e at all in
-      All-cons (λ y. p y ≡ true → P y) x xs (λ t. All-head P x (filter p xs) kept) (All-unfiltered p P xs (All-tail P x (filter p xs) kept))
-      )
-  | inr e ↦ All-cons (λ y. p y ≡ true → P y) x xs (λ t. absurd (false≢true (sym e ∙ t))) (All-unfiltered p P xs (rw e at all))
-]
 
 -- ---- applying rules by their numbers, in order
 

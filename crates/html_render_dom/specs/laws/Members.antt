@@ -1,10 +1,10 @@
 -- Members of lists.
-use Rattle.std.proofs.Common.{◌≡◌, ℕ, true, false, List, [], ◌∷◌, ◌⊎◌, inl, inr, refl, subst, arith, eqb, Contains}
-use Rattle.std.specs.List.{flat_map, list_any}
-use Rattle.std.proofs.lemmas.Bool.{cases_Bool, eqb-true}
+use Rattle.std.proofs.Common.{◌≡◌, ℕ, Bool, true, false, filter, List, [], ◌∷◌, ◌⊎◌, inl, inr, refl, sym, ◌∙◌, subst, arith, eqb, Contains}
+use Rattle.std.specs.List.{All, flat_map, list_any}
+use Rattle.std.proofs.lemmas.Bool.{cases_Bool, eqb-true, false≢true}
 use Rattle.std.proofs.lemmas.Cmp.{nat_eq_equiv}
 use Rattle.std.proofs.lemmas.Map.Views as Views
-use Rattle.std.proofs.lemmas.List.Elements.{Contains-append_left, Contains-append_right, Contains-append_cases, Contains-push_cases}
+use Rattle.std.proofs.lemmas.List.Elements.{All-nil, All-cons, All-head, All-tail, Contains-append_left, Contains-append_right, Contains-append_cases, Contains-push_cases}
 
 pub Contains-nil : {X : Type 0} (x : X) → Contains [] x → ⊥
 Contains-nil x h = omega (arith, h.1)
@@ -31,6 +31,17 @@ Contains-flat_map f [] x y h within = absurd (Contains-nil x h)
 Contains-flat_map f (z ∷ xs) x y h within = elim (Contains-cons_cases z xs x h) [
   | inl e ↦ Contains-append_left (f z) (flat_map f xs) y (rw e within)
   | inr t ↦ Contains-append_right (f z) (flat_map f xs) y (Contains-flat_map f xs x y t within)
+]
+
+-- what holds of each element that a filter keeps
+pub All-unfiltered : {X : Type 0} (p : X → Bool) (P : X → Type 0) (xs : List X) → All P (filter p xs) → All (λ x. p x ≡ true → P x) xs
+All-unfiltered p P [] all = All-nil (λ y. p y ≡ true → P y)
+All-unfiltered p P (x ∷ xs) all = elim (cases_Bool (p x)) [
+  | inl e ↦ (
+      let kept = rw e at all in
+      All-cons (λ y. p y ≡ true → P y) x xs (λ t. All-head P x (filter p xs) kept) (All-unfiltered p P xs (All-tail P x (filter p xs) kept))
+      )
+  | inr e ↦ All-cons (λ y. p y ≡ true → P y) x xs (λ t. absurd (false≢true (sym e ∙ t))) (All-unfiltered p P xs (rw e at all))
 ]
 
 -- `list_any` finds a number exactly if the number is in the list

@@ -1,59 +1,44 @@
 use Rattle.std.proofs.Common.{◌+◌, [], sym, ap, ◌∙◌, subst, arith}
 use Rattle.std.proofs.lemmas.List.{append-nil}
-use Rattle.std.proofs.lemmas.List.Elements.{All-push}
 use Rattle.html_render_dom_nodes.specs.Content.{content_of}
 use Rattle.html_render_dom.specs.Dom.{IsForest}
-use Rattle.html_render_dom.specs.Frames.{FrameFits}
 use Rattle.html_render_dom.proofs.Dumps.{on_ok, opened, fresh_frame, dump-document, dump-element, fits-fresh, steps-fresh}
 use Rattle.html_render_dom.proofs.dom.documents.RcDom.write_start.Goals as goal
 
 pub returns-in-Document-clause-ok : goal.returns-in-Document-clause-ok
 returns-in-Document-clause-ok c =
-    let dom = c.args.self.now in
-    let f = subst IsForest c.self.view_is c.self.invariant in
     let is = sym c.data.ensures ∙ ap content_of c.in-Document.is in
     on_ok c.open_children.result c.open_children.ensures
-    (λ e. opened dom _ _ [] _ _ _ (fresh_frame c.args.node c.args.indent) (sym (append-nil _)) e
-    (dump-document dom f c.args.node c.args.indent c.requires.node is))
+    (λ e. opened c.args.self.now _ _ [] _ _ _ (fresh_frame c.args.node c.args.indent) (sym (append-nil _)) e
+    (dump-document c.args.self.now (subst IsForest c.self.view_is c.self.invariant) c.args.node c.args.indent c.requires.node is))
 
 pub returns-in-Document-clause-frames : goal.returns-in-Document-clause-frames
 returns-in-Document-clause-frames c =
-    let dom = c.args.self.now in
-    let f = subst IsForest c.self.view_is c.self.invariant in
     on_ok c.open_children.result c.open_children.ensures
-    (λ e. rw e (All-push (FrameFits dom) c.args.frames.now.items (fresh_frame c.args.node c.args.indent) c.requires.frames
-    (fits-fresh dom f c.args.node c.args.indent c.args.indent c.requires.node (omega arith) c.requires.indent)))
+    (fits-fresh c.args.self.now (subst IsForest c.self.view_is c.self.invariant) c.args.node c.args.indent c.args.indent c.requires.node (omega arith)
+    c.requires.indent c.args.frames.now.items _ c.requires.frames)
 
 pub returns-in-Document-clause-steps : goal.returns-in-Document-clause-steps
 returns-in-Document-clause-steps c =
-    let dom = c.args.self.now in
-    let f = subst IsForest c.self.view_is c.self.invariant in
     on_ok c.open_children.result c.open_children.ensures
-    (λ e. steps-fresh dom f c.args.node c.args.indent c.requires.node c.args.frames.now.items _ e)
+    (steps-fresh c.args.self.now (subst IsForest c.self.view_is c.self.invariant) c.args.node c.args.indent c.requires.node c.args.frames.now.items _)
 
 pub returns-in_ok-write_line-in-Element-clause-ok : goal.returns-in_ok-write_line-in-Element-clause-ok
 returns-in_ok-write_line-in-Element-clause-ok c =
-    let dom = c.args.self.now in
-    let f = subst IsForest c.self.view_is c.self.invariant in
     let is = sym c.data.ensures ∙ ap content_of c.in-Element.is in
     on_ok c.open_children-in-Element.result c.open_children-in-Element.ensures
-    (λ e. opened dom _ _ _ _ _ _ (fresh_frame c.args.node (c.args.indent + 1))
+    (λ e. opened c.args.self.now _ _ _ _ _ _ (fresh_frame c.args.node (c.args.indent + 1))
     (rw c.as_str-in-Element.ensures at c.in_ok-write_line-in-Element.ensures) e
-    (dump-element dom f c.args.node c.args.indent _ _ _ _ c.requires.node is))
+    (dump-element c.args.self.now (subst IsForest c.self.view_is c.self.invariant) c.args.node c.args.indent _ _ _ _ c.requires.node is))
 
-pub returns-in_ok-write_line-in-Element-clause-frames :
-    goal.returns-in_ok-write_line-in-Element-clause-frames
+pub returns-in_ok-write_line-in-Element-clause-frames : goal.returns-in_ok-write_line-in-Element-clause-frames
 returns-in_ok-write_line-in-Element-clause-frames c =
-    let dom = c.args.self.now in
-    let f = subst IsForest c.self.view_is c.self.invariant in
     on_ok c.open_children-in-Element.result c.open_children-in-Element.ensures
-    (λ e. rw e (All-push (FrameFits dom) c.args.frames.now.items (fresh_frame c.args.node (c.args.indent + 1)) c.requires.frames
-    (fits-fresh dom f c.args.node c.args.indent (c.args.indent + 1) c.requires.node (omega arith) c.requires.indent)))
+    (fits-fresh c.args.self.now (subst IsForest c.self.view_is c.self.invariant) c.args.node c.args.indent (c.args.indent + 1) c.requires.node
+    (omega arith) c.requires.indent c.args.frames.now.items _ c.requires.frames)
 
-pub returns-in_ok-write_line-in-Element-clause-steps :
-    goal.returns-in_ok-write_line-in-Element-clause-steps
+pub returns-in_ok-write_line-in-Element-clause-steps : goal.returns-in_ok-write_line-in-Element-clause-steps
 returns-in_ok-write_line-in-Element-clause-steps c =
-    let dom = c.args.self.now in
-    let f = subst IsForest c.self.view_is c.self.invariant in
     on_ok c.open_children-in-Element.result c.open_children-in-Element.ensures
-    (λ e. steps-fresh dom f c.args.node (c.args.indent + 1) c.requires.node c.args.frames.now.items _ e)
+    (steps-fresh c.args.self.now (subst IsForest c.self.view_is c.self.invariant) c.args.node (c.args.indent + 1) c.requires.node
+    c.args.frames.now.items _)
