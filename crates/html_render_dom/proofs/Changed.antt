@@ -1,7 +1,12 @@
 -- A forest remains a forest if lists and parents are changed in agreement.
 use Rattle.std.proofs.Common.{◌≡◌, ◌≢◌, ℕ, ◌≤◌, List, [], ◌∷◌, Option, Some, None, Contains, nat_eq, ◌⊎◌, inl, inr, refl, sym, ap, ◌∙◌, subst, arith}
 use Rattle.std.specs.List.{IsDistinct}
+use Rattle.std.specs.List.Sorted.{IsPermutation}
 use Rattle.std.proofs.lemmas.Bool.Decides.{eqb_tells}
+use Rattle.std.proofs.lemmas.Cmp.{nat_eq_equiv}
+use Rattle.std.proofs.lemmas.List.Sorted.{Contains-permutation, IsPermutation-sym}
+use Rattle.std.proofs.lemmas.Map.Keys.{IsDistinct-IsPermutation}
+use Rattle.html_render_dom.proofs.Lists.{IsDistinct-fresh}
 use Rattle.html_render_dom_nodes.specs.Content.{Content, document}
 use Rattle.html_render_dom_nodes.specs.Elements.{contents_in}
 use Rattle.html_render_dom_values.specs.Forest.{Forest, none, node}
@@ -167,10 +172,8 @@ IsForest-taken f a b = IsForest-same_contents (Moves-relisted f a b [] (λ e. ab
 
 -- a forest remains one if c, which has no parent, is inserted into the list of p
 pub IsForest-put : {old new : Dom} {p c : ℕ} {xs : List ℕ} → IsForest old → parent_at old c ≡ None → Rewrites old new p xs c (Some p) →
-    ((x : ℕ) → Contains xs x → Contains (children_at old p) x ⊎ (c ≡ x)) → ((x : ℕ) → Contains (children_at old p) x → Contains xs x) →
-    Contains xs c → ((Contains (children_at old p) c → ⊥) → IsDistinct nat_eq xs) → IsNode old c → (IsInclusiveAncestor old c p → ⊥) →
-    IsForest new
-IsForest-put {old} {new} {p} {c} {xs} f lone_c a from still has once at away =
+    IsPermutation (c ∷ children_at old p) xs → IsNode old c → (IsInclusiveAncestor old c p → ⊥) → IsForest new
+IsForest-put {old} {new} {p} {c} {xs} f lone_c a moved at away =
     IsForest-same_contents (Moves-relisted f a relists (c ∷ []) (λ e. Contains-head c [])) f (Contains-single (IsNode old) c at)
     (Contains-single (λ x. IsInclusiveAncestor old x p → ⊥) c away) a.contents
   where
@@ -179,10 +182,13 @@ IsForest-put {old} {new} {p} {c} {xs} f lone_c a from still has once at away =
     not_c q x l e = let named = f.child_names_parent q x l in let p_c : parent_at old x ≡ None = rw e lone_c in cc
 
     relists : Relists old p xs c (Some p)
-    relists = record {
-      from = λ x l. elim (from x l) [ inl o ↦ inl (o, not_c p x o) | inr n ↦ inr (n, refl) ];
-      still = λ x l other. still x l;
-      comes = λ r e. (let same : r ≡ p = cc in same, has);
+    relists = let cs = children_at old p in record {
+      from = λ x l. elim (Contains-cons_cases c cs x (Contains-permutation xs (c ∷ cs) x (IsPermutation-sym (c ∷ cs) xs moved) l)) [
+        | inl e ↦ inr (e, refl)
+        | inr o ↦ inl (o, not_c p x o)
+      ];
+      still = λ x l other. Contains-permutation (c ∷ cs) xs x moved (Contains-tail c cs x l);
+      comes = λ r e. (let same : r ≡ p = cc in same, Contains-permutation (c ∷ cs) xs c moved (Contains-head c cs));
       nowhere_else = λ r d l. not_c r c l refl;
-      once = once (λ l. not_c p c l refl);
+      once = IsDistinct-IsPermutation nat_eq nat_eq_equiv.symm (c ∷ cs) xs moved (IsDistinct-fresh c cs (f.once p) (λ l. not_c p c l refl));
     }

@@ -3,11 +3,9 @@ use Rattle.std.proofs.Common.{◌≡◌, ℕ, zero, suc, ◌<◌, ◌+◌, ◌-�
 use Rattle.std.proofs.Common.{Option, Some, None, IfSome, ◌⊎◌, inl, inr, refl, sym, ap, ◌∙◌, subst, arith, length-append}
 use Rattle.std.proofs.lemmas.Bool.{cond_both}
 use Rattle.std.proofs.lemmas.Bool.Decides.{eqb_tells}
+use Rattle.std.proofs.lemmas.List.Sorted.{IsPermutation-sym, IsPermutation-to_front}
 use Rattle.std.proofs.lemmas.Option.{same_Some}
-use Rattle.std.proofs.lemmas.Cmp.{nat_eq_equiv}
 use Rattle.std.proofs.lemmas.List.{length-set, get_or-append_right}
-use Rattle.std.proofs.lemmas.List.Elements.{Contains-push, Contains-push_cases, Contains-append_left}
-use Rattle.std.proofs.lemmas.Map.Keys.{IsDistinct-push}
 use Rattle.html_render_dom_nodes.specs.Content.{Content, Name, Property, document, text}
 use Rattle.html_render_dom_nodes.specs.Elements.{completed, contents_in}
 use Rattle.html_render_dom_nodes.specs.declared.flags.ElementFlags.{ElementFlags}
@@ -17,7 +15,6 @@ use Rattle.html_render_dom.specs.laws.Changes.{there, elsewhere, kept, older, Sa
 use Rattle.html_render_dom.specs.laws.Forests.{below_or_not, parent_at-past}
 use Rattle.html_render_dom_nodes.specs.Edits.{with_content, attached, attached_new, created, joined, element_created, text_put}
 use Rattle.html_render_dom.specs.Edits.{IsFresh}
-use Rattle.html_render_dom.specs.laws.Members.{any-from_absent}
 use Rattle.html_render_dom.proofs.Changed.{IsForest-put, IsForest-same_shape}
 
 -- ---- each edit
@@ -60,8 +57,8 @@ pub IsForest-attached : (dom : Dom) → IsForest dom → (p c : ℕ) → IsNode 
     IsNode dom c × (parent_at dom c ≡ None) × ¬ IsInclusiveAncestor dom c p → IsForest (record dom { nodes = attached dom.nodes p c })
 IsForest-attached dom f p c at_p can =
     let cs = children_at dom p in
-    IsForest-put f can.1 (rewritten dom p (cs ++ c ∷ []) c (Some p) at_p can.0) (Contains-push_cases cs c) (Contains-append_left cs (c ∷ []))
-    (Contains-push cs c) (λ out. IsDistinct-push nat_eq_equiv cs c (f.once p) (any-from_absent cs c out)) can.0 can.2
+    IsForest-put f can.1 (rewritten dom p (cs ++ c ∷ []) c (Some p) at_p can.0)
+    (IsPermutation-sym (cs ++ c ∷ []) (c ∷ cs) (IsPermutation-to_front cs c)) can.0 can.2
 
 pub IsForest-with_content : (dom : Dom) → IsForest dom → (h : ℕ) (change : Content → Content) → change document ≡ document →
     ((c : Content) → contents_in (change c) ≡ contents_in c) → IsNode dom h →

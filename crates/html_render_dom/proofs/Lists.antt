@@ -1,13 +1,14 @@
 -- Members of lists of children after removals and insertions.
 use Rattle.std.proofs.Common.{◌≡◌, ◌≢◌, ◌==◌, ℕ, true, false, not, nat_eq, List, [], ◌∷◌, ◌++◌, slice_index_or, Contains}
-use Rattle.std.proofs.Common.{◌⊎◌, inl, inr, refl, sym, ◌∙◌, subst}
-use Rattle.std.specs.List.{IsDistinct, AllByRecursion}
+use Rattle.std.proofs.Common.{inl, inr, refl, sym, ◌∙◌, subst}
+use Rattle.std.specs.List.{IsDistinct}
 use Rattle.std.proofs.lemmas.Bool.{false≢true}
 use Rattle.std.proofs.lemmas.Bool.Decides.{eqb_tells}
 use Rattle.std.proofs.lemmas.List.Elements.{Contains-get_or, All-contains, All-contains_itself, All-filter, All-from_recursion, filter_passes, recursion_from_All, Contains-append_cases}
 use Rattle.std.proofs.lemmas.List.Kept.{AllPairs-filter}
 use Rattle.std.proofs.lemmas.Map.Keys.{IsDistinct-head, IsDistinct-tail, IsDistinct-cons, IsDistinct-from_apart, apart_from_distinct}
-use Rattle.html_render_dom.specs.laws.Forests.{IsDistinct-nil}
+use Rattle.std.proofs.lemmas.List.Sorted.{IsPermutation-cons, IsPermutation-middle, IsPermutation-refl, IsPermutation-trans}
+use Rattle.std.specs.List.Sorted.{IsPermutation}
 use Rattle.html_render_dom.specs.laws.Members.{All-unfiltered, Contains-nil, Contains-head, Contains-tail, Contains-cons_cases}
 use Rattle.html_render_dom_nodes.specs.Moves.{without, before}
 
@@ -29,45 +30,24 @@ IsDistinct-without h xs d =
     IsDistinct-from_apart nat_eq (without h xs)
     (AllPairs-filter (λ x y. nat_eq x y ≡ false) (λ y. not (y == h)) xs (λ i j k. apart_from_distinct nat_eq xs i j k d))
 
-pub Contains-from_before : (s c : ℕ) (xs : List ℕ) (x : ℕ) → Contains (before s c xs) x → Contains xs x ⊎ (c ≡ x)
-Contains-from_before s c [] x m = absurd (Contains-nil x m)
-Contains-from_before s c (y ∷ xs) x m =
-    elim (eqb_tells y s) [
-      | inl e ↦ elim (Contains-cons_cases c (y ∷ xs) x (rw e.0 at m)) [ inl q ↦ inr q | inr t ↦ inl t ]
-      | inr d ↦ elim (Contains-cons_cases y (before s c xs) x (rw d.0 at m)) [
-        | inl q ↦ inl (rw q (Contains-head x xs))
-        | inr t ↦ elim (Contains-from_before s c xs x t) [ inl k ↦ inl (Contains-tail y xs x k) | inr q ↦ inr q ]
-      ]
+-- a list with a child before one of its members has the list's members and the child, in another order
+pub IsPermutation-before : (s c : ℕ) (xs : List ℕ) → Contains xs s → IsPermutation (c ∷ xs) (before s c xs)
+IsPermutation-before s c [] m = absurd (Contains-nil s m)
+IsPermutation-before s c (x ∷ xs) m =
+    elim (eqb_tells x s) [
+      | inl e ↦ rw e.0 (IsPermutation-refl (c ∷ x ∷ xs))
+      | inr d ↦ rw d.0 (IsPermutation-trans (c ∷ x ∷ xs) (x ∷ c ∷ xs) (x ∷ before s c xs) (IsPermutation-middle (c ∷ []) x xs)
+          (IsPermutation-cons x (c ∷ xs) (before s c xs)
+          (IsPermutation-before s c xs (elim (Contains-cons_cases x xs s m) [ inl q ↦ absurd (d.1 q) | inr t ↦ t ]))))
     ]
 
-pub Contains-before : (s c : ℕ) (xs : List ℕ) (x : ℕ) → Contains xs x → Contains (before s c xs) x
-Contains-before s c [] x m = absurd (Contains-nil x m)
-Contains-before s c (y ∷ xs) x m =
-    elim (eqb_tells y s) [
-      | inl e ↦ rw e.0 (Contains-tail c (y ∷ xs) x m)
-      | inr d ↦ elim (Contains-cons_cases y xs x m) [
-        | inl q ↦ rw d.0 (subst (λ z. Contains (z ∷ before s c xs) x) (sym q) (Contains-head x (before s c xs)))
-        | inr t ↦ rw d.0 (Contains-tail y (before s c xs) x (Contains-before s c xs x t))
-      ]
-    ]
-
-pub Contains-placed : (s c : ℕ) (xs : List ℕ) → Contains xs s → Contains (before s c xs) c
-Contains-placed s c [] m = absurd (Contains-nil s m)
-Contains-placed s c (y ∷ xs) m =
-    elim (eqb_tells y s) [
-      | inl e ↦ rw e.0 (Contains-head c (y ∷ xs))
-      | inr d ↦ elim (Contains-cons_cases y xs s m) [
-        | inl q ↦ absurd (d.1 q)
-        | inr t ↦ rw d.0 (Contains-tail y (before s c xs) c (Contains-placed s c xs t))
-      ]
-    ]
-
--- a number that isn't in a list differs from each of its members; the first of distinct numbers differs from the others
-apart_from : (x : ℕ) (xs : List ℕ) → ((y : ℕ) → Contains xs y → y ≢ x) → AllByRecursion (λ y. nat_eq x y ≡ false) xs
-apart_from x xs other = recursion_from_All (λ y. nat_eq x y ≡ false) xs (λ k d lt. elim (eqb_tells x (slice_index_or xs k d)) [
-  | inl e ↦ absurd (other (slice_index_or xs k d) (Contains-get_or xs k d lt) (sym e.1))
-  | inr n ↦ n.0
-])
+-- distinct numbers stay distinct after another number; the first of distinct numbers differs from the others
+pub IsDistinct-fresh : (x : ℕ) (xs : List ℕ) → IsDistinct nat_eq xs → (Contains xs x → ⊥) → IsDistinct nat_eq (x ∷ xs)
+IsDistinct-fresh x xs d absent =
+    IsDistinct-cons nat_eq x xs (recursion_from_All (λ y. nat_eq x y ≡ false) xs (λ k y lt. elim (eqb_tells x (slice_index_or xs k y)) [
+      | inl e ↦ absurd (absent (subst (Contains xs) (sym e.1) (Contains-get_or xs k y lt)))
+      | inr n ↦ n.0
+    ])) d
 
 pub first_apart : (x : ℕ) (xs : List ℕ) → IsDistinct nat_eq (x ∷ xs) → (y : ℕ) → Contains xs y → y ≢ x
 first_apart x xs d y m e =
@@ -78,23 +58,9 @@ first_apart x xs d y m e =
       | inr n ↦ absurd (n.1 (sym e ∙ sym m.2))
     ]
 
-pub IsDistinct-before : (s c : ℕ) (xs : List ℕ) → IsDistinct nat_eq xs → (Contains xs c → ⊥) → IsDistinct nat_eq (before s c xs)
-IsDistinct-before s c [] d absent = IsDistinct-nil
-IsDistinct-before s c (x ∷ xs) d absent =
-    elim (eqb_tells x s) [
-      | inl e ↦ rw e.0 (IsDistinct-cons nat_eq c (x ∷ xs) (apart_from c (x ∷ xs) (λ y m q. absent (subst (Contains (x ∷ xs)) q m))) d)
-      | inr n ↦ rw n.0 (IsDistinct-cons nat_eq x (before s c xs)
-          (apart_from x (before s c xs) (λ y m q. elim (Contains-from_before s c xs y m) [
-            | inl o ↦ first_apart x xs d y o q
-            | inr p ↦ absent (rw (p ∙ q) (Contains-head x xs))
-          ])) (IsDistinct-before s c xs (IsDistinct-tail nat_eq x xs d) (λ m. absent (Contains-tail x xs c m))))
-    ]
-
 pub IsDistinct-append : (xs ys : List ℕ) → IsDistinct nat_eq xs → IsDistinct nat_eq ys → ((x : ℕ) → Contains xs x → Contains ys x → ⊥) →
     IsDistinct nat_eq (xs ++ ys)
 IsDistinct-append [] ys d e apart = e
 IsDistinct-append (x ∷ xs) ys d e apart =
-    IsDistinct-cons nat_eq x (xs ++ ys) (apart_from x (xs ++ ys) (λ y m q. elim (Contains-append_cases xs ys y m) [
-      | inl o ↦ first_apart x xs d y o q
-      | inr o ↦ apart x (Contains-head x xs) (subst (Contains ys) q o)
-    ])) (IsDistinct-append xs ys (IsDistinct-tail nat_eq x xs d) e (λ y m n. apart y (Contains-tail x xs y m) n))
+    IsDistinct-fresh x (xs ++ ys) (IsDistinct-append xs ys (IsDistinct-tail nat_eq x xs d) e (λ y m n. apart y (Contains-tail x xs y m) n))
+    (λ m. elim (Contains-append_cases xs ys x m) [ inl o ↦ first_apart x xs d x o refl | inr o ↦ apart x (Contains-head x xs) o ])

@@ -16,8 +16,7 @@ use Rattle.html_render_dom_nodes.specs.Edits.{created, joined}
 use Rattle.html_render_dom_nodes.specs.Moves.{without, taken_out, inserted_before, text_placed, reparented}
 use Rattle.html_render_dom.specs.laws.Members.{Contains-nil, Contains-from_any, any-from_Contains}
 use Rattle.html_render_dom.proofs.Changed.{descend, Moves, IsForest-same_contents, IsForest-taken, IsForest-put}
-use Rattle.html_render_dom.proofs.Lists.{Contains-from_without, Contains-without, IsDistinct-without, Contains-from_before, Contains-before}
-use Rattle.html_render_dom.proofs.Lists.{Contains-placed, IsDistinct-before, IsDistinct-append}
+use Rattle.html_render_dom.proofs.Lists.{Contains-from_without, Contains-without, IsDistinct-without, IsPermutation-before, IsDistinct-append}
 use Rattle.html_render_dom.proofs.Forests.{IsForest-created, IsFresh-next, IsForest-with_content, contents_in-joined}
 
 -- ---- each move
@@ -68,9 +67,8 @@ freed dom f c (Some p) e =
 pub IsForest-placed : (dom : Dom) → IsForest dom → (p s c : ℕ) → parent_at dom s ≡ Some p → IsNode dom c → parent_at dom c ≡ None →
     (IsInclusiveAncestor dom c p → ⊥) → IsForest (record dom { nodes = inserted_before dom.nodes p s c })
 IsForest-placed dom f p s c named at_c lone_c away =
-    let cs = children_at dom p in
-    IsForest-put f lone_c (rewritten dom p _ c (Some p) (IsNode-named dom f p s named).0 at_c) (Contains-from_before s c cs)
-    (Contains-before s c cs) (Contains-placed s c cs (f.parent_lists_child p s named)) (IsDistinct-before s c cs (f.once p)) at_c away
+    IsForest-put f lone_c (rewritten dom p _ c (Some p) (IsNode-named dom f p s named).0 at_c)
+    (IsPermutation-before s c (children_at dom p) (f.parent_lists_child p s named)) at_c away
 
 pub IsForest-move_before : (dom : Dom) → IsForest dom → (p s c : ℕ) → parent_at dom s ≡ Some p → IsNode dom c × ¬ IsInclusiveAncestor dom c s →
     (from : Option ℕ) → from ≡ parent_at dom c → IsForest (record dom { nodes = inserted_before (taken_out dom.nodes from c) p s c })

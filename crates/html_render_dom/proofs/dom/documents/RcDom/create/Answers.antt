@@ -1,8 +1,7 @@
-use Rattle.std.proofs.Common.{rules, ◌≡◌, map}
+use Rattle.std.proofs.Common.{rules}
 use Rattle.std.proofs.lemmas.List.{length-map, map-append}
 use Rattle.html_render_dom_nodes.specs.Content.{content_of}
 use Rattle.html_render_dom.specs.Documents.{dom_of}
-use Rattle.html_render_dom_nodes.specs.Nodes.{node_of}
 use Rattle.html_render_dom_nodes.specs.Edits.{created}
 use Rattle.html_render_dom.proofs.Forests.{IsForest-created, IsFresh-create}
 use Rattle.html_render_dom.proofs.Outcomes.{IsForest-changed}
@@ -10,13 +9,10 @@ use Rattle.html_render_dom.proofs.dom.documents.RcDom.create.Goals as goal
 
 pub invariant_of-self-2 : goal.invariant_of-self-2
 invariant_of-self-2 c =
-    let made : map node_of c.push.new.self.items ≡ created (map node_of c.self.inside.nodes.items) (content_of c.args.contents) =
-    rw (c.in_ok-push.ensures.items, map-append, c.lone.ensures) in
     IsForest-changed (λ ns. created ns (content_of c.args.contents)) c.self.view_is c.self.invariant
-    (IsForest-created c.args.self.now (content_of c.args.contents) c.requires) _ made
+    (IsForest-created c.args.self.now (content_of c.args.contents) c.requires) _ (rw (c.in_ok-push.ensures.items, map-append, c.lone.ensures))
 
 pub returns-clause-fresh : goal.returns-clause-fresh
 returns-clause-fresh c =
-    let made : map node_of c.push.new.self.items ≡ created (map node_of c.self.inside.nodes.items) (content_of c.args.contents) =
-    rw (c.in_ok-push.ensures.items, map-append, c.lone.ensures) in
-    IsFresh-create (dom_of c.self.inside) _ c.self.view_is c.self.invariant _ _ made _ (search (rules, length-map))
+    IsFresh-create (dom_of c.self.inside) _ c.self.view_is c.self.invariant (content_of c.args.contents) _
+    (rw (c.in_ok-push.ensures.items, map-append, c.lone.ensures)) _ (search (rules, length-map))
