@@ -110,10 +110,10 @@ shape-trans s t = record {
 }
 
 -- whether nodes are those of a document and at least one more, with old lists and parents unchanged, and are a forest
-record Grown (dom : Dom) (nodes : List Node) : Type 0 where
-  forest : IsForest (record dom { nodes = nodes })
-  shape : SameShape dom (record dom { nodes = nodes })
-  more : node_count dom < length nodes
+pub record Grown (dom : Dom) (nodes : List Node) : Type 0 where
+  pub forest : IsForest (record dom { nodes = nodes })
+  pub shape : SameShape dom (record dom { nodes = nodes })
+  pub more : node_count dom < length nodes
 
 grown-one : (dom : Dom) (c : Content) → contents_in c ≡ None → IsForest dom → Grown dom (created dom.nodes c)
 grown-one dom c no_contents f = record {
@@ -144,28 +144,17 @@ grown-two dom c next f =
       more = omega (arith, one, two);
     }
 
-grown-element : (dom : Dom) → IsForest dom → (name : Name) (properties : List Property) (flags : ElementFlags) (nodes : List Node) →
+pub grown-created : (dom : Dom) → IsForest dom → (c : Content) → contents_in c ≡ None → (nodes : List Node) → nodes ≡ created dom.nodes c → Grown dom nodes
+grown-created dom f c no_contents nodes e = subst (Grown dom) (sym e) (grown-one dom c no_contents f)
+
+pub grown-element : (dom : Dom) → IsForest dom → (name : Name) (properties : List Property) (flags : ElementFlags) (nodes : List Node) →
     nodes ≡ element_created dom.nodes name properties flags → Grown dom nodes
 grown-element dom f name properties flags nodes e =
     subst (Grown dom) (sym e) (cond_both flags.template _ _ (Grown dom) (λ _. grown-two dom _ refl f) (λ _. grown-one dom _ refl f))
 
-pub IsForest-create_element : (dom : Dom) → IsForest dom →
-    (name : Name) (properties : List Property) (flags : ElementFlags) (nodes : List Node) →
-    nodes ≡ element_created dom.nodes name properties flags → IsForest (record dom { nodes = nodes })
-IsForest-create_element dom f name properties flags nodes e = (grown-element dom f name properties flags nodes e).forest
-
-pub IsFresh-create_element : (dom now : Dom) → dom ≡ now → IsForest dom →
-    (name : Name) (properties : List Property) (flags : ElementFlags) (nodes : List Node) →
-    nodes ≡ element_created dom.nodes name properties flags → (h : ℕ) → h ≡ node_count dom → IsFresh now (record dom { nodes = nodes }) h
-IsFresh-create_element dom now same f name properties flags nodes e h next =
-    let g = grown-element dom f name properties flags nodes e in
+-- the first new node has no parent, and no old node below it
+pub IsFresh-grown : (dom now : Dom) → dom ≡ now → IsForest dom → (nodes : List Node) → Grown dom nodes → (h : ℕ) → h ≡ node_count dom →
+    IsFresh now (record dom { nodes = nodes }) h
+IsFresh-grown dom now same f nodes g h next =
     subst (λ d. IsFresh d (record dom { nodes = nodes }) h) same
-    (subst (λ k. IsFresh dom (record dom { nodes = nodes }) k) (sym next) (IsFresh-next g.shape f g.more))
-
-pub IsFresh-create : (dom now : Dom) → dom ≡ now → IsForest dom → (c : Content) (nodes : List Node) → nodes ≡ created dom.nodes c →
-    (h : ℕ) → h ≡ node_count dom → IsFresh now (record dom { nodes = nodes }) h
-IsFresh-create dom now same f c nodes e h next =
-    let fresh = IsFresh-next (created-shape dom c) f (omega (arith, length-append dom.nodes (lone c ∷ []))) in
-    subst (λ d. IsFresh d (record dom { nodes = nodes }) h) same
-    (subst (λ k. IsFresh dom (record dom { nodes = nodes }) k) (sym next)
-    (subst (λ ns. IsFresh dom (record dom { nodes = ns }) (node_count dom)) (sym e) fresh))
+    (subst (IsFresh dom (record dom { nodes = nodes })) (sym next) (IsFresh-next g.shape f g.more))

@@ -26,28 +26,6 @@ HaveTrees-unique dom (node c k b) (node d l e) (x ∷ hs) g h =
     node-same (sym g.1 ∙ h.1) (HaveTrees-unique dom k l (children_at dom x) g.2 h.2) (HaveTrees-unique dom b e hs g.3 h.3)
 HaveTrees-unique dom t u hs g h = absurd g
 
--- a tree of a forest, with at most the forest's nodes and depth
-record OneOf (dom : Dom) (x : ℕ) (t : Forest Content) : Type 0 where
-  tree : Forest Content
-  has_tree : HaveTrees dom (x ∷ []) tree
-  smaller : count tree ≤ count t
-  flatter : depth tree ≤ depth t
-
-one_of : (dom : Dom) (t : Forest Content) (hs : List ℕ) (x : ℕ) → Contains hs x → HaveTrees dom hs t → OneOf dom x t
-one_of dom none [] x m h = absurd (Contains-nil x m)
-one_of dom (node c kids beside) (y ∷ hs) x m h =
-    elim (Contains-cons_cases y hs x m) [
-      | inl e ↦ record {
-        tree = node c kids none;
-        has_tree = subst (λ z. HaveTrees dom (z ∷ []) (node c kids none)) e (h.0, h.1, h.2, tt);
-        smaller = omega arith;
-        flatter = omega arith;
-      }
-      | inr l ↦ (let r = one_of dom beside hs x l h.3 in
-          record { tree = r.tree; has_tree = r.has_tree; smaller = omega (arith, r.smaller); flatter = omega (arith, r.flatter) })
-    ]
-one_of dom t hs x m h = absurd h
-
 -- the tree with the root x, if it has fewer nodes and less depth than the forest t
 record Below (dom : Dom) (x : ℕ) (t : Forest Content) : Type 0 where
   tree : Forest Content
@@ -55,11 +33,26 @@ record Below (dom : Dom) (x : ℕ) (t : Forest Content) : Type 0 where
   smaller : count tree < count t
   flatter : depth tree < depth t
 
+-- a tree of a forest has fewer nodes and less depth than what the forest has fewer nodes and less depth than
+one_below : (dom : Dom) (t u : Forest Content) (hs : List ℕ) (x : ℕ) → Contains hs x → HaveTrees dom hs t → count t < count u → depth t < depth u →
+    Below dom x u
+one_below dom none u [] x m h less deep = absurd (Contains-nil x m)
+one_below dom (node c kids beside) u (y ∷ hs) x m h less deep =
+    elim (Contains-cons_cases y hs x m) [
+      | inl e ↦ record {
+        tree = node c kids none;
+        has_tree = subst (λ z. HaveTrees dom (z ∷ []) (node c kids none)) e (h.0, h.1, h.2, tt);
+        smaller = omega (arith, less);
+        flatter = omega (arith, deep);
+      }
+      | inr l ↦ one_below dom beside u hs x l h.3 (omega (arith, less)) (omega (arith, deep))
+    ]
+one_below dom t u hs x m h less deep = absurd h
+
 child_below : (dom : Dom) → IsForest dom → (p x : ℕ) → parent_at dom x ≡ Some p → (t : Forest Content) → HaveTrees dom (p ∷ []) t → Below dom x t
 child_below dom f p x e none h = absurd h
 child_below dom f p x e (node c kids beside) h =
-    let r = one_of dom kids (children_at dom p) x (f.parent_lists_child p x e) h.2 in
-    record { tree = r.tree; has_tree = r.has_tree; smaller = omega (arith, r.smaller); flatter = omega (arith, r.flatter) }
+    one_below dom kids (node c kids beside) (children_at dom p) x (f.parent_lists_child p x e) h.2 (omega arith) (omega arith)
 
 -- the tree of a descendant has fewer nodes and less depth
 descendant_below : (dom : Dom) → IsForest dom → (h : ℕ) {p : ℕ} → IsInclusiveAncestor dom h p → (x : ℕ) → parent_at dom x ≡ Some p →

@@ -1,12 +1,9 @@
-use Rattle.std.proofs.Common.{◌≡◌, ◌≢◌, ℕ, ap, sym, ◌∙◌, subst, arith, rules, Some, [], ◌∷◌, inl, inr}
-use Rattle.html_render_dom.specs.Dom.{Dom, IsNode, IsInclusiveAncestor, itself, above, parent_at, tree_of}
+use Rattle.std.proofs.Common.{◌≡◌, ◌≢◌, ap, sym, ◌∙◌, subst, arith, rules, Some, [], ◌∷◌, inl, inr}
+use Rattle.std.proofs.lemmas.Option.{same_Some}
+use Rattle.html_render_dom.specs.Dom.{IsNode, IsInclusiveAncestor, itself, above, parent_at, tree_of}
 use Rattle.html_render_dom.specs.laws.Forests.{IfSome-parent}
 use Rattle.html_render_dom.specs.laws.Trees.{depth-child, depth-le, HaveTrees-tree_of, IsInclusiveAncestor-cases}
 use Rattle.html_render_dom.proofs.dom.documents.RcDom.is_inclusive_ancestor.Goals as goal
-
-some_is : (dom : Dom) (a h p : ℕ) → parent_at dom h ≡ Some p → (q : ℕ) × (parent_at dom h ≡ Some q) × IsInclusiveAncestor dom a q →
-    IsInclusiveAncestor dom a p
-some_is dom a h p e r = let same : r.0 ≡ p = cc in subst (IsInclusiveAncestor dom a) same r.2
 
 pub loop-ancestor-smaller : goal.loop-ancestor-smaller
 loop-ancestor-smaller c =
@@ -32,7 +29,7 @@ loop-ancestor-preserved c =
       (
         λ up. elim (IsInclusiveAncestor-cases dom c.args.ancestor at (kept.0 up)) [
           | inl same ↦ absurd (other (sym same))
-          | inr r ↦ some_is dom c.args.ancestor at p e r
+          | inr r ↦ subst (IsInclusiveAncestor dom c.args.ancestor) (same_Some r.0 p (sym r.1 ∙ e)) r.2
         ],
         λ up. kept.1 (above p e up),
       ),
