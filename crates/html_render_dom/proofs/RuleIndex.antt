@@ -52,7 +52,7 @@ HasFirst-more old new rules i rule has is long asks stated states found = (
       ∙ ap (λ r. list_any asks_attributes (take i rules) || asks_attributes r) (get_or_from_slice_get rules i rule rule is)),
 )
 
--- adding a number under a text keeps each number that was there
+-- after a number is added under a text, an index has each number that it had, and this one
 pub put-found : (old new : RuleIndex) (text : List ℕ) (number : ℕ) → length old.keys.items ≡ 64 →
     new.keys.items ≡ set old.keys.items (text_key text) true → new.general.items ≡ old.general.items →
     ((t : List ℕ) → numbers_under new t ≡ (if bytes_eq t text then numbers_under old t ++ number ∷ [] else numbers_under old t)) →
@@ -78,7 +78,7 @@ put-found old new text number long keys general numbers = (
       ]),
     )
 
--- adding the number of a rule that states no text keeps each number that was there
+-- after the number of a rule that states no text is added, an index has each number that it had, and this one
 pub general-found : (old new : RuleIndex) (number : ℕ) → new.keys.items ≡ old.keys.items → new.by_text ≡ old.by_text →
     new.general.items ≡ old.general.items ++ number ∷ [] →
     ((n : ℕ) (stated : Option (List ℕ)) → IsFound old n stated → IsFound new n stated) × IsFound new number None
