@@ -1,5 +1,5 @@
 -- The rest of a dump after each step.
-use Rattle.std.proofs.Common.{◌≡◌, ℕ, ◌<◌, ◌≤◌, ◌+◌, ◌-◌, ◌*◌, List, [], ◌∷◌, ◌++◌, length, drop, slice_index_or, Result, Ok, Err, OnOk, Option}
+use Rattle.std.proofs.Common.{◌≡◌, ℕ, ◌<◌, ◌≤◌, ◌+◌, ◌-◌, ◌*◌, List, [], ◌∷◌, ◌++◌, length, drop, slice_index_or, Option}
 use Rattle.std.proofs.Common.{All, Bool, Contains, refl, sym, ap, ◌∙◌, subst, arith, append_assoc}
 use Rattle.std.proofs.lemmas.List.{append-nil, at_drop_more}
 use Rattle.std.proofs.lemmas.List.Elements.{All-push, Contains-get_or}
@@ -11,10 +11,6 @@ use Rattle.html_render_dom.specs.Dom.{Dom, node_count, IsNode, content_at, child
 use Rattle.html_render_dom.specs.laws.Trees.{trees_of-cons}
 use Rattle.html_render_dom.specs.Dump.{dump, start_line, end_line}
 use Rattle.html_render_dom.specs.Frames.{left_of, closing_line, rest_of, rest, FrameFits, steps_of, steps}
-
-pub on_ok : {T E P Q : Type 0} (r : Result T E) → OnOk r P → (P → Q) → OnOk r Q
-on_ok (Ok x) p f = f p
-on_ok (Err y) p f = tt
 
 -- the dump of a forest is the dump of its first tree, then that of the others
 pub dump-beside : (i : ℕ) (c : Content) (k b : Forest Content) → dump i (node c k b) ≡ dump i (node c k none) ++ dump i b
