@@ -2,18 +2,15 @@
 pub mod Related
 -- A machine's block shows what the definition's block shows.
 pub mod BlockSeen
--- A block beside one with other overflow. With overflow off no line passes the width. With overflow on no operation
--- refuses, and the lines are the same.
-pub mod Beside
+-- A block beside one with overflow on: both have the same lines. With overflow off no line passes the width. With
+-- overflow on no operation refuses.
 pub mod TableWithin
-pub mod BlockHolds
+pub mod Beside
 -- No line passes the width, after any sequence of operations with overflow off.
 pub mod EditsWithin
 -- No visible character is lost.
 pub mod Operations
 pub mod BlockVisible
--- The end of a block, and closing lines.
-pub mod Closing
 -- Marks that are fed first wait.
 pub mod BlockMarks
 -- White space alone in a sub-block.

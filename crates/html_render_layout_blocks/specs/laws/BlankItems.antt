@@ -60,15 +60,13 @@ module _ {T M : Type 0} where
   flush-is : (b : MachineBlock T M) → option_map (λ (e : MachineBlock T M). put_lines machine e [] []) (flush machine b) ≡ flush machine b
   flush-is b = by (flush machine b)
     where
-      fed : (e : MachineBlock T M) (p : Option (State T M)) → e.paragraph ≡ p → record e { paragraph = option_and_then (λ (q : State T M). after q []) e.paragraph } ≡ e
-      fed e None h = ap (λ (o : Option (State T M)). record e { paragraph = option_and_then (λ (q : State T M). after q []) o }) h
-          ∙ ap (λ (o : Option (State T M)). record e { paragraph = o }) (sym h)
-      fed e (Some q) h = ap (λ (o : Option (State T M)). record e { paragraph = option_and_then (λ (q : State T M). after q []) o }) h
-          ∙ ap (λ (o : Option (State T M)). record e { paragraph = o }) (sym h)
+      fed : (p : Option (State T M)) → option_and_then (λ (q : State T M). after q []) p ≡ p
+      fed None = refl
+      fed (Some q) = refl
 
       by : (o : Option (MachineBlock T M)) → option_map (λ (e : MachineBlock T M). put_lines machine e [] []) o ≡ o
       by None = refl
-      by (Some e) = ap Some (fed e e.paragraph refl)
+      by (Some e) = ap (λ (p : Option (State T M)). Some (record e { paragraph = p })) (fed e.paragraph)
 
   spaced-appended : (b : MachineBlock T M) (w : ℕ) (p : Option (Character T)) (tag : T) (first later : List ℕ) →
       append machine b (spaced b w p) tag first later ≡ flush machine b
@@ -85,10 +83,7 @@ module _ {T M : Type 0} where
       put : (e : MachineBlock T M) (ls : List (Line T M)) → ls ≡ [] →
           option_map (λ (xs : List (Line T M)). put_lines machine e xs []) (fitting e.setting.width e.setting.overflow (prefixed (under tag first) (under tag later) ls))
           ≡ Some (put_lines machine e [] [])
-      put e ls h =
-          ap (λ (xs : List (Line T M)). option_map (λ (ys : List (Line T M)). put_lines machine e ys [])
-          (fitting e.setting.width e.setting.overflow (prefixed (under tag first) (under tag later) xs))) h
-          ∙ ap (option_map (λ (ys : List (Line T M)). put_lines machine e ys [])) (fit e.setting.width e.setting.overflow)
+      put e ls h = rw (h, fit e.setting.width e.setting.overflow) refl
 
       by : (o : Option (MachineBlock T M)) → option_and_then (λ (e : MachineBlock T M). option_map
           (λ (xs : List (Line T M)). put_lines machine e xs [])

@@ -1,12 +1,11 @@
 -- Each operation keeps what is seen of a machine's block, which is fed character by character, equal to what is seen of
 -- the definition's block.
 use Rattle.std.proofs.Common.{◌≡◌, ℕ, Bool, true, false, leb, ◌||◌, ◌&&◌, List, [], ◌∷◌, ◌++◌, map, length, Option, Some, None}
-use Rattle.std.proofs.Common.{refl, sym, ap, ◌∙◌, subst, option_map, IfSome}
+use Rattle.std.proofs.Common.{refl, sym, ap, ap₂, ◌∙◌, option_map, IfSome}
 use Rattle.std.specs.List.{list_all}
 use Rattle.std.proofs.lemmas.List.{map-append, length-map}
 use Rattle.std.proofs.lemmas.List.Sums.{fold_push}
 use Rattle.std.proofs.lemmas.Option.{same_Some}
-use Rattle.html_render_dom_values.specs.declared.white_space.WhiteSpace.{WhiteSpace}
 use Rattle.html_render_layout_lines.specs.declared.character.Item.{Item}
 use Rattle.html_render_layout_lines.specs.declared.character.Item.TheVariants.{Mark}
 use Rattle.html_render_layout_lines.specs.declared.line.Element.TheVariants.{Character}
@@ -16,14 +15,13 @@ use Rattle.html_render_layout_lines.specs.Tags.{element_with, line_with, lines_w
 use Rattle.html_render_layout_lines.specs.laws.Tags.{if_with, then_with, columns-with}
 use Rattle.html_render_layout_paragraphs.specs.CutText.{text_lines}
 use Rattle.html_render_layout_paragraphs.specs.Paragraph.{Setting, LineBuffer, paragraph, all_lines}
-use Rattle.html_render_layout_paragraphs.specs.Stream.{State, start, after, finished, styled}
+use Rattle.html_render_layout_paragraphs.specs.Stream.{State, start, after, finished}
 use Rattle.html_render_layout_paragraphs.specs.laws.CutText.{cut-with}
 use Rattle.html_render_layout_paragraphs.specs.laws.Kept.{setting-after}
-use Rattle.html_render_layout_paragraphs.specs.laws.Tags.{style_with, item_with, page_with, state_with, after-with, finished-with, styled-with, all_lines-with}
+use Rattle.html_render_layout_paragraphs.specs.laws.Tags.{item_with, page_with, state_with, after-with, finished-with, styled-with, all_lines-with}
 use Rattle.html_render_layout_paragraphs.specs.laws.Whole.{finished-after, after-append}
 use Rattle.html_render_layout_pictures.specs.Drawing.{Drawing, begun, with_row, with_rows}
-use Rattle.html_render_layout_buffer.specs.Marked.{marked_behind, marked_before}
-use Rattle.html_render_layout_buffer.specs.Padding.{filled, repeated}
+use Rattle.html_render_layout_buffer.specs.Padding.{filled}
 use Rattle.html_render_layout_pictures.specs.Picture.{KeptCell}
 use Rattle.html_render_layout_pictures.specs.Tags.{cell_with, row_with, drawing_with, drawn_with}
 use Rattle.html_render_layout_pictures.specs.laws.Lines.{marked_behind-with}
@@ -54,20 +52,17 @@ module _ {T U M : Type 0} (f : T → U) where
 
   behind-with : (p : Line T M) (ls : List (Line T M)) → lines_with f (map (◌++◌ p) ls) ≡ map (◌++◌ (line_with f p)) (lines_with f ls)
   behind-with p [] = refl
-  behind-with p (l ∷ ls) = ap (λ x. x ∷ lines_with f (map (◌++◌ p) ls)) (map-append (element_with f) p l)
-      ∙ ap (λ xs. (line_with f p ++ line_with f l) ∷ xs) (behind-with p ls)
+  behind-with p (l ∷ ls) = ap₂ (λ x xs. x ∷ xs) (map-append (element_with f) p l) (behind-with p ls)
 
   prefixed-with : (p q : Line T M) (ls : List (Line T M)) →
       lines_with f (prefixed p q ls) ≡ prefixed (line_with f p) (line_with f q) (lines_with f ls)
   prefixed-with p q [] = refl
-  prefixed-with p q (l ∷ ls) = ap (λ x. x ∷ lines_with f (map (◌++◌ q) ls)) (map-append (element_with f) p l)
-      ∙ ap (λ xs. (line_with f p ++ line_with f l) ∷ xs) (behind-with q ls)
+  prefixed-with p q (l ∷ ls) = ap₂ (λ x xs. x ∷ xs) (map-append (element_with f) p l) (behind-with q ls)
 
   within-with : (w : ℕ) (ls : List (Line T M)) →
       list_all (λ (l : Line U M). leb (columns l) w) (lines_with f ls) ≡ list_all (λ (l : Line T M). leb (columns l) w) ls
   within-with w [] = refl
-  within-with w (l ∷ ls) = ap (λ n. leb n w && list_all (λ (l : Line U M). leb (columns l) w) (lines_with f ls)) (columns-with f l)
-      ∙ ap (λ b. leb (columns l) w && b) (within-with w ls)
+  within-with w (l ∷ ls) = ap₂ (λ n b. leb n w && b) (columns-with f l) (within-with w ls)
 
   fitting-with : (w : ℕ) (o : Bool) (ls : List (Line T M)) → fitting w o (lines_with f ls) ≡ option_map (lines_with f) (fitting w o ls)
   fitting-with w o ls = if_with (option_map (lines_with f)) _ _ _ _ _ _ (ap (λ b. o || b) (within-with w ls)) refl refl
@@ -101,13 +96,11 @@ module _ {T U M : Type 0} (f : T → U) where
   past_cell-with r cell =
       let before : List (KeptCell T M) = empty_cells (before_cell r.ahead) in
       ap (λ cs. record (open_row_with (past_cell r cell)) { cells = cs })
-      (ap (λ cs. (map (cell_with f) r.cells ++ cs) ++ map (cell_with f) cell) (sym (empty_cells-with (before_cell r.ahead)))
-      ∙ ap (λ cs. cs ++ map (cell_with f) cell) (sym (map-append (cell_with f) r.cells before))
-      ∙ sym (map-append (cell_with f) (r.cells ++ before) cell))
+      (rw (map-append (cell_with f) (r.cells ++ before) cell, map-append (cell_with f) r.cells before, empty_cells-with (before_cell r.ahead)) refl)
 
   whole_row-with : (r : OpenRow T M) → whole_row (open_row_with r) ≡ row_with f (whole_row r)
   whole_row-with r = ap (λ cs. record (row_with f (whole_row r)) { cells = cs })
-      (ap (λ cs. map (cell_with f) r.cells ++ cs) (sym (empty_cells-with r.ahead)) ∙ sym (map-append (cell_with f) r.cells (empty_cells r.ahead)))
+      (rw (map-append (cell_with f) r.cells (empty_cells r.ahead), empty_cells-with r.ahead) refl)
 
 -- ---- The machine and the definition under the same tags
 
@@ -201,13 +194,6 @@ module _ {W T A V : Type 0} (shown : W → T → V) (seen : A → V) (Later : W 
       line_with (shown l) (under {M = ℕ} t cs) ≡ line_with seen (under u cs)
   under-seen w t u cs x l a = sym (under-with (shown l) t cs) ∙ ap (λ z. under z cs) (x l a) ∙ under-with seen u cs
 
-  style-seen : (w : W) (mode : WhiteSpace) (t t' : T) (u u' : A) → Tags w t u → Tags w t' u' → (l : W) → Later w l →
-      style_with (shown l) (record { mode = mode; tag = t; continuation_tag = t' })
-      ≡ style_with seen (record { mode = mode; tag = u; continuation_tag = u' })
-  style-seen w mode t t' u u' x y l a =
-      ap (λ (z : V). record { mode = mode; tag = z; continuation_tag = shown l t' }) (x l a)
-      ∙ ap (λ (z : V). record { mode = mode; tag = seen u; continuation_tag = z }) (y l a)
-
   option-seen : (w : W) (a : Option T) (b : Option A) → OptionTags Tags w a b → (l : W) → Later w l → option_map (shown l) a ≡ option_map seen b
   option-seen w None None x l k = refl
   option-seen w None (Some u) x l k = absurd x
@@ -266,43 +252,35 @@ module _ {W T A V : Type 0} (shown : W → T → V) (seen : A → V) (Later : W 
   parts-seen = record {
     width = λ v s r k. (k.0, ap (λ (z : BlockSetting). z.width) k.1 ∙ k.0);
     inner_width = λ v s r prefix inner k.
-        subst (λ z. Both (Unit {0}) ⊥ (λ x y. x ≡ y) (inner_width s prefix inner) (inner_width z prefix inner)) (sym k.1)
-        (itself (inner_width s prefix inner));
+        rw k.1 (itself (inner_width s prefix inner));
     inner = λ v x s r k. (refl, ap (λ (z : BlockSetting). record z { width = x }) k.1);
     none = λ v w l a. refl;
     gap = λ v w l a. refl;
-    behind = λ v w a e b f k m l x.
-        lines-append (shown l) a e
-        ∙ ap (λ z. z ++ lines_with (shown l) e) (k l x)
-        ∙ ap (λ z. lines_with seen b ++ z) (m l x)
-        ∙ sym (lines-append seen b f);
+    behind = λ v w a e b f k m l x. rw (lines-append (shown l) a e, lines-append seen b f, k l x, m l x) refl;
     count = λ v w a b k.
         sym (length-map a (line_with (shown w))) ∙ ap (λ z. length z) (k w (stays w)) ∙ length-map b (line_with seen);
-    before_marks = λ v w ms a b k l x.
-        sym (marked_before-with (shown l) ms a) ∙ ap (marked_before ms) (k l x) ∙ marked_before-with seen ms b;
-    behind_marks = λ v w ms a b k l x.
-        marked_behind-with (shown l) ms a ∙ ap (marked_behind ms) (k l x) ∙ sym (marked_behind-with seen ms b);
-    rule = λ v w t u character one x l a. ap (λ z. z ∷ [])
-        (repeated-with (shown l) t character v ∙ ap (λ z. repeated z character v) (x l a) ∙ sym (repeated-with seen u character v));
+    before_marks = λ v w ms a b k l x. rw (← marked_before-with (shown l) ms a, ← marked_before-with seen ms b, k l x) refl;
+    behind_marks = λ v w ms a b k l x. rw (marked_behind-with (shown l) ms a, marked_behind-with seen ms b, k l x) refl;
+    rule = λ v w t u character one x l a.
+        ap (λ z. z ∷ []) (rw (repeated-with (shown l) t character v, repeated-with seen u character v, x l a) refl);
     joined = λ v x w s r t u first later a b k y m.
-        subst (λ z. Both (Unit {0}) ⊥ (Lines v w) (fitting s.width s.overflow (prefixed (under t first) (under t later) a))
-        (fitting z.width z.overflow (prefixed (under u first) (under u later) b))) (sym k.1)
-        (alike (λ l. lines_with (shown l)) (lines_with seen) w _ _ (λ l z.
+        rw k.1 (alike (λ l. lines_with (shown l)) (lines_with seen) w _ _ (λ l z.
         sym (fitting-with (shown l) s.width s.overflow (prefixed (under t first) (under t later) a))
         ∙ ap (fitting s.width s.overflow)
-        (prefixed-with (shown l) (under t first) (under t later) a
-        ∙ ap (λ i. prefixed i (line_with (shown l) (under t later)) (lines_with (shown l) a)) (under-seen w t u first y l z)
-        ∙ ap (λ i. prefixed (line_with seen (under u first)) i (lines_with (shown l) a)) (under-seen w t u later y l z)
-        ∙ ap (prefixed (line_with seen (under u first)) (line_with seen (under u later))) (m l z)
-        ∙ sym (prefixed-with seen (under u first) (under u later) b))
+        (rw (
+          prefixed-with (shown l) (under t first) (under t later) a,
+          prefixed-with seen (under u first) (under u later) b,
+          under-seen w t u first y l z,
+          under-seen w t u later y l z,
+          m l z,
+        ) refl)
         ∙ fitting-with seen s.width s.overflow (prefixed (under u first) (under u later) b)));
     start = λ v w s r k. (
       λ l a. ap (λ (z : BlockSetting). option_map (state_with seen) (paragraph_of (definition.start (paragraph_setting z) []))) (sym k.1),
       refl,
     );
     feed_text = λ v w p q mode t t' u u' cs x y k. feed-seen v w p q _ _ k (λ l a.
-        styled-with (shown l) (record { mode = mode; tag = t; continuation_tag = t' }) cs
-        ∙ ap (λ z. styled z cs) (style-seen w mode t t' u u' x y l a)
+        styled-with (shown l) (record { mode = mode; tag = t; continuation_tag = t' }) cs ∙ rw (x l a, y l a) refl
         ∙ sym (styled-with seen (record { mode = mode; tag = u; continuation_tag = u' }) cs));
     feed_marks = λ v w p q ms k. feed-seen v w p q _ _ k (λ l a. sym (mark_items-with (shown l) ms) ∙ mark_items-with seen ms);
     page = page-seen;
@@ -319,9 +297,7 @@ module _ {W T A V : Type 0} (shown : W → T → V) (seen : A → V) (Later : W 
       k.1,
     );
     begun = λ v w needs widths borders t u ms x e l a.
-        sym (begun-with (shown l) (frame_of t borders widths) ms)
-        ∙ ap (λ z. begun (frame_of z borders widths) ms) (x l a)
-        ∙ begun-with seen (frame_of u borders widths) ms;
+        sym (begun-with (shown l) (frame_of t borders widths) ms) ∙ rw (x l a) refl ∙ begun-with seen (frame_of u borders widths) ms;
     with_row = λ v w widths p q r k x y l a.
         sym (with_row-with (shown l) p (whole_row r))
         ∙ ap (λ z. with_row z (row_with (shown l) (whole_row r))) (x l a)
@@ -356,8 +332,7 @@ module _ {W T A V : Type 0} (shown : W → T → V) (seen : A → V) (Later : W 
   text-seen : (v : ℕ) (w : W) (cut : Bool) (s r : BlockSetting) (t : T) (u : A) (cs : List ℕ) → Unit {0} → Settings v s r → Tags w t u →
       Both (Unit {0}) ⊥ (Lines v w) (text_lines (line_setting s) cut t cs) (text_lines (line_setting r) cut u cs)
   text-seen v w cut s r t u cs x k y =
-      subst (λ z. Both (Unit {0}) ⊥ (Lines v w) (text_lines (line_setting s) cut t cs) (text_lines (line_setting z) cut u cs)) (sym k.1)
-      (alike (λ l. lines_with (shown l)) (lines_with seen) w _ _ (λ l a.
+      rw k.1 (alike (λ l. lines_with (shown l)) (lines_with seen) w _ _ (λ l a.
       sym (text-with (shown l) (line_setting s) cut t cs) ∙ ap (λ z. text_lines (line_setting s) cut z cs) (y l a)
       ∙ text-with seen (line_setting s) cut u cs))
 

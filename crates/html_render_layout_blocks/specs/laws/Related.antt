@@ -1,6 +1,6 @@
 -- THE THEOREM: each operation keeps two blocks related whose paragraphs, pictures and lines are related.
 use Rattle.std.proofs.Common.{◌≡◌, ℕ, Bool, true, false, not, cond, eqb, ◌==◌, ◌&&◌, List, [], ◌∷◌, ◌++◌, length, Option, Some, None}
-use Rattle.std.proofs.Common.{refl, sym, ap, ◌∙◌, subst, option_map, slice_index_or, arith}
+use Rattle.std.proofs.Common.{refl, sym, ap, ◌∙◌, subst, subst₂, option_map, slice_index_or, arith}
 use Rattle.std.proofs.lemmas.Option.{same_Some}
 use Rattle.html_render_dom_values.specs.declared.white_space.WhiteSpace.{WhiteSpace}
 use Rattle.html_render_layout_lines.specs.Line.{Line, is_empty}
@@ -16,7 +16,6 @@ use Rattle.html_render_layout_buffer.specs.Padding.{filled, repeated}
 use Rattle.html_render_layout_pictures.specs.laws.Glyphs.{joint_width, slash_width}
 use Rattle.html_render_layout_pictures.specs.declared.borders.TheConstants.{BORDERS}
 use Rattle.html_render_layout_lines.specs.Character.{width_of}
-use Rattle.html_render_layout_pictures.specs.Picture.{KeptCell}
 use Rattle.html_render_layout_blocks.specs.declared.block.BlockSetting.{BlockSetting}
 use Rattle.html_render_layout_blocks.specs.declared.block.tables.OpenTable.{OpenTable}
 use Rattle.html_render_layout_blocks.specs.declared.block.tables.OpenTable.TheVariants.{Across, Stacked}
@@ -76,6 +75,11 @@ OptionTags Tags w None None = Unit {0}
 OptionTags Tags w None (Some u) = ⊥
 OptionTags Tags w (Some t) None = ⊥
 OptionTags Tags w (Some t) (Some u) = Tags w t u
+
+-- A choice by equal conditions on both sides.
+pub either : {X Y : Type 0} (E : X → Y → Type 0) (z y : Bool) (a b : X) (c d : Y) → y ≡ z → E a c → E b d → E (cond z a b) (cond y c d)
+either E true y a b c d same k l = rw same k
+either E false y a b c d same k l = rw same l
 
 -- Setting of lines that aren't a paragraph's: the width of the block.
 abbrev pub line_setting : BlockSetting → Setting
@@ -186,12 +190,6 @@ module _ {P R Q S T U W : Type 0} (from : Parts P R T ℕ) (to : Parts Q S U ℕ
   abbrev Flushed : ℕ → W → First → Second → Type 0
   Flushed v w b c = Related v w b c × Clear v w b.paragraph c.paragraph
 
-  -- A choice by one condition on both sides.
-  either : {X Y : Type 0} (E : X → Y → Type 0) (z : Bool) (a b : Option X) (c d : Option Y) → Both N M E a c → Both N M E b d →
-      Both N M E (cond z a b) (cond z c d)
-  either E true a b c d k l = k
-  either E false a b c d k l = l
-
   -- Related blocks with other lines, another paragraph, another end and another table.
   rebuilt : (v : ℕ) (w : W) (b : First) (c : Second) (a : List (Line T ℕ)) (e : List (Line U ℕ)) (p : P) (q : Q) (z y : Bool)
       (o : Option (OpenTable R T ℕ)) (n : Option (OpenTable S U ℕ)) → Related v w b c → Lines v w a e → Paragraphs v w p q → y ≡ z → Tables v w o n →
@@ -228,20 +226,15 @@ module _ {P R Q S T U W : Type 0} (from : Parts P R T ℕ) (to : Parts Q S U ℕ
       Flushed v w (add_lines from b a) (add_lines to c e)
   add_lines-related v w b c a e k l =
       with_lines v w b c _ _ _ _ k.0
-      (subst (λ ms. Lines v w (b.lines ++ marked_before (from.waiting b.paragraph) a) (c.lines ++ marked_before ms e))
-      (sym (h.waiting v w b.paragraph c.paragraph k.1))
+      (rw (h.waiting v w b.paragraph c.paragraph k.1)
       (h.behind v w b.lines _ c.lines _ k.0.lines (h.before_marks v w (from.waiting b.paragraph) a e l)))
       (h.without v w b.paragraph c.paragraph k.1)
 
   unended-related : (v : ℕ) (w : W) (gap other : Bool) (b : First) (c : Second) → other ≡ gap → Flushed v w b c →
       Flushed v w (unended from gap b) (unended to other c)
-  unended-related v w gap other b c same k = subst (λ z. Flushed v w (unended from gap b) (unended to z c)) (sym same) (by gap)
-    where
-      by : (z : Bool) → Flushed v w (unended from z b) (unended to z c)
-      by true =
-          let m = add_lines-related v w b c ([] ∷ []) ([] ∷ []) k (h.gap v w) in
-          (with_end v w (add_lines from b ([] ∷ [])) (add_lines to c ([] ∷ [])) false m.0, m.1)
-      by false = (with_end v w b c false k.0, k.1)
+  unended-related v w gap other b c same k =
+      let m = either (Flushed v w) gap other _ _ _ _ same (add_lines-related v w b c ([] ∷ []) ([] ∷ []) k (h.gap v w)) k in
+      (with_end v w _ _ false m.0, m.1)
 
   -- Related blocks have equally many lines.
   counted : (v : ℕ) (w : W) (b : First) (c : Second) → Related v w b c → length c.lines ≡ length b.lines
@@ -278,25 +271,12 @@ module _ {P R Q S T U W : Type 0} (from : Parts P R T ℕ) (to : Parts Q S U ℕ
       Both N M (Related v w) ((operations from).add_inline_text b (record { mode = mode; tag = t; continuation_tag = t' }) cs)
       ((operations to).add_inline_text c (record { mode = mode; tag = u; continuation_tag = u' }) cs)
   add_inline_text-related v w mode t t' u u' cs x y b c k =
-      either (Related v w) (eqb (length cs) 0) (Some b) _ (Some c) _ k
-      (subst (λ z. Both N M (Related v w) (cond (not b.at_block_end) (Some (fed b)) (ended b)) (cond (not z) (Some (other_fed c)) (other_ended c)))
-      (sym k.at_block_end)
-      (either (Related v w) (not b.at_block_end) (Some (fed b)) _ (Some (other_fed c)) _ (text-related v w mode t t' u u' cs x y b c k)
-      (either (Related v w) (is_collapsible_text mode cs) (Some b) _ (Some c) _ k
+      either (Both N M (Related v w)) (eqb (length cs) 0) _ (Some b) _ (Some c) _ refl k
+      (either (Both N M (Related v w)) (not b.at_block_end) _ (Some _) _ (Some _) _ (ap not k.at_block_end)
+      (text-related v w mode t t' u u' cs x y b c k)
+      (either (Both N M (Related v w)) (is_collapsible_text mode cs) _ (Some b) _ (Some c) _ refl k
       (Both-map N M (Flushed v w) (Related v w) _ _ (start_block from b) (start_block to c) (start_block-related v w b c k) (λ e f m.
-      text-related v w mode t t' u u' cs x y e f m.0)))))
-    where
-      fed : First → First
-      fed e = feed from e (styled (record { mode = mode; tag = t; continuation_tag = t' }) cs)
-
-      other_fed : Second → Second
-      other_fed e = feed to e (styled (record { mode = mode; tag = u; continuation_tag = u' }) cs)
-
-      ended : First → Option First
-      ended e = cond (is_collapsible_text mode cs) (Some e) (option_map fed (start_block from e))
-
-      other_ended : Second → Option Second
-      other_ended e = cond (is_collapsible_text mode cs) (Some e) (option_map other_fed (start_block to e))
+      text-related v w mode t t' u u' cs x y e f m.0))))
 
   -- ---- Blocks in blocks
 
@@ -319,11 +299,11 @@ module _ {P R Q S T U W : Type 0} (from : Parts P R T ℕ) (to : Parts Q S U ℕ
   sub_block-related v w prefix min_width b c k =
       Both-map N M (λ x y. x ≡ y) (λ e f. (x : ℕ) × Related x w e f) _ _ (inner_width b.setting prefix min_width) (inner_width c.setting prefix min_width)
       (h.inner_width v b.setting c.setting prefix min_width k.settings) (λ x y e.
-      (x, subst (λ z. Related x w (inner_block from b x) (inner_block to c z)) e (inner_block-related v x w b c k)))
+      (x, rw (sym e) (inner_block-related v x w b c k)))
 
   put_lines-related : (v : ℕ) (w : W) (a : List (Line T ℕ)) (e : List (Line U ℕ)) (ms ns : List ℕ) → ns ≡ ms → Lines v w a e →
       (b : First) (c : Second) → Flushed v w b c → Related v w (put_lines from b a ms) (put_lines to c e ns)
-  put_lines-related v w a e ms ns same l b c k = subst (λ xs. Related v w (put_lines from b a ms) (put_lines to c e xs)) (sym same) (by a e l)
+  put_lines-related v w a e ms ns same l b c k = rw same (by a e l)
     where
       by : (a : List (Line T ℕ)) (e : List (Line U ℕ)) → Lines v w a e → Related v w (put_lines from b a ms) (put_lines to c e ms)
       by [] [] l = marks-related v w b c ms k.0
@@ -343,27 +323,20 @@ module _ {P R Q S T U W : Type 0} (from : Parts P R T ℕ) (to : Parts Q S U ℕ
 
   with_open-related : (v : ℕ) (w : W) (widths : List ℕ) (p : R) (q : S) (row : Option (OpenRow T ℕ)) (other : Option (OpenRow U ℕ)) →
       Pictures v w widths p q → OpenRows v w row other → Pictures v w widths (with_open from p row) (with_open to q other)
-  with_open-related v w widths p q None other k o = subst (λ z. Pictures v w widths p (with_open to q z)) (sym o) k
+  with_open-related v w widths p q None other k o = rw o k
   with_open-related v w widths p q (Some r) other k o =
-      subst (λ z. Pictures v w widths (with_open from p (Some r)) (with_open to q z)) (sym o.1.0)
-      (h.with_row v w widths p q r o.0 k o.1.1)
+      rw o.1.0 (h.with_row v w widths p q r o.0 k o.1.1)
 
   end_open-related : (v : ℕ) (w : W) (b : First) (c : Second) (o : Option (OpenTable R T ℕ)) (p : Option (OpenTable S U ℕ)) → Related v w b c →
       Tables v w o p → Related v w (end_open from b o) (end_open to c p)
-  end_open-related v w b c None p k t = subst (λ z. Related v w b (end_open to c z)) (sym t) k
+  end_open-related v w b c None p k t = rw t k
   end_open-related v w b c (Some (Across picture widths ahead row)) p k t =
       let done = h.drawn v w widths _ _ (with_ahead-related v w widths ahead _ _
       (with_open-related v w widths picture t.other row t.other_row t.pictures t.rows)) in
-      let own = from.drawn (with_ahead from widths ahead (with_open from picture row)) in
-      let other = to.drawn (with_ahead to widths ahead (with_open to t.other t.other_row)) in
-      let before : First = record b { lines = b.lines ++ own.0; table = None } in
-      let other_before : Second = record c { lines = c.lines ++ other.0; table = None } in
-      subst (λ z. Related v w (feed from before (mark_items own.1)) (end_open to c z)) (sym t.is)
-      (subst (λ ms. Related v w (feed from before (mark_items own.1)) (feed to other_before (mark_items ms))) (sym done.1)
-      (marks-related v w before other_before own.1
-      (rebuilt v w b c _ _ _ _ _ _ _ _ k (h.behind v w b.lines own.0 c.lines other.0 k.lines done.0) k.paragraph k.at_block_end refl)))
+      rw (t.is, done.1) (marks-related v w _ _ _
+      (rebuilt v w b c _ _ _ _ _ _ _ _ k (h.behind v w b.lines _ c.lines _ k.lines done.0) k.paragraph k.at_block_end refl))
   end_open-related v w b c (Some (Stacked border has_lines)) p k t =
-      subst (λ z. Related v w (record b { table = None }) (end_open to c z)) (sym t.is) (with_table v w b c None None k refl)
+      rw t.is (with_table v w b c None None k refl)
 
   pub end_table-related : (v : ℕ) (w : W) (b : First) (c : Second) → Related v w b c → Related v w (end_table from b) (end_table to c)
   end_table-related v w b c k = end_open-related v w b c b.table c.table k k.table
@@ -395,9 +368,8 @@ module _ {P R Q S T U W : Type 0} (from : Parts P R T ℕ) (to : Parts Q S U ℕ
   add_border-related v w character one (Some t) None x b c k = absurd x
   add_border-related v w character one (Some t) (Some u) x b c k =
       let wide = h.width v b.setting c.setting k.0.settings in
-      add_lines-related v w b c _ _ k
-      (subst (λ n. Lines v w (repeated t character n ∷ []) (repeated u character c.setting.width ∷ [])) (sym wide.0)
-      (subst (λ n. Lines v w (repeated t character v ∷ []) (repeated u character n ∷ [])) (sym wide.1) (h.rule v w t u character one x)))
+      add_lines-related v w b c (repeated t character b.setting.width ∷ []) (repeated u character c.setting.width ∷ []) k
+      (rw (wide.0, wide.1) (h.rule v w t u character one x))
 
   stacked_begun-related : (v : ℕ) (w : W) (border : Option T) (other : Option U) → OptionTags Tags w border other → (b : First) (c : Second) →
       Flushed v w b c → Related v w (stacked_begun from b border) (stacked_begun to c other)
@@ -405,33 +377,19 @@ module _ {P R Q S T U W : Type 0} (from : Parts P R T ℕ) (to : Parts Q S U ℕ
       with_table v w _ _ _ _ (add_border-related v w BORDERS.line (joint_width false false) border other x b c k).0
       (record { other = other; is = refl; borders = x })
 
-  borders-related : (w : W) (t : T) (u : U) (borders : Bool) (n : ℕ) → Tags w t u →
-      OptionTags Tags w (cond (borders && not (n == 0)) (Some t) None) (cond (borders && not (n == 0)) (Some u) None)
-  borders-related w t u borders n x = by (borders && not (n == 0))
-    where
-      by : (z : Bool) → OptionTags Tags w (cond z (Some t) None) (cond z (Some u) None)
-      by true = x
-      by false = tt
-
   with_table_begun-related : (v : ℕ) (w : W) (t : T) (u : U) (borders : Bool) (needs : List ColumnNeed) (ahead : List (List PlacedCell)) → Tags w t u →
       (b : First) (c : Second) → Flushed v w b c → (o : Option (List ℕ)) → ((widths : List ℕ) → o ≡ Some widths → widths_across v needs ≡ Some widths) →
       Related v w (with_table_begun from b t borders ahead o) (with_table_begun to c u borders ahead o)
   with_table_begun-related v w t u borders needs ahead x b c k None is =
       let wide = h.width v b.setting c.setting k.0.settings in
-      let own = cond (borders && not (b.setting.width == 0)) (Some t) None in
-      stacked_begun-related v w own (cond (borders && not (c.setting.width == 0)) (Some u) None)
-      (subst (λ n. OptionTags Tags w own (cond (borders && not (n == 0)) (Some u) None)) (wide.0 ∙ sym wide.1)
-      (borders-related w t u borders b.setting.width x)) b c k
+      stacked_begun-related v w _ _ (rw (wide.0, wide.1) (either (OptionTags Tags w) (borders && not (v == 0)) _ _ _ _ _ refl x tt)) b c k
   with_table_begun-related v w t u borders needs ahead x b c k (Some widths) is =
       let q = h.without v w b.paragraph c.paragraph k.1 in
-      let picture = from.begun (frame_of t borders widths) (from.waiting b.paragraph) in
-      let other = to.begun (frame_of u borders widths) (to.waiting c.paragraph) in
       rebuilt v w b c _ _ _ _ _ _ _ _ k.0 k.0.lines (h.clear v w _ _ q) k.0.at_block_end (record {
-        other = other;
+        other = _;
         other_row = None;
         is = refl;
-        pictures = subst (λ ms. Pictures v w widths picture (to.begun (frame_of u borders widths) ms))
-            (sym (h.waiting v w b.paragraph c.paragraph k.1)) (h.begun v w needs widths borders t u (from.waiting b.paragraph) x (is widths refl));
+        pictures = rw (h.waiting v w b.paragraph c.paragraph k.1) (h.begun v w needs widths borders t u (from.waiting b.paragraph) x (is widths refl));
         rows = refl;
       })
 
@@ -441,11 +399,9 @@ module _ {P R Q S T U W : Type 0} (from : Parts P R T ℕ) (to : Parts Q S U ℕ
   begin_table-related v w t u borders stacked grid needs x b c k =
       Both-map N M (Flushed v w) (Related v w) _ _ (flush from (end_table from b)) (flush to (end_table to c)) (ended_flush v w b c k) (λ e f m.
       let wide = h.width v e.setting f.setting m.0.settings in
-      subst (λ n. Related v w (with_table_begun from e t borders (rows_on grid) (cond stacked None (widths_across n needs)))
-      (with_table_begun to f u borders (rows_on grid) (cond stacked None (widths_across f.setting.width needs)))) (sym wide.0)
-      (subst (λ n. Related v w (with_table_begun from e t borders (rows_on grid) (cond stacked None (widths_across v needs)))
-      (with_table_begun to f u borders (rows_on grid) (cond stacked None (widths_across n needs)))) (sym wide.1)
-      (with_table_begun-related v w t u borders needs (rows_on grid) x e f m (cond stacked None (widths_across v needs)) (across stacked))))
+      subst₂ (λ n i. Related v w (with_table_begun from e t borders (rows_on grid) (cond stacked None (widths_across n needs)))
+      (with_table_begun to f u borders (rows_on grid) (cond stacked None (widths_across i needs)))) (sym wide.0) (sym wide.1)
+      (with_table_begun-related v w t u borders needs (rows_on grid) x e f m (cond stacked None (widths_across v needs)) (across stacked)))
     where
       across : (z : Bool) (widths : List ℕ) → cond z None (widths_across v needs) ≡ Some widths → widths_across v needs ≡ Some widths
       across true widths e = cc
@@ -453,69 +409,59 @@ module _ {P R Q S T U W : Type 0} (from : Parts P R T ℕ) (to : Parts Q S U ℕ
 
   begin_row-related : (v : ℕ) (w : W) (o : Option (OpenTable R T ℕ)) (p : Option (OpenTable S U ℕ)) → Tables v w o p →
       Tables v w (option_map with_row_open o) (option_map with_row_open p)
-  begin_row-related v w None p t = ap (option_map with_row_open) t
+  begin_row-related v w None p t = rw t refl
   begin_row-related v w (Some (Across picture widths ahead None)) p t =
       let cells = slice_index_or ahead 0 [] in record {
         other = t.other;
         other_row = Some (open_row widths cells);
-        is = ap (option_map with_row_open) t.is
-            ∙ ap (λ r. option_map with_row_open (Some (Across t.other widths ahead r))) t.rows;
+        is = rw (t.is, t.rows) refl;
         pictures = t.pictures;
         rows = (open_row widths cells, (refl, h.opened v w widths picture t.other cells t.pictures));
       }
   begin_row-related v w (Some (Across picture widths ahead (Some row))) p t = record {
     other = t.other;
     other_row = t.other_row;
-    is = ap (option_map with_row_open) t.is
-        ∙ ap (λ r. option_map with_row_open (Some (Across t.other widths ahead r))) t.rows.1.0
-        ∙ ap (λ r. Some (Across t.other widths ahead r)) (sym t.rows.1.0);
+    is = rw (t.is, t.rows.1.0) refl;
     pictures = t.pictures;
     rows = t.rows;
   }
   begin_row-related v w (Some (Stacked border has_lines)) p t =
-      record { other = t.other; is = ap (option_map with_row_open) t.is; borders = t.borders }
+      record { other = t.other; is = rw t.is refl; borders = t.borders }
 
   skipped-related : (v : ℕ) (w : W) (o : Option (OpenTable R T ℕ)) (p : Option (OpenTable S U ℕ)) → Tables v w o p →
       Tables v w (option_map skipped o) (option_map skipped p)
-  skipped-related v w None p t = ap (option_map skipped) t
+  skipped-related v w None p t = rw t refl
   skipped-related v w (Some (Across picture widths ahead None)) p t = record {
     other = t.other;
     other_row = None;
-    is = ap (option_map skipped) t.is ∙ ap (λ r. option_map skipped (Some (Across t.other widths ahead r))) t.rows;
+    is = rw (t.is, t.rows) refl;
     pictures = t.pictures;
     rows = refl;
   }
   skipped-related v w (Some (Across picture widths ahead (Some row))) p t = record {
     other = t.other;
     other_row = Some (past_cell t.rows.0 []);
-    is = ap (option_map skipped) t.is ∙ ap (λ r. option_map skipped (Some (Across t.other widths ahead r))) t.rows.1.0;
+    is = rw (t.is, t.rows.1.0) refl;
     pictures = t.pictures;
     rows = (past_cell t.rows.0 [], (refl, h.skipped v w row t.rows.0 t.rows.1.1));
   }
   skipped-related v w (Some (Stacked border has_lines)) p t =
-      record { other = t.other; is = ap (option_map skipped) t.is; borders = t.borders }
+      record { other = t.other; is = rw t.is refl; borders = t.borders }
 
   put_stacked-related : (v : ℕ) (w : W) (border : Option T) (other : Option U) (has_lines more : Bool) → OptionTags Tags w border other →
       (e : First) (f : Second) → Flushed v w e f → (b : First) (c : Second) → Flushed v w b c →
       Related v w (put_stacked from b border has_lines more e) (put_stacked to c other has_lines more f)
   put_stacked-related v w border other has_lines more x e f l b c k =
-      with_table v w _ _ _ _ (by (has_lines && more)) (record { other = other; is = refl; borders = x })
-    where
-      put : (b : First) (c : Second) → Flushed v w b c →
-          Related v w (put_lines from b e.lines (from.waiting e.paragraph)) (put_lines to c f.lines (to.waiting f.paragraph))
-      put = put_lines-related v w e.lines f.lines _ _ (h.waiting v w e.paragraph f.paragraph l.1) l.0.lines
-
-      by : (z : Bool) → Related v w (put_lines from (cond z (add_border from b border BORDERS.slash) b) e.lines (from.waiting e.paragraph))
-          (put_lines to (cond z (add_border to c other BORDERS.slash) c) f.lines (to.waiting f.paragraph))
-      by true = put _ _ (add_border-related v w BORDERS.slash slash_width border other x b c k)
-      by false = put b c k
+      with_table v w _ _ _ _ (put_lines-related v w e.lines f.lines _ _ (h.waiting v w e.paragraph f.paragraph l.1) l.0.lines _ _
+      (either (Flushed v w) (has_lines && more) _ _ _ _ _ refl (add_border-related v w BORDERS.slash slash_width border other x b c k) k))
+      (record { other = other; is = refl; borders = x })
 
   -- A cell of x columns whose lines are added below those of the block.
   below : (v x : ℕ) (w : W) (b : First) (c : Second) → Related v w b c → (e : First) (f : Second) → Flushed x w e f → Some v ≡ Some x →
       Both N M (Related v w) (option_map (λ d. put_lines from d e.lines (from.waiting e.paragraph)) (flush from b))
       (option_map (λ d. put_lines to d f.lines (to.waiting f.paragraph)) (flush to c))
   below v x w b c k e f l n =
-      let m : Flushed v w e f = subst (λ y. Flushed y w e f) (sym (same_Some v x n)) l in
+      let m : Flushed v w e f = rw (same_Some v x n) l in
       Both-map N M (Flushed v w) (Related v w) _ _ (flush from b) (flush to c) (flush-related v w b c k)
       (put_lines-related v w e.lines f.lines _ _ (h.waiting v w e.paragraph f.paragraph m.1) m.0.lines)
 
@@ -524,44 +470,30 @@ module _ {P R Q S T U W : Type 0} (from : Parts P R T ℕ) (to : Parts Q S U ℕ
       (o : Option (OpenTable R T ℕ)) (p : Option (OpenTable S U ℕ)) → Tables v w o p → next_cell_width v o ≡ Some x →
       Both N M (Related v w) (cell_added from b o e) (cell_added to c p f)
   cell_added-related v x w b c k e f l None p t n =
-      subst (λ z. Both N M (Related v w) (cell_added from b None e) (cell_added to c z f)) (sym t) (below v x w b c k e f l n)
+      rw t (below v x w b c k e f l n)
   cell_added-related v x w b c k e f l (Some (Across picture widths ahead None)) p t n =
-      subst (λ z. Both N M (Related v w) (cell_added from b None e) (cell_added to c z f))
-      (sym (t.is ∙ ap (λ r. Some (Across t.other widths ahead r)) t.rows)) (below v x w b c k e f l n)
+      rw (t.is, t.rows) (below v x w b c k e f l n)
   cell_added-related v x w b c k e f l (Some (Across picture widths ahead (Some row))) p t n =
-      let r = t.rows.0 in
       let wide = h.width x e.setting f.setting l.0.settings in
-      let kept : KeptCell U ℕ = record { width = f.setting.width; lines = f.lines; marks = to.waiting f.paragraph } in
-      subst (λ z. Both N M (Related v w) (cell_added from b (Some (Across picture widths ahead (Some row))) e) (cell_added to c z f))
-      (sym (t.is ∙ ap (λ r. Some (Across t.other widths ahead r)) t.rows.1.0))
-      (with_table v w b c _ _ k (record {
+      rw (t.is, t.rows.1.0) (with_table v w b c _ _ k (record {
         other = t.other;
-        other_row = Some (past_cell r (kept ∷ []));
+        other_row = _;
         is = refl;
         pictures = t.pictures;
         rows = (
-          past_cell r (kept ∷ []),
+          _,
           (
             refl,
-            subst (λ n. Rows v w (past_cell row (record { width = n; lines = e.lines; marks = from.waiting e.paragraph } ∷ [])) (past_cell r (kept ∷ [])))
-                (sym wide.0)
-                (subst (λ n. Rows v w (past_cell row (record { width = x; lines = e.lines; marks = from.waiting e.paragraph } ∷ []))
-                (past_cell r (record { width = n; lines = f.lines; marks = to.waiting f.paragraph } ∷ []))) (sym wide.1)
-                (subst (λ ms. Rows v w (past_cell row (record { width = x; lines = e.lines; marks = from.waiting e.paragraph } ∷ []))
-                (past_cell r (record { width = x; lines = f.lines; marks = ms } ∷ []))) (sym (h.waiting x w e.paragraph f.paragraph l.1))
-                (h.kept v x w row r e.lines f.lines (from.waiting e.paragraph) t.rows.1.1 n l.0.lines))),
+            rw (wide.0, wide.1, h.waiting x w e.paragraph f.paragraph l.1)
+                (h.kept v x w row t.rows.0 e.lines f.lines (from.waiting e.paragraph) t.rows.1.1 n l.0.lines),
           ),
         );
       }))
   cell_added-related v x w b c k e f l (Some (Stacked border has_lines)) p t n =
-      let own : x ≡ v = sym (same_Some v x n) in
-      let m : Flushed v w e f = subst (λ y. Flushed y w e f) own l in
-      subst (λ z. Both N M (Related v w) (cell_added from b (Some (Stacked border has_lines)) e) (cell_added to c z f)) (sym t.is)
-      (subst (λ y. Both N M (Related v w)
-      (option_map (λ d. put_stacked from d border has_lines (not (length e.lines == 0)) e) (flush from b))
-      (option_map (λ d. put_stacked to d t.other has_lines (not (y == 0)) f) (flush to c))) (sym (counted x w e f l.0))
+      let m : Flushed v w e f = rw (same_Some v x n) l in
+      rw (t.is, counted x w e f l.0)
       (Both-map N M (Flushed v w) (Related v w) _ _ (flush from b) (flush to c) (flush-related v w b c k) (λ d g y.
-      put_stacked-related v w border t.other has_lines (not (is_empty e.lines)) t.borders e f m d g y)))
+      put_stacked-related v w border t.other has_lines (not (is_empty e.lines)) t.borders e f m d g y))
 
   add_cell-related : (v x : ℕ) (w : W) (b : First) (c : Second) → Related v w b c → (e : First) (f : Second) → Related x w e f →
       next_cell_width v b.table ≡ Some x → Both N M (Related v w) ((operations from).add_cell b e) ((operations to).add_cell c f)
@@ -571,13 +503,11 @@ module _ {P R Q S T U W : Type 0} (from : Parts P R T ℕ) (to : Parts Q S U ℕ
 
   next_width-related : (v : ℕ) (w : W) (o : Option (OpenTable R T ℕ)) (p : Option (OpenTable S U ℕ)) → Tables v w o p →
       next_cell_width v p ≡ next_cell_width v o
-  next_width-related v w None p t = ap (next_cell_width v) t
-  next_width-related v w (Some (Across picture widths ahead None)) p t =
-      ap (next_cell_width v) (t.is ∙ ap (λ r. Some (Across t.other widths ahead r)) t.rows)
+  next_width-related v w None p t = rw t refl
+  next_width-related v w (Some (Across picture widths ahead None)) p t = rw (t.is, t.rows) refl
   next_width-related v w (Some (Across picture widths ahead (Some row))) p t =
-      ap (next_cell_width v) (t.is ∙ ap (λ r. Some (Across t.other widths ahead r)) t.rows.1.0)
-      ∙ ap next_width (h.ahead v w row t.rows.0 t.rows.1.1)
-  next_width-related v w (Some (Stacked border has_lines)) p t = ap (next_cell_width v) t.is
+      rw (t.is, t.rows.1.0, h.ahead v w row t.rows.0 t.rows.1.1) refl
+  next_width-related v w (Some (Stacked border has_lines)) p t = rw t.is refl
 
   cell-related : (v : ℕ) (w : W) (b : First) (c : Second) → Related v w b c →
       Both (Unit {0}) ⊥ (λ e f. (j : ℕ) × (Related j w e f × ((z : W) → Later w z → Related v z b c →
@@ -585,11 +515,10 @@ module _ {P R Q S T U W : Type 0} (from : Parts P R T ℕ) (to : Parts Q S U ℕ
       ((operations from).cell_block b) ((operations to).cell_block c)
   cell-related v w b c k =
       let wide = h.width v b.setting c.setting k.settings in
-      subst (λ n. Both (Unit {0}) ⊥ Inner (option_map (λ x. inner_block from b x) (next_cell_width n b.table)) ((operations to).cell_block c)) (sym wide.0)
-      (subst (λ n. Both (Unit {0}) ⊥ Inner (option_map (λ x. inner_block from b x) (next_cell_width v b.table))
-      (option_map (λ x. inner_block to c x) (next_cell_width n c.table))) (sym wide.1)
-      (subst (λ o. Both (Unit {0}) ⊥ Inner (option_map (λ x. inner_block from b x) (next_cell_width v b.table))
-      (option_map (λ x. inner_block to c x) o)) (sym (next_width-related v w b.table c.table k.table)) (by (next_cell_width v b.table) refl)))
+      subst (λ o. Both (Unit {0}) ⊥ Inner (option_map (λ x. inner_block from b x) o) ((operations to).cell_block c))
+      (ap (λ n. next_cell_width n b.table) (sym wide.0))
+      (subst (λ o. Both (Unit {0}) ⊥ Inner (option_map (λ x. inner_block from b x) (next_cell_width v b.table)) (option_map (λ x. inner_block to c x) o))
+      (sym (ap (λ n. next_cell_width n c.table) wide.1 ∙ next_width-related v w b.table c.table k.table)) (by (next_cell_width v b.table) refl))
     where
       Inner : First → Second → Type 0
       Inner e f = (j : ℕ) × (Related j w e f × ((z : W) → Later w z → Related v z b c →
@@ -602,22 +531,19 @@ module _ {P R Q S T U W : Type 0} (from : Parts P R T ℕ) (to : Parts Q S U ℕ
 
   row_ended-related : (v : ℕ) (w : W) (b : First) (c : Second) → Related v w b c → (o : Option (OpenTable R T ℕ)) (p : Option (OpenTable S U ℕ)) →
       Tables v w o p → Both N M (Related v w) (row_ended from b o) (row_ended to c p)
-  row_ended-related v w b c k None p t = subst (λ z. Both N M (Related v w) (Some b) (row_ended to c z)) (sym t) k
+  row_ended-related v w b c k None p t = rw t k
   row_ended-related v w b c k (Some (Across picture widths ahead row)) p t =
-      subst (λ z. Both N M (Related v w) (row_ended from b (Some (Across picture widths ahead row))) (row_ended to c z)) (sym t.is)
-      (with_table v w b c _ _ k (record {
-        other = with_open to t.other t.other_row;
+      rw t.is (with_table v w b c _ _ k (record {
+        other = _;
         other_row = None;
         is = refl;
         pictures = with_open-related v w widths picture t.other row t.other_row t.pictures t.rows;
         rows = refl;
       }))
   row_ended-related v w b c k (Some (Stacked border true)) p t =
-      subst (λ z. Both N M (Related v w) (row_ended from b (Some (Stacked border true))) (row_ended to c z)) (sym t.is)
-      (Both-map N M (Flushed v w) (Related v w) _ _ (flush from b) (flush to c) (flush-related v w b c k) (λ e f m.
-      stacked_begun-related v w border t.other t.borders e f m))
-  row_ended-related v w b c k (Some (Stacked border false)) p t =
-      subst (λ z. Both N M (Related v w) (Some b) (row_ended to c z)) (sym t.is) k
+      rw t.is (Both-map N M (Flushed v w) (Related v w) _ _ (flush from b) (flush to c) (flush-related v w b c k)
+      (stacked_begun-related v w border t.other t.borders))
+  row_ended-related v w b c k (Some (Stacked border false)) p t = rw t.is k
 
   -- THE THEOREM: each operation keeps blocks related.
   pub operations-related : Relates (operations from) (operations to) N M Later Tags (λ v w b c. Related v w b c)
@@ -643,22 +569,9 @@ module _ {P R Q S T U W : Type 0} (from : Parts P R T ℕ) (to : Parts Q S U ℕ
   ended-related : (v : ℕ) (w : W) (b : First) (c : Second) → Flushed v w b c → Related v w
       (cond (is_empty b.lines) b (record b { lines = marked_behind (from.waiting b.paragraph) b.lines; paragraph = from.without_waiting b.paragraph }))
       (cond (is_empty c.lines) c (record c { lines = marked_behind (to.waiting c.paragraph) c.lines; paragraph = to.without_waiting c.paragraph }))
-  ended-related v w b c k =
-      subst (λ n. Related v w (cond (is_empty b.lines) b own) (cond (n == 0) c other)) (sym (counted v w b c k.0)) (by (is_empty b.lines))
-    where
-      own : First
-      own = record b { lines = marked_behind (from.waiting b.paragraph) b.lines; paragraph = from.without_waiting b.paragraph }
-
-      other : Second
-      other = record c { lines = marked_behind (to.waiting c.paragraph) c.lines; paragraph = to.without_waiting c.paragraph }
-
-      by : (z : Bool) → Related v w (cond z b own) (cond z c other)
-      by true = k.0
-      by false =
-          (with_lines v w b c _ _ _ _ k.0
-          (subst (λ ms. Lines v w (marked_behind (from.waiting b.paragraph) b.lines) (marked_behind ms c.lines))
-          (sym (h.waiting v w b.paragraph c.paragraph k.1)) (h.behind_marks v w (from.waiting b.paragraph) b.lines c.lines k.0.lines))
-          (h.without v w b.paragraph c.paragraph k.1)).0
+  ended-related v w b c k = either (Related v w) (is_empty b.lines) _ _ _ _ _ (ap (λ n. n == 0) (counted v w b c k.0)) k.0 (with_lines v w b c _ _ _ _ k.0
+      (rw (h.waiting v w b.paragraph c.paragraph k.1) (h.behind_marks v w (from.waiting b.paragraph) b.lines c.lines k.0.lines))
+      (h.without v w b.paragraph c.paragraph k.1)).0
 
   pub finish-related : (v : ℕ) (w : W) (b : First) (c : Second) → Related v w b c → Both N M (Related v w) (finish from b) (finish to c)
   finish-related v w b c k =

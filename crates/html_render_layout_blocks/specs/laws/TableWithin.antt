@@ -75,25 +75,21 @@ places-parted (p ∷ ps) = by p.is_cell (places-parted ps)
     by true h = omega arith
     by false h = omega (arith, h)
 
-empties-room : (T M : Type 0) (ps : List RowPlace) → cells_room (empty_cells {T = T} {M = M} ps) ≡ places_room ps
-empties-room T M [] = refl
-empties-room T M (p ∷ ps) = by p.width (empties-room T M ps)
-  where
-    by : (o : Option ℕ) → cells_room (empty_cells {T = T} {M = M} ps) ≡ places_room ps →
-        cells_room (empty_cell {T = T} {M = M} o ++ empty_cells ps) ≡ place_room o + places_room ps
-    by None h = omega (arith, h)
-    by (Some width) h =
-        omega (arith, h, sum_by-cons (λ (c : KeptCell T M). 1 + c.width) (record { width = width; lines = []; marks = [] }) (empty_cells ps))
-
 module _ {T M : Type 0} where
-  empties-keep : (ps : List RowPlace) → All (KeepsToWidth {T = T} {M = M}) (empty_cells ps)
-  empties-keep [] = All-nil KeepsToWidth
-  empties-keep (p ∷ ps) = by p.width (empties-keep ps)
+  -- Empty cells of places keep to their widths, and are as wide as the places.
+  empties-within : (ps : List RowPlace) → All (KeepsToWidth {T = T} {M = M}) (empty_cells ps) × (cells_room (empty_cells {T = T} {M = M} ps) ≡ places_room ps)
+  empties-within [] = (All-nil KeepsToWidth, refl)
+  empties-within (p ∷ ps) = by p.width (empties-within ps)
     where
-      by : (o : Option ℕ) → All (KeepsToWidth {T = T} {M = M}) (empty_cells ps) → All (KeepsToWidth {T = T} {M = M}) (empty_cell o ++ empty_cells ps)
-      by None h = h
+      by : (o : Option ℕ) → All (KeepsToWidth {T = T} {M = M}) (empty_cells ps) × (cells_room (empty_cells {T = T} {M = M} ps) ≡ places_room ps) →
+          All (KeepsToWidth {T = T} {M = M}) (empty_cell o ++ empty_cells ps)
+          × (cells_room (empty_cell {T = T} {M = M} o ++ empty_cells ps) ≡ place_room o + places_room ps)
+      by None h = (h.0, omega (arith, h.1))
       by (Some width) h =
-          All-cons KeepsToWidth (record { width = width; lines = []; marks = [] }) (empty_cells ps) (All-nil (λ (l : Line T M). columns l ≤ width)) h
+          let blank : KeptCell T M = record { width = width; lines = []; marks = [] } in (
+            All-cons KeepsToWidth blank (empty_cells ps) (All-nil (λ (l : Line T M). columns l ≤ width)) h.0,
+            omega (arith, h.1, sum_by-cons (λ (c : KeptCell T M). 1 + c.width) blank (empty_cells ps)),
+          )
 
   -- ---- Rows
 
@@ -110,14 +106,15 @@ module _ {T M : Type 0} where
       cells_room cell ≤ place_room (next_width r.ahead) → OpenWithin w (past_cell r cell)
   cell-within w r cell h keeps room =
       let before : List (KeptCell T M) = empty_cells (before_cell r.ahead) in
+      let blank = empties-within (before_cell r.ahead) in
       let n = h.1 in (
-        All-append KeepsToWidth (r.cells ++ before) cell (All-append KeepsToWidth r.cells before h.0 (empties-keep (before_cell r.ahead))) keeps,
+        All-append KeepsToWidth (r.cells ++ before) cell (All-append KeepsToWidth r.cells before h.0 blank.0) keeps,
         omega (
           arith,
           n,
           room,
           places-parted r.ahead,
-          empties-room T M (before_cell r.ahead),
+          blank.1,
           sum_by-append (λ (c : KeptCell T M). 1 + c.width) (r.cells ++ before) cell,
           sum_by-append (λ (c : KeptCell T M). 1 + c.width) r.cells before,
         ),
@@ -125,10 +122,10 @@ module _ {T M : Type 0} where
 
   pub whole-within : (w : ℕ) (r : OpenRow T M) → OpenWithin w r → RowWithin w (whole_row r)
   whole-within w r h =
-      let n = h.1 in (
-        All-append KeepsToWidth r.cells (empty_cells r.ahead) h.0 (empties-keep r.ahead),
+      let blank = empties-within r.ahead in (
+        All-append KeepsToWidth r.cells (empty_cells r.ahead) h.0 blank.0,
         row-within w (r.cells ++ empty_cells r.ahead)
-            (omega (arith, n, empties-room T M r.ahead, sum_by-append (λ (c : KeptCell T M). 1 + c.width) r.cells (empty_cells r.ahead))),
+            (omega (arith, h.1, blank.1, sum_by-append (λ (c : KeptCell T M). 1 + c.width) r.cells (empty_cells r.ahead))),
       )
 
 -- The width of a table is at most that of its columns and all separators between them.
