@@ -2,7 +2,7 @@
 use Rattle.std.specs.Fmt.{decimal}
 use Rattle.std.specs.Str.{chars}
 use Rattle.std.proofs.Common.{◌≡◌, ℕ, ◌+◌, ◌≤◌, ◌==◌, false, List, [], ◌∷◌, ◌++◌, length, codes, Option, Some, None, option_and_then}
-use Rattle.std.proofs.Common.{IfSome, map, option_map, refl, ap, sym, ◌∙◌, subst, arith}
+use Rattle.std.proofs.Common.{IfSome, map, refl, ap, sym, ◌∙◌, subst, arith}
 use Rattle.std.specs.Prelude.{flat_map, sum_by, not, ◌&&◌, if◌then◌else◌}
 use Rattle.std.proofs.lemmas.List.Concat.{flat_map-append}
 use Rattle.std.proofs.lemmas.List.Sums.{sum_by-cons, sum_by-append}
@@ -25,11 +25,10 @@ use Rattle.html_render_layout_blocks.specs.declared.block.BlockSetting.{BlockSet
 use Rattle.html_render_layout_blocks.specs.Definition as definition
 use Rattle.html_render_layout_blocks.specs.Definition.{DefinedBlock}
 use Rattle.html_render_layout_blocks.specs.Visible.{visible_in_text}
-use Rattle.html_render_layout_blocks.specs.laws.BlockVisible.{text_count, visible_count, operations_keep_visible}
+use Rattle.html_render_layout_blocks.specs.laws.BlockVisible.{any, text_count, visible_count, operations_keep_visible, finish_count, closing_count}
 use Rattle.html_render_layout_pictures.specs.Visible.{count}
 use Rattle.html_render_layout_pictures.specs.laws.Lines.{count-append}
 use Rattle.html_render_layout_blocks.specs.laws.Operations.{Counts}
-use Rattle.html_render_layout_blocks.specs.laws.Closing.{IsClear, finish_count, closed_count}
 use Rattle.html_render_layout.specs.declared.nesting.OwnBlock.{OwnBlock}
 use Rattle.html_render_layout.specs.declared.nesting.OwnBlock.TheVariants.{Shared, Prefixed, Indented}
 use Rattle.html_render_layout.specs.declared.state.LayoutState.{LayoutState}
@@ -41,11 +40,6 @@ use Rattle.html_render_layout.specs.Layout.{Shape, Steps, Around, Items, Cells, 
 use Rattle.html_render_layout.specs.Layout.{annotated, struck, on_block, text_style, write, perform, perform_all, joined, appended, appended_block}
 use Rattle.html_render_layout.specs.Layout.{block_place, cell_place, shape_layout, kind_layout, layout_of, Defined, defined, by_stacks, empty_state, estimated, layout_lines}
 use Rattle.html_render_layout.specs.Ending.{closing_texts, ended}
-
--- a claim about all values of f holds of a mapped option
-whatever : {X Y : Type 0} (Q : Y → Type 0) (o : Option X) (f : X → Y) → ((x : X) → Q (f x)) → IfSome (option_map f o) Q
-whatever Q None f k = tt
-whatever Q (Some x) f k = k x
 
 -- v counts in a block, and w in a text. Adding a text adds at least its count, and no operation lowers a count. w counts no
 -- less in a struck-out text than in the text.
@@ -73,8 +67,8 @@ module _ {S A K T B : Type 0} (m : Algebra S A K T B) (v : B → ℕ) (w : List 
   abbrev Keeps : (State → Option State) → Type 0
   Keeps f = (d : S) (n : ℕ) (r : State) → Has d n r → IfSome (f r) (Has d n)
 
-  on_block-keeps : {P : B → B → Type 0} (f : B → Option B) → ((b : B) → IfSome (f b) (P b)) → ((b c : B) → P b c → v b ≤ v c) → Keeps (on_block f)
-  on_block-keeps f k so d n r a = map_if _ _ _ (f r.block) (k r.block) (λ c p. (a.0, omega (arith, a.1, so r.block c p)))
+  on_block-keeps : (f : B → Option B) → ((b : B) → IfSome (f b) (λ c. v b ≤ v c)) → Keeps (on_block f)
+  on_block-keeps f k d n r a = map_if _ _ _ (f r.block) (k r.block) (λ c p. (a.0, omega (arith, a.1, p)))
 
   write-count : (cs : List ℕ) (d : S) (n : ℕ) (r : State) → Has d n r → IfSome (write m cs r) (Has d (n + w cs))
   write-count cs d n r a =
@@ -90,17 +84,17 @@ module _ {S A K T B : Type 0} (m : Algebra S A K T B) (v : B → ℕ) (w : List 
   step-keeps b WriteNumber d n r a =
       if_cases (λ x. IfSome x (Has d n)) r.settings.link_footnotes _ _
       (λ _. write-keeps (chars (codes "[" ++ decimal (length b.targets + 1) ++ codes "]")) d n r a) (λ _. a)
-  step-keeps b NewLine d n r a = on_block-keeps m.operations.new_line h.new_line (λ b c e. omega arith) d n r a
-  step-keeps b NewLineHard d n r a = on_block-keeps m.operations.new_line_hard h.new_line_hard (λ b c e. omega arith) d n r a
-  step-keeps b StartBlock d n r a = on_block-keeps m.operations.start_block h.start_block (λ b c e. omega arith) d n r a
+  step-keeps b NewLine d n r a = on_block-keeps m.operations.new_line h.new_line d n r a
+  step-keeps b NewLineHard d n r a = on_block-keeps m.operations.new_line_hard h.new_line_hard d n r a
+  step-keeps b StartBlock d n r a = on_block-keeps m.operations.start_block h.start_block d n r a
   step-keeps b Fence d n r a =
       let text : B → Option B = λ b. m.operations.add_inline_text b (record { mode = Normal; tag = r.blank; continuation_tag = r.blank }) (codes "```") in
       if_cases (λ x. IfSome x (Has d n)) (r.settings.fence_tables && not r.in_table) _ _
-      (λ _. bind_some _ _ _ (on_block text r) (on_block-keeps text (λ b. h.add_inline_text b _ _) (λ b c e. omega arith) d n r a)
-      (on_block-keeps m.operations.new_line h.new_line (λ b c e. omega arith) d n)) (λ _. a)
+      (λ _. bind_some _ _ _ (on_block text r) (on_block-keeps text (λ b. IfSome_then (text b) (h.add_inline_text b _ _) (λ c e. omega (arith, e))) d n r a)
+      (on_block-keeps m.operations.new_line h.new_line d n)) (λ _. a)
   step-keeps b (BeginTable grid needs) d n r a =
       let begin : B → Option B = λ t. m.operations.begin_table t r.blank r.settings.table_borders r.settings.raw_mode grid needs in
-      map_if _ _ _ (on_block begin r) (on_block-keeps begin (λ t. h.begin_table t _ _ _ _ _) (λ t u le. le) d n r a) (λ q e. e)
+      map_if _ _ _ (on_block begin r) (on_block-keeps begin (λ t. h.begin_table t _ _ _ _ _) d n r a) (λ q e. e)
   step-keeps b (Annotate annotation) d n r a = elim (annotation r.decorator) as (λ o. Has d n (annotated m o r)) [ None ↦ a | Some x ↦ a ]
   step-keeps b (Treat mode preformatted) d n r a = a
   step-keeps b Strike d n r a = a
@@ -140,50 +134,53 @@ module _ {S A K T B : Type 0} (m : Algebra S A K T B) (v : B → ℕ) (w : List 
   abbrev PlacesAdd : Places State → Type 0
   PlacesAdd places = (number : ℕ) (s : State) → PlaceAdds s (places number s)
 
-  -- whether P holds after a visit, of the number n, or of n and the count that the children add
-  abbrev Adds : (ℕ → State → Type 0) → ℕ → Visit State → Type 0
-  Adds P n (Leaf behind) = IfSome behind (P n)
-  Adds P n (Inner before places after) =
-      IfSome before (λ q. (k : ℕ) (r : State) → Has q.decorator (counted q + k) r → IfSome (after r) (P (n + k))) × PlacesAdd places
+  -- whether P holds after a visit, of the count that the children add
+  abbrev Adds : (ℕ → State → Type 0) → Visit State → Type 0
+  Adds P (Leaf behind) = IfSome behind (P 0)
+  Adds P (Inner before places after) =
+      IfSome before (λ q. (k : ℕ) (r : State) → Has q.decorator (counted q + k) r → IfSome (after r) (P k)) × PlacesAdd places
 
-  followed-adds : (P Q : ℕ → State → Type 0) (k n : ℕ) (l : Visit State) (next : State → Option State) →
-      ((i : ℕ) (r : State) → P (k + i) r → IfSome (next r) (Q (n + i))) → Adds P k l → Adds Q n (followed l next)
-  followed-adds P Q k n (Leaf behind) next so a =
-      let same : k ≡ k + 0 = omega arith in
-      let less : n + 0 ≡ n = omega arith in
-      subst (λ j. IfSome (option_and_then next behind) (Q j)) less
-      (bind_some (P (k + 0)) (Q (n + 0)) next behind (subst (λ j. IfSome behind (P j)) same a) (so 0))
-  followed-adds P Q k n (Inner before places after) next so a =
-      (IfSome_then before a.0 (λ q f i r b. bind_some (P (k + i)) (Q (n + i)) next (after r) (f i r b) (so i)), a.1)
+  followed-adds : (P Q : ℕ → State → Type 0) (l : Visit State) (next : State → Option State) →
+      ((i : ℕ) (r : State) → P i r → IfSome (next r) (Q i)) → Adds P l → Adds Q (followed l next)
+  followed-adds P Q (Leaf behind) next so a = bind_some (P 0) (Q 0) next behind a (so 0)
+  followed-adds P Q (Inner before places after) next so a =
+      (IfSome_then before a.0 (λ q f i r b. bind_some (P i) (Q i) next (after r) (f i r b) (so i)), a.1)
+
+  -- whether a visit of each state restores the decorator, and adds what the children add
+  abbrev Grows : (State → Visit State) → Type 0
+  Grows visit = (q : State) (n : ℕ) → n ≤ counted q → Adds (λ i. Has q.decorator (n + i)) (visit q)
 
   -- a visit in a sub-block of s
-  inside-adds : (s : State) (before : Option State) (after : State → Option State) (visit : State → Visit State) → Joins s after →
-      ((q : State) → Adds (Has q.decorator) (counted q) (visit q)) → Adds (Has s.decorator) (counted s) (placed (Within before after) visit s)
-  inside-adds s None after visit k adds = tt
-  inside-adds s (Some q) after visit k adds =
-      followed-adds (Has q.decorator) (Has s.decorator) (counted q) (counted s) (visit q) after
-      (λ i r a. IfSome_then (after r) (k r) (λ t b. (b.1.0, omega (arith, a.1, b.1.1)))) (adds q)
+  inside-adds : (s : State) (n : ℕ) → n ≤ counted s → (before : Option State) (after : State → Option State) (visit : State → Visit State) →
+      Joins s after → Grows visit → Adds (λ i. Has s.decorator (n + i)) (placed (Within before after) visit s)
+  inside-adds s n le None after visit k grows = tt
+  inside-adds s n le (Some q) after visit k grows =
+      followed-adds (λ i. Has q.decorator (counted q + i)) (λ i. Has s.decorator (n + i)) (visit q) after
+      (λ i r a. IfSome_then (after r) (k r) (λ t b. (b.1.0, omega (arith, le, a.1, b.1.1)))) (grows q (counted q) (omega arith))
 
-  block-adds : (b : OwnBlock) (s : State) (visit : State → Visit State) →
-      ((q : State) → Adds (Has q.decorator) (counted q) (visit q)) → Adds (Has s.decorator) (counted s) (placed (block_place m b s) visit s)
-  block-adds Shared s visit adds = adds s
-  block-adds (Prefixed prefix min_width) s visit adds = inside-adds s _ _ visit (block-joins s prefix) adds
-  block-adds (Indented prefix columns min_width) s visit adds = inside-adds s _ _ visit (appended-joins s prefix columns) adds
+  block-grows : (b : State → OwnBlock) (visit : State → Visit State) → Grows visit → Grows (λ s. placed (block_place m (b s) s) visit s)
+  block-grows b visit grows s n le = by (b s)
+    where
+      by : (b : OwnBlock) → Adds (λ i. Has s.decorator (n + i)) (placed (block_place m b s) visit s)
+      by Shared = grows s n le
+      by (Prefixed prefix min_width) = inside-adds s n le _ _ visit (block-joins s prefix) grows
+      by (Indented prefix columns min_width) = inside-adds s n le _ _ visit (appended-joins s prefix columns) grows
 
   -- a shape lowers no count
-  shape-adds : (x : Shape S A) (s : State) → Adds (Has s.decorator) (counted s) (shape_layout m x s)
-  shape-adds (Steps xs) s = steps-keep s xs s.decorator (counted s) s (refl, omega arith)
-  shape-adds (Around xs ys) s = (
-    IfSome_then (perform_all m s xs s) (steps-keep s xs s.decorator (counted s) s (refl, omega arith)) (λ q a k r b.
-        steps-keep s ys s.decorator (counted s + k) r (b.0 ∙ a.0, omega (arith, a.1, b.1))),
+  shape-adds : (x : Shape S A) (s : State) (n : ℕ) → n ≤ counted s → Adds (λ i. Has s.decorator (n + i)) (shape_layout m x s)
+  shape-adds (Steps xs) s n le = steps-keep s xs s.decorator (n + 0) s (refl, omega (arith, le))
+  shape-adds (Around xs ys) s n le = (
+    IfSome_then (perform_all m s xs s) (steps-keep s xs s.decorator n s (refl, le)) (λ q a k r b.
+        steps-keep s ys s.decorator (n + k) r (b.0 ∙ a.0, omega (arith, a.1, b.1))),
     λ number q. tt,
   )
-  shape-adds (Items prefix columns min_width) s =
-      let c = columns s.decorator in
-      (λ k r a. a, λ number q. (whatever _ (m.operations.sub_block q.block c min_width) _ (λ b. refl), appended-joins q _ c))
-  shape-adds Cells s = (
-    λ k r a. on_block-keeps m.operations.end_row h.end_row (λ b c le. le) s.decorator (counted s + k) r
-        (a.0, omega (arith, a.1, h.begin_row s.block)),
+  shape-adds (Items prefix columns min_width) s n le =
+      let c = columns s.decorator in (
+        λ k r a. (a.0, omega (arith, le, a.1)),
+        λ number q. (map_if (λ b. Unit {0}) _ _ (m.operations.sub_block q.block c min_width) (any _) (λ b k. refl), appended-joins q _ c),
+      )
+  shape-adds Cells s n le = (
+    λ k r a. on_block-keeps m.operations.end_row h.end_row s.decorator (n + k) r (a.0, omega (arith, le, a.1, h.begin_row s.block)),
     λ number q. cell-adds (m.operations.cell_block q.block) q,
   )
     where
@@ -192,41 +189,38 @@ module _ {S A K T B : Type 0} (m : Algebra S A K T B) (v : B → ℕ) (w : List 
       cell-adds (Some cell) q =
           (refl, λ r. map_if _ _ _ (m.operations.add_cell q.block r.block) (h.add_cell q.block r.block) (λ b a. (refl, (refl, a))))
 
-  textless : (d : S) (n : ℕ) (l : Visit State) → Adds (Has d) n l → Adds (Has d) (n + w []) l
-  textless d n l a = subst (λ k. Adds (Has d) k l) (omega (arith, empty)) a
-
   kind-adds : (k : NodeKind) (e : Estimate) (trees : Forest RenderNode) (s : State) →
-      Adds (Has s.decorator) (counted s + w (node_characters k)) (kind_layout m k e trees s)
-  kind-adds (Text t) e trees s = write-count (chars t) s.decorator (counted s) s (refl, omega arith)
+      Adds (λ i. Has s.decorator (counted s + w (node_characters k) + i)) (kind_layout m k e trees s)
+  kind-adds (Text t) e trees s =
+      IfSome_then (write m (chars t) s) (write-count (chars t) s.decorator (counted s) s (refl, omega arith)) (λ q b. (b.0, omega (arith, b.1)))
   kind-adds k e trees s =
-      textless s.decorator (counted s) (kind_layout m k e trees s)
-      (block-adds (block_of m.decoration s.settings s.decorator k e) s (λ q. shape_layout m (shape_of m.decoration q.settings k e trees) q) (λ q. shape-adds (shape_of m.decoration q.settings k e trees) q))
+      block-grows (λ q. block_of m.decoration q.settings q.decorator k e) (λ q. shape_layout m (shape_of m.decoration q.settings k e trees) q)
+      (λ q. shape-adds (shape_of m.decoration q.settings k e trees) q) s (counted s + w []) (omega (arith, empty))
 
-  node-adds : (n : RenderNode) (trees : Forest RenderNode) (s : State) → Adds (Left s) (counted s + node_count n) (layout_of m n trees s)
+  node-adds : (n : RenderNode) (trees : Forest RenderNode) (s : State) → Adds (λ i. Left s (counted s + node_count n + i)) (layout_of m n trees s)
   node-adds n trees s = by (perform_all m s xs s) (steps-keep s xs s.decorator (counted s) s (refl, omega arith))
     where
       xs : List (Step S A)
       xs = style_steps m.decoration n.style
 
-      by : (o : Option State) → IfSome o (Has s.decorator (counted s)) → Adds (Left s) (counted s + node_count n) (from_state o (λ q.
+      by : (o : Option State) → IfSome o (Has s.decorator (counted s)) → Adds (λ i. Left s (counted s + node_count n + i)) (from_state o (λ q.
           followed (kind_layout m n.kind n.estimate trees q) (λ r. Some (record r { text = s.text }))))
       by None a = tt
       by (Some q) a =
-          followed-adds (Has q.decorator) (Left s) (counted q + node_count n) (counted s + node_count n)
-          (kind_layout m n.kind n.estimate trees q) _
-          (λ k r b. (refl, (b.0 ∙ a.0, omega (arith, a.1, b.1)))) (kind-adds n.kind n.estimate trees q)
+          followed-adds (λ i. Has q.decorator (counted q + node_count n + i)) (λ i. Left s (counted s + node_count n + i))
+          (kind_layout m n.kind n.estimate trees q) _ (λ k r b. (refl, (b.0 ∙ a.0, omega (arith, a.1, b.1)))) (kind-adds n.kind n.estimate trees q)
 
   -- nodes that count in a place: the node, unless it is skipped
   abbrev own : NodePlace State → RenderNode → List RenderNode
   own p n = if not (is_skipped p) then n ∷ [] else []
 
   placed-adds : (p : NodePlace State) (n : RenderNode) (trees : Forest RenderNode) (s : State) → PlaceAdds s p →
-      Adds (Left s) (counted s + sum_by node_count (own p n)) (placed p (layout_of m n trees) s)
-  placed-adds Bare n trees s a = subst (λ k. Adds (Left s) k (layout_of m n trees s)) (omega arith) (node-adds n trees s)
+      Adds (λ i. Left s (counted s + sum_by node_count (own p n) + i)) (placed p (layout_of m n trees) s)
+  placed-adds Bare n trees s a = subst (λ k. Adds (λ i. Left s (k + i)) (layout_of m n trees s)) (omega arith) (node-adds n trees s)
   placed-adds (Skipped t) n trees s a = (a.0, (a.1.0, omega (arith, a.1.1)))
   placed-adds (Within None after) n trees s a = tt
   placed-adds (Within (Some q) after) n trees s a =
-      followed-adds (Left q) (Left s) (counted q + node_count n) (counted s + sum_by node_count (own (Within (Some q) after) n))
+      followed-adds (λ i. Left q (counted q + node_count n + i)) (λ i. Left s (counted s + sum_by node_count (own (Within (Some q) after) n) + i))
       (layout_of m n trees q) after (λ k r b. IfSome_then (after r) (a.1 r) (λ t c.
       (c.0 ∙ b.0 ∙ a.0, (c.1.0, omega (arith, b.1.1, c.1.1))))) (node-adds n trees q)
 
@@ -234,7 +228,7 @@ module _ {S A K T B : Type 0} (m : Algebra S A K T B) (v : B → ℕ) (w : List 
   through_visit-adds : (children : Places State → State → Option State) (nodes : Places State × State → List RenderNode) →
       ((places : Places State) → PlacesAdd places → (q : State) →
       IfSome (children places q) (Has q.decorator (counted q + sum_by node_count (nodes (places, q))))) → (s : State) (n : ℕ) (l : Visit State) →
-      Adds (Left s) n l → IfSome (through_visit l children) (Left s (n + sum_by node_count (from nodes (inside l))))
+      Adds (λ i. Left s (n + i)) l → IfSome (through_visit l children) (Left s (n + sum_by node_count (from nodes (inside l))))
   through_visit-adds children nodes below s n (Leaf behind) a = IfSome_then behind a (λ r b. (b.0, (b.1.0, omega (arith, b.1.1))))
   through_visit-adds children nodes below s n (Inner None places after) a = tt
   through_visit-adds children nodes below s n (Inner (Some q) places after) a =
@@ -337,11 +331,11 @@ module _ {S A : Type 0} (d : Decoration S A) where
       (operations_keep_visible c) refl (struck-count c) trees start) (λ r a.
       map_if (λ (q : Defined S A). visible_count c r.block ≤ count c (visible_in_lines q.block.lines)) _ _
       (ended d definition.ending settings.link_footnotes settings.wrap_links [] r)
-      (bind_some (λ (b : DefinedBlock (List A) ℕ). IsClear b × (visible_count c r.block ≤ visible_count c b)) _ _
+      (bind_some (λ (b : DefinedBlock (List A) ℕ). visible_count c r.block ≤ count c (visible_in_lines b.lines)) _ _
       (definition.ending.finish r.block) (finish_count c r.block) (λ b h.
       let ts : List (List ℕ) = map chars (closing_texts d settings.link_footnotes r.decorator r.targets) in
-      bind_some _ _ _ (definition.ending.add_closing_lines b settings.wrap_links [] ts) (closed_count c b settings.wrap_links [] ts h.0)
-      (λ e k. let le = h.1 in omega (arith, le, k))))
+      bind_some _ _ _ (definition.ending.add_closing_lines b settings.wrap_links [] ts) (closing_count c b settings.wrap_links [] ts)
+      (λ e k. omega (arith, h, k))))
       (λ q e. omega (arith, a.1.1, e, texts_count c (visited_nodes d settings t decorator block))))))
     where
       Stands : ℕ → List (Line (List A) ℕ) → Type 0

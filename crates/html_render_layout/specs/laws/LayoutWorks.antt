@@ -1,7 +1,7 @@
 -- THE THEOREM: the code's layout, on blocks that are fed character by character, is the definition's, on whole lists and
 -- annotation stacks: with tags that are indices, and without tags.
-use Rattle.std.proofs.Common.{◌≡◌, ◌≢◌, ◌==◌, ℕ, Bool, true, false, cond, [], ◌∷◌, ◌++◌, length, List, Option, Some, None, Result}
-use Rattle.std.proofs.Common.{refl, sym, ap, ◌∙◌, subst, append_assoc, append-nil, option_map}
+use Rattle.std.proofs.Common.{◌≡◌, ◌≢◌, ◌==◌, ℕ, [], ◌∷◌, ◌++◌, length, List, Option, Some, None, Result}
+use Rattle.std.proofs.Common.{refl, sym, ap, ◌∙◌, append_assoc, append-nil, option_map}
 use Rattle.std.proofs.lemmas.Bool.{ne_eqb}
 use Rattle.std.proofs.Math.Seq.{get_or-append_seam}
 use Rattle.html_render_dom_values.specs.declared.errors.Error.{Error}
@@ -22,7 +22,7 @@ use Rattle.html_render_layout_blocks.specs.Definition.{definition, DefinedBlock}
 use Rattle.html_render_layout_blocks.specs.Machine as machine
 use Rattle.html_render_layout_blocks.specs.Machine.{machine}
 use Rattle.html_render_layout_blocks.specs.laws.BlockSeen.{Tags, empty-seen}
-use Rattle.html_render_layout_blocks.specs.laws.Related.{OptionTags}
+use Rattle.html_render_layout_blocks.specs.laws.Related.{OptionTags, either}
 use Rattle.html_render_layout_tagged.specs.Stacks.{stack_at}
 use Rattle.html_render_layout_tagged.specs.LaidOut.{tagged}
 use Rattle.html_render_layout_nodes.specs.Counts.{CountsNodes}
@@ -84,16 +84,6 @@ module _ {S A : Type 0} (d : Decoration S A) (settings : LayoutSettings) where
       ∙ get_or-append_seam k (stack_at k t ++ a ∷ []) g.0 []
       ∙ ap (λ x. x ++ a ∷ []) (h k ([], sym (append-nil k)))
 
-  -- tags of padding, if there are any, are related if these tags are
-  padded_alike : {W T V : Type 0} (shown : W → T → V) (seen : List A → V) (Later : W → W → Type 0) (stays : (w : W) → Later w w)
-      (goes : (w v u : W) → Later w v → Later v u → Later w u) (w : W) (tag : T) (stack : List A) → Tags shown seen Later stays goes w tag stack →
-      OptionTags (Tags shown seen Later stays goes) w (padding settings tag) (padding settings stack)
-  padded_alike shown seen Later stays goes w tag stack x = by settings.pad_block_width
-    where
-      by : (p : Bool) → OptionTags (Tags shown seen Later stays goes) w (cond p (Some tag) None) (cond p (Some stack) None)
-      by true = x
-      by false = tt
-
   abbrev pub empty_worked : S → BlockSetting → Worked S A
   empty_worked decorator block =
       begin_with settings (d.subblock decorator) ([] ∷ []) 0 (empty_block machine block (padding settings 0))
@@ -117,9 +107,9 @@ module _ {S A : Type 0} (d : Decoration S A) (settings : LayoutSettings) where
       empty-seen (λ (k : Tabled) t. stack_at k.0 t) (λ (s : List A). s) (λ (k l : Tabled). Pushed k.0 l.0)
           (λ (k : Tabled). ([], sym (append-nil k.0))) (λ (k l m : Tabled). Pushed-goes k.0 l.0 m.0) (([] ∷ []), tt)
           block (padding settings 0) (padding settings [])
-          (padded_alike (λ (k : Tabled) t. stack_at k.0 t) (λ (s : List A). s) (λ (k l : Tabled). Pushed k.0 l.0)
-          (λ (k : Tabled). ([], sym (append-nil k.0))) (λ (k l m : Tabled). Pushed-goes k.0 l.0 m.0) (([] ∷ []), tt) 0 []
-          (λ l g. ap (λ x. stack_at x 0) g.1)),
+          (either (OptionTags (Tags (λ (k : Tabled) t. stack_at k.0 t) (λ (s : List A). s) (λ (k l : Tabled). Pushed k.0 l.0)
+          (λ (k : Tabled). ([], sym (append-nil k.0))) (λ (k l m : Tabled). Pushed-goes k.0 l.0 m.0)) (([] ∷ []), tt)) settings.pad_block_width
+          settings.pad_block_width (Some 0) None (Some []) None refl (λ l g. ap (λ x. stack_at x 0) g.1) tt),
     ),
   )
 
@@ -165,7 +155,7 @@ module _ {S A : Type 0} (d : Decoration S A) (settings : LayoutSettings) where
       counts-same r (layout_of (by_tags d tabled)) (defined d) u s (empty_state d settings decorator block) old other new
       (ap (λ x. visited (layout_of (by_tags d tabled)) u x) e ∙ walk.0)
       (ap (λ x. most_open (layout_of (by_tags d tabled)) u x) e ∙ walk.1) probes
-      (counts-needed (by_tags d tabled) r u s other new (subst (λ x. CountsNodes r (layout_of (by_tags d tabled)) x s other new) m c))
+      (counts-needed (by_tags d tabled) r u s other new (rw m at c))
 
   -- ---- no tags
 
@@ -185,8 +175,8 @@ module _ {S A : Type 0} (d : Decoration S A) (settings : LayoutSettings) where
           λ l g. refl,
           empty-seen (λ (k : K × Unit {0}) (t : Unit {0}). tt) (λ (s : List A). tt) (λ k l. Unit {0}) (λ k. tt) (λ k l m a b. tt) (k, tt)
               block (padding settings tt) (padding settings [])
-              (padded_alike (λ (k : K × Unit {0}) (t : Unit {0}). tt) (λ (s : List A). tt) (λ k l. Unit {0}) (λ k. tt) (λ k l m a b. tt) (k, tt) tt []
-              (λ l g. refl)),
+              (either (OptionTags (Tags (λ (k : K × Unit {0}) (t : Unit {0}). tt) (λ (s : List A). tt) (λ k l. Unit {0}) (λ k. tt) (λ k l m a b. tt))
+              (k, tt)) settings.pad_block_width settings.pad_block_width (Some tt) None (Some []) None refl (λ l g. refl) tt),
         ),
       )
 

@@ -1,38 +1,32 @@
 -- The lines of a layout keep their promises.
-use Rattle.std.proofs.Common.{◌≡◌, ◌≢◌, ℕ, ◌<◌, Bool, true, false, List, Option, Some, None, Result, Ok, Err}
-use Rattle.std.proofs.Common.{IfErr, IfSome, IsSome, option_map, refl, sym, ap, ◌∙◌, subst, arith}
+use Rattle.std.proofs.Common.{◌≡◌, ◌≢◌, ℕ, ◌<◌, true, List, Option, Some, None, Result, Ok, Err}
+use Rattle.std.proofs.Common.{IfErr, IfSome, IsSome, option_map, refl, sym, subst, arith}
 use Rattle.std.proofs.lemmas.Option.{same_Some}
 use Rattle.html_render_dom_values.specs.declared.errors.Error.{Error}
 use Rattle.html_render_dom_values.specs.declared.errors.Error.TheVariants.{TooNarrow}
 use Rattle.html_render_dom_values.specs.Outcome.{Refuses}
 use Rattle.html_render_dom_values.specs.Forest.{Forest}
 use Rattle.html_render_parts.specs.Decoration.{Decoration}
-use Rattle.html_render_layout_lines.specs.Line.{Line, AllWithinWidth}
+use Rattle.html_render_layout_lines.specs.Line.{Line}
 use Rattle.html_render_layout_nodes.specs.declared.tree.RenderNode.{RenderNode}
 use Rattle.html_render_layout_estimates.specs.declared.settings.LayoutSettings.{LayoutSettings}
 use Rattle.html_render_layout_blocks.specs.declared.block.BlockSetting.{BlockSetting}
-use Rattle.html_render_layout.specs.Kept.{visited_nodes, KeepsTexts}
-use Rattle.html_render_layout.specs.Layout.{layout_lines, mark_names, unannotated}
+use Rattle.html_render_layout.specs.Layout.{layout_lines, unannotated}
 use Rattle.html_render_layout.specs.Promises.{AreLines, Lines, HasLines, LeavesTexts}
-use Rattle.html_render_layout.specs.laws.LayoutLaws.{layout_within, layout_succeeds, layout_same, names_same, same_answer}
+use Rattle.html_render_layout.specs.laws.LayoutLaws.{layout_within, layout_succeeds, layout_same}
+pub use Rattle.html_render_layout.specs.laws.LayoutLaws.{same-names}
 use Rattle.html_render_layout.specs.laws.LayoutVisible.{layout_keeps_texts, layout_leaves}
 
 module _ {S A : Type 0} (d : Decoration S A) (settings : LayoutSettings) (tree : Forest RenderNode) (decorator : S)
     (block : BlockSetting) where
-  -- lines with overflow on or off
-  abbrev in_overflow : Bool → Option (List (Line (List A) ℕ))
-  in_overflow o = layout_lines d settings tree decorator (record block { overflow = o })
-
   pub are-lines : (lines : List (Line (List A) ℕ)) → layout_lines d settings tree decorator block ≡ Some lines →
       AreLines d settings tree decorator block lines
   are-lines lines e =
       record {
         are = e;
-        within = λ off wrapped. subst (λ o. IfSome o (AllWithinWidth block.width)) (ap in_overflow (sym off) ∙ e)
-            (layout_within d settings tree decorator block wrapped);
-        same = same_answer in_overflow (layout_same d settings tree decorator block) block.overflow lines e;
-        kept = subst (λ o. IfSome o (KeepsTexts (visited_nodes d settings tree decorator block))) e
-            (layout_keeps_texts d settings tree decorator block);
+        within = rw e at (layout_within d settings tree decorator block);
+        same = layout_same d settings tree decorator block lines e;
+        kept = rw e at (layout_keeps_texts d settings tree decorator block);
       }
 
   pub lines_promised : IfSome (layout_lines d settings tree decorator block) (AreLines d settings tree decorator block)
@@ -42,13 +36,6 @@ module _ {S A : Type 0} (d : Decoration S A) (settings : LayoutSettings) (tree :
           AreLines d settings tree decorator block lines) → IfSome o (AreLines d settings tree decorator block)
       by None are = tt
       by (Some lines) are = are lines refl
-
-  -- names of marks are those of overflow off, where that gives any
-  pub same-names : (names : List (List ℕ)) → mark_names d settings tree decorator block ≡ Some names →
-      IfSome (mark_names d settings tree decorator (record block { overflow = false })) (λ others. names ≡ others)
-  same-names names e =
-      same_answer (λ o. mark_names d settings tree decorator (record block { overflow = o })) (names_same d settings tree decorator block)
-      block.overflow names e
 
   -- lines without annotations are those of lines with all promises
   pub unannotated-are-lines : (bare : List (Line (Unit {0}) ℕ)) →
@@ -64,8 +51,7 @@ module _ {S A : Type 0} (d : Decoration S A) (settings : LayoutSettings) (tree :
 
   -- with overflow on there are lines at each width from 1
   pub lines_there : HasLines d settings tree decorator block
-  lines_there on some =
-      subst (λ o. IsSome (in_overflow o)) (sym on) (layout_succeeds d settings tree decorator block (omega (arith, some)))
+  lines_there on some = layout_succeeds d settings tree decorator block on (omega (arith, some))
 
   -- with overflow on and a width from 1, the result isn't `TooNarrow`
   pub wide_enough : {X : Type 0} (r : Result X Error) → IfErr r (λ e. Refuses e (layout_lines d settings tree decorator block)) →

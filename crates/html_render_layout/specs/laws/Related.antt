@@ -3,7 +3,7 @@ use Rattle.std.specs.Prelude.{codes, if◌then◌else◌}
 use Rattle.std.specs.Fmt.{decimal}
 use Rattle.std.proofs.Common.{◌≡◌, ℕ, ◌+◌, ◌||◌, ◌&&◌, not, Bool, true, false, List, [], ◌∷◌, ◌++◌, length, map}
 use Rattle.std.specs.Option.{option_map_or}
-use Rattle.std.proofs.Common.{Option, Some, None, refl, sym, ap, ◌∙◌, subst, option_and_then, arith}
+use Rattle.std.proofs.Common.{Option, Some, None, refl, sym, ap, ◌∙◌, ap₂, max, option_and_then}
 use Rattle.std.specs.Str.{chars}
 use Rattle.html_render_dom_values.specs.Forest.{Forest, none, node}
 use Rattle.html_render_dom_values.specs.declared.white_space.WhiteSpace.TheVariants.{Normal}
@@ -13,7 +13,7 @@ use Rattle.html_render_layout_nodes.specs.declared.tree.RenderNode.{RenderNode}
 use Rattle.html_render_layout_estimates.specs.Estimates.{prefix_columns}
 use Rattle.html_render_layout_nodes.specs.Visitor.{NodePlace, Bare, Skipped, Within, Places, bare, Visit, Leaf, Inner, through_visit, inside, followed}
 use Rattle.html_render_layout_nodes.specs.Visitor.{placed, run_at, run, nodes_at, visited, open_at, most_open}
-use Rattle.html_render_layout_nodes.specs.laws.Visits.{from, from_state}
+use Rattle.html_render_layout_nodes.specs.laws.Visits.{from_state}
 use Rattle.html_render_layout_paragraphs.specs.laws.Answers.{Both, Both-then, Both-map, Both-weaken}
 use Rattle.html_render_layout_blocks.specs.Operations.{Operations, DocumentEnd}
 use Rattle.html_render_layout_blocks.specs.laws.Related.{Relates, RelatesEnds}
@@ -94,10 +94,6 @@ module _ {S A K T B L U C I : Type 0} (m : Algebra S A K T B) (pull : L → U �
     pub later : Later w (stacks_of r other)
     pub holds : Holds i r other
 
-  -- whether a reached state is related at some index, as in a sub-block
-  abbrev Deeper : K × L → State → OtherState → Type 0
-  Deeper w q e = (j : I) × Reached j w q e
-
   -- a state that isn't changed is reached
   here : (i : I) (s : State) (v : Different) → Holds i s v → Reached i (stacks_of s v) s (with_other s v)
   here i s v k = record { other = v; is = refl; later = stays (stacks_of s v); holds = k }
@@ -116,7 +112,7 @@ module _ {S A K T B L U C I : Type 0} (m : Algebra S A K T B) (pull : L → U �
   then_reached i j w a b f g k next =
       Both-then N M weak (Reached j w) (Reached i w) f g a b k (λ q e z.
       Both-weaken N M (Reached i (stacks_of q z.other)) (Reached i w) (f q) (g e)
-      (subst (λ x. Both N M (Reached i (stacks_of q z.other)) (f q) (g x)) (sym z.is) (next q z.other z.later z.holds))
+      (rw z.is (next q z.other z.later z.holds))
       (λ r x y. since i w q z.other r x z.later y))
 
   on_block-related : (f : B → Option B) (g : C → Option C) (i : I) (s : State) (v : Different) → Holds i s v →
@@ -126,6 +122,14 @@ module _ {S A K T B L U C I : Type 0} (m : Algebra S A K T B) (pull : L → U �
       Both-map N M (Blocks i (stacks_of s v)) (Reached i (stacks_of s v)) _ _ (f s.block) (g v.block) x (λ b c z.
       record { other = record v { block = c }; is = refl; later = stays (stacks_of s v); holds = (k.0, (k.1.0, z)) })
 
+  -- related states stay related with later stacks
+  holds_later : (i : I) (s : State) (v : Different) (w : K × L) → Holds i s v → Later (stacks_of s v) w →
+      Holds i (record s { stacks = w.0 }) (record v { stacks = w.1 })
+  holds_later i s v w k l = (
+    tags_later (stacks_of s v) w s.text.tag v.tag k.0 l,
+    (tags_later (stacks_of s v) w s.blank v.blank k.1.0 l, blocks_later i (stacks_of s v) w s.block v.block k.1.1 l),
+  )
+
   -- ---- steps
 
   -- adding an annotation, if there is one, keeps states related
@@ -133,17 +137,12 @@ module _ {S A K T B L U C I : Type 0} (m : Algebra S A K T B) (pull : L → U �
       Reached i (stacks_of s v) (annotated m a s) (annotated n a (with_other s v))
   annotated-related None i s v k = here i s v k
   annotated-related (Some a) i s v k =
-      let x = m.push s.stacks s.text.tag a in
-      let y = pull v.stacks v.tag a in
-      let l : Later (stacks_of s v) (x.0, y.0) = goes_on s.stacks v.stacks s.text.tag v.tag a k.0 in
+      let l = goes_on s.stacks v.stacks s.text.tag v.tag a k.0 in
       record {
-        other = record v { stacks = y.0; tag = y.1 };
+        other = record v { stacks = (pull v.stacks v.tag a).0; tag = (pull v.stacks v.tag a).1 };
         is = refl;
         later = l;
-        holds = (
-          tag_pushed s.stacks v.stacks s.text.tag v.tag a k.0,
-          (tags_later (stacks_of s v) (x.0, y.0) s.blank v.blank k.1.0 l, blocks_later i (stacks_of s v) (x.0, y.0) s.block v.block k.1.1 l),
-        );
+        holds = (tag_pushed s.stacks v.stacks s.text.tag v.tag a k.0, (holds_later i s v _ k l).1);
       }
 
   write-related : (cs : List ℕ) (i : I) (s : State) (v : Different) → Holds i s v →
@@ -172,10 +171,7 @@ module _ {S A K T B L U C I : Type 0} (m : Algebra S A K T B) (pull : L → U �
           let both : Later (stacks_of s v) (x'.0, y'.0) = goes (stacks_of s v) (x.0, y.0) (x'.0, y'.0) first second in
           let q : State = record s { stacks = x'.0 } in
           let u : Different = record v { stacks = y'.0 } in
-          let z : Holds i q u = (
-            tags_later (stacks_of s v) (x'.0, y'.0) s.text.tag v.tag k.0 both,
-            (tags_later (stacks_of s v) (x'.0, y'.0) s.blank v.blank k.1.0 both, blocks_later i (stacks_of s v) (x'.0, y'.0) s.block v.block k.1.1 both),
-          ) in
+          let z : Holds i q u = holds_later i s v (x'.0, y'.0) k both in
           Both-weaken N M (Reached i (stacks_of q u)) (Reached i (stacks_of s v)) _ _
           (on_block-related (λ e. m.operations.add_inline_text e (record { mode = s.text.mode; tag = x.1; continuation_tag = x'.1 }) fed)
           (λ e. p.add_inline_text e (record { mode = s.text.mode; tag = y.1; continuation_tag = y'.1 }) fed) i q u z
@@ -248,35 +244,22 @@ module _ {S A K T B L U C I : Type 0} (m : Algebra S A K T B) (pull : L → U �
 
   -- ---- sub-blocks
 
-  nested-related : (prefix min_width : ℕ) (i : I) (s : State) (v : Different) → Holds i s v →
-      Both N M (Deeper (stacks_of s v)) (nested m prefix min_width s) (nested n prefix min_width (with_other s v))
-  nested-related prefix min_width i s v k =
-      Both-map N M (λ e f. (j : I) × Blocks j (stacks_of s v) e f) (Deeper (stacks_of s v)) _ _ (m.operations.sub_block s.block prefix min_width)
-      (p.sub_block v.block prefix min_width) (h.sub_block i (stacks_of s v) prefix min_width s.block v.block k.1.1) (λ b c z.
-      (z.0, here z.0 (within m b s) (record v { block = c }) (k.0, (k.1.0, z.1))))
-
   -- whether f and g, which make a block of an outer block and a sub-block, keep blocks related
-  abbrev JoinRelated : I → State → Different → (B → B → Option B) → (C → C → Option C) → Type 0
-  JoinRelated i s v f g = (j : I) (w : K × L) → Later (stacks_of s v) w → Blocks i w s.block v.block → (b : B) (c : C) → Blocks j w b c →
+  abbrev JoinRelated : I → I → State → Different → (B → B → Option B) → (C → C → Option C) → Type 0
+  JoinRelated i j s v f g = (w : K × L) → Later (stacks_of s v) w → Blocks i w s.block v.block → (b : B) (c : C) → Blocks j w b c →
       Both N M (Blocks i w) (f s.block b) (g v.block c)
 
-  joined-related : (f : B → B → Option B) (g : C → C → Option C) (i j : I) (s : State) (v : Different) → Holds i s v → JoinRelated i s v f g →
+  joined-related : (f : B → B → Option B) (g : C → C → Option C) (i j : I) (s : State) (v : Different) → Holds i s v → JoinRelated i j s v f g →
       (r : State) (u : Different) → Later (stacks_of s v) (stacks_of r u) → Holds j r u →
       Both N M (Reached i (stacks_of r u)) (joined m f s r) (joined n g (with_other s v) (with_other r u))
   joined-related f g i j s v k x r u l z =
       Both-map N M (Blocks i (stacks_of r u)) (Reached i (stacks_of r u)) _ _ (f s.block r.block) (g v.block u.block)
-      (x j (stacks_of r u) l (blocks_later i (stacks_of s v) (stacks_of r u) s.block v.block k.1.1 l) r.block u.block z.1.1) (λ b c y.
+      (x (stacks_of r u) l (blocks_later i (stacks_of s v) (stacks_of r u) s.block v.block k.1.1 l) r.block u.block z.1.1) (λ b c y.
       record { other = record u { block = c }; is = refl; later = stays (stacks_of r u); holds = (z.0, (z.1.0, y)) })
 
-  appends-related : (prefix : List ℕ) (columns : ℕ) (i : I) (s : State) (v : Different) → Holds i s v →
-      JoinRelated i s v (λ b c. m.operations.append b c s.text.tag (chars prefix) (spaces columns))
-      (λ b c. p.append b c v.tag (chars prefix) (spaces columns))
-  appends-related prefix columns i s v k j w l x b c y =
-      h.append i j w s.text.tag v.tag (chars prefix) (spaces columns) (tags_later (stacks_of s v) w s.text.tag v.tag k.0 l) s.block v.block x b c y
-
-  block-related : (prefix : List ℕ) (i : I) (s : State) (v : Different) → Holds i s v →
-      JoinRelated i s v (appended_block m s.text.tag prefix) (appended_block n v.tag prefix)
-  block-related prefix i s v k j w l x b c y =
+  block-related : (prefix : List ℕ) (i j : I) (s : State) (v : Different) → Holds i s v →
+      JoinRelated i j s v (appended_block m s.text.tag prefix) (appended_block n v.tag prefix)
+  block-related prefix i j s v k w l x b c y =
       Both-then N M weak (Blocks i w) (Blocks i w) _ _ _ _ (h.start_block i w s.block v.block x) (λ e f z.
       Both-map N M (Blocks i w) (Blocks i w) _ _ _ _
       (h.append i j w s.text.tag v.tag (chars prefix) (chars prefix) (tags_later (stacks_of s v) w s.text.tag v.tag k.0 l) e f z b c y)
@@ -322,16 +305,14 @@ module _ {S A K T B L U C I : Type 0} (m : Algebra S A K T B) (pull : L → U �
       Both N M (Reached j (stacks_of q u)) (f x q) (g y (with_other q u))) → Both N M (Reached i w) (through_visit a f) (through_visit b g)
   visit-related i w (Leaf a) (Leaf b) f g k below = k
   visit-related i w (Leaf a) (Inner b y z) f g k below =
-      subst (λ x. Both N M (Reached i w) x (option_and_then (λ q. option_and_then z (g y q)) b)) (sym k.0)
-      (none-both i w (option_and_then (λ q. option_and_then z (g y q)) b) k.1)
+      rw k.0 (none-both i w (option_and_then (λ q. option_and_then z (g y q)) b) k.1)
   visit-related i w (Inner a x z) (Leaf b) f g k below = absurd k
   visit-related i w (Inner a x z) (Inner b y o) f g k below =
       Both-then N M weak (λ q e. After i w q e z o) (Reached i w) (λ q. option_and_then z (f x q)) (λ q. option_and_then o (g y q)) a b k.0 (λ q e c.
       let t : Reached c.0 w q e = c.1.0 in
       Both-weaken N M (Reached i (stacks_of q t.other)) (Reached i w) (option_and_then z (f x q)) (option_and_then o (g y e))
       (then_reached i c.0 (stacks_of q t.other) (f x q) (g y e) z o
-      (subst (λ d. Both N M (Reached c.0 (stacks_of q t.other)) (f x q) (g y d)) (sym t.is) (below x y k.1 c.0 q t.other t.holds))
-      (λ r u l d. c.1.1 r u l d)) (λ r d j. since i w q t.other r d t.later j))
+      (rw t.is (below x y k.1 c.0 q t.other t.holds)) c.1.1) (λ r d j. since i w q t.other r d t.later j))
 
   since-related : (i : I) (w : K × L) (q : State) (u : Different) (a : Visit State) (b : Visit OtherState) →
       Later w (stacks_of q u) → Related i (stacks_of q u) a b → Related i w a b
@@ -377,8 +358,7 @@ module _ {S A K T B L U C I : Type 0} (m : Algebra S A K T B) (pull : L → U �
   placed-related f g same (Within (Some q) a) (Within (Some e) b) i s v k c =
       let t : Reached c.0 (stacks_of s v) q e = c.1.0 in
       since-related i (stacks_of s v) q t.other (followed (f q) a) (followed (g e) b) t.later
-      (subst (λ x. Related i (stacks_of q t.other) (followed (f q) a) (followed (g x) b)) (sym t.is)
-      (followed-related i c.0 (stacks_of q t.other) (f q) (g (with_other q t.other)) a b (same c.0 q t.other t.holds) (λ r u l d. c.1.1 r u l d)))
+      (rw t.is (followed-related i c.0 (stacks_of q t.other) (f q) (g (with_other q t.other)) a b (same c.0 q t.other t.holds) c.1.1))
   placed-related f g same x y i s v k c = absurd c
 
   -- ---- shapes
@@ -392,26 +372,28 @@ module _ {S A K T B L U C I : Type 0} (m : Algebra S A K T B) (pull : L → U �
       Both-weaken N M (Reached i w) (λ q e. After i w q e f g) a b k (λ q e z.
       (i, (z, λ r u l d. next r u (goes w (stacks_of q z.other) (stacks_of r u) z.later l) d)))
 
-  -- actions before and after a node's children, which are in a sub-block
-  deeper-related : (i : I) (w : K × L) (a : Option State) (b : Option OtherState) (f : State → Option State)
-      (g : OtherState → Option OtherState) → Both N M (Deeper w) a b →
-      ((j : I) (r : State) (u : Different) → Later w (stacks_of r u) → Holds j r u →
-      Both N M (Reached i (stacks_of r u)) (f r) (g (with_other r u))) → Both N M (λ q e. After i w q e f g) a b
-  deeper-related i w a b f g k next =
-      Both-weaken N M (Deeper w) (λ q e. After i w q e f g) a b k (λ q e z.
-      (z.0, (z.1, λ r u l d. next z.0 r u (goes w (stacks_of q z.1.other) (stacks_of r u) z.1.later l) d)))
-
   bare-related : PlacesRelated bare bare
   bare-related number i s v k = tt
+
+  -- the place of a sub-block, if joining it to its outer block keeps blocks related
+  sub_block-related : (f : B → B → Option B) (g : C → C → Option C) (prefix min_width : ℕ) (i : I) (s : State) (v : Different) → Holds i s v →
+      ((j : I) → JoinRelated i j s v f g) →
+      Both N M (λ q e. After i (stacks_of s v) q e (joined m f s) (joined n g (with_other s v)))
+      (nested m prefix min_width s) (nested n prefix min_width (with_other s v))
+  unfolding here
+  sub_block-related f g prefix min_width i s v k x =
+      Both-map N M (λ b c. (j : I) × Blocks j (stacks_of s v) b c) (λ q e. After i (stacks_of s v) q e (joined m f s) (joined n g (with_other s v)))
+      _ _ (m.operations.sub_block s.block prefix min_width) (p.sub_block v.block prefix min_width)
+      (h.sub_block i (stacks_of s v) prefix min_width s.block v.block k.1.1) (λ b c z.
+      (z.0, (here z.0 (within m b s) (record v { block = c }) (k.0, (k.1.0, z.1)), joined-related f g i z.0 s v k (x z.0))))
 
   indent-related : (prefix : List ℕ) (columns min_width : ℕ) (i : I) (s : State) (v : Different) → Holds i s v →
       Both N M (λ q e. After i (stacks_of s v) q e (appended m s prefix columns) (appended n (with_other s v) prefix columns))
       (nested m columns min_width s) (nested n columns min_width (with_other s v))
   indent-related prefix columns min_width i s v k =
-      deeper-related i (stacks_of s v) _ _ (appended m s prefix columns) (appended n (with_other s v) prefix columns)
-      (nested-related columns min_width i s v k) (λ j r u l z.
-      joined-related (λ b c. m.operations.append b c s.text.tag (chars prefix) (spaces columns))
-      (λ b c. p.append b c v.tag (chars prefix) (spaces columns)) i j s v k (appends-related prefix columns i s v k) r u l z)
+      sub_block-related (λ b c. m.operations.append b c s.text.tag (chars prefix) (spaces columns))
+      (λ b c. p.append b c v.tag (chars prefix) (spaces columns)) columns min_width i s v k (λ j w l x b c y.
+      h.append i j w s.text.tag v.tag (chars prefix) (spaces columns) (tags_later (stacks_of s v) w s.text.tag v.tag k.0 l) s.block v.block x b c y)
 
   cell-related : (i : I) (s : State) (v : Different) → Holds i s v → (a : Option B) (b : Option C) →
       Both (Unit {0}) ⊥ (λ e f. (j : I) × (Blocks j (stacks_of s v) e f × ((w : K × L) → Later (stacks_of s v) w → Blocks i w s.block v.block →
@@ -427,10 +409,7 @@ module _ {S A K T B L U C I : Type 0} (m : Algebra S A K T B) (pull : L → U �
     c.0,
     (
       here c.0 (within m x s) (record v { block = y }) (k.0, (k.1.0, c.1.0)),
-      λ r u l z.
-          Both-map N M (Blocks i (stacks_of r u)) (Reached i (stacks_of r u)) _ _ (m.operations.add_cell s.block r.block) (p.add_cell v.block u.block)
-          (c.1.1 (stacks_of r u) l (blocks_later i (stacks_of s v) (stacks_of r u) s.block v.block k.1.1 l) r.block u.block z.1.1) (λ e f d.
-          here i (record r { decorator = s.decorator; block = e }) (record u { block = f }) (z.0, (z.1.0, d))),
+      joined-related m.operations.add_cell p.add_cell i c.0 s v k c.1.1,
     ),
   )
 
@@ -438,9 +417,8 @@ module _ {S A K T B L U C I : Type 0} (m : Algebra S A K T B) (pull : L → U �
       PlaceRelated i (stacks_of s v) (block_place m x s) (block_place n x (with_other s v))
   block_place-related Shared i s v k = tt
   block_place-related (Prefixed prefix min_width) i s v k =
-      deeper-related i (stacks_of s v) _ _ (joined m (appended_block m s.text.tag prefix) s) (joined n (appended_block n v.tag prefix) (with_other s v))
-      (nested-related (prefix_columns prefix) min_width i s v k) (λ j r u l z.
-      joined-related (appended_block m s.text.tag prefix) (appended_block n v.tag prefix) i j s v k (block-related prefix i s v k) r u l z)
+      sub_block-related (appended_block m s.text.tag prefix) (appended_block n v.tag prefix) (prefix_columns prefix) min_width i s v k (λ j.
+      block-related prefix i j s v k)
   block_place-related (Indented prefix columns min_width) i s v k = indent-related prefix columns min_width i s v k
 
   shape-related : (x : Shape S A) (i : I) (s : State) (v : Different) → Holds i s v →
@@ -498,8 +476,7 @@ module _ {S A K T B L U C I : Type 0} (m : Algebra S A K T B) (pull : L → U �
       by (Some q) (Some e) c =
           let w = stacks_of q c.other in
           since-related i (stacks_of s v) q c.other (f q) (g e) c.later
-          (subst (λ x. Related i w (f q) (g x)) (sym c.is)
-          (followed-related i i w _ _ _ _ (kind-related x.kind x.estimate trees i q c.other c.holds) (λ r u l z.
+          (rw c.is (followed-related i i w _ _ _ _ (kind-related x.kind x.estimate trees i q c.other c.holds) (λ r u l z.
           here i (record r { text = s.text }) (record u { tag = v.tag })
           (tags_later (stacks_of s v) (stacks_of r u) s.text.tag v.tag k.0 (goes (stacks_of s v) w (stacks_of r u) c.later l), z.1))))
 
@@ -516,18 +493,30 @@ module _ {S A K T B L U C I : Type 0} (m : Algebra S A K T B) (pull : L → U �
       placed-related (layout_of m x children) (layout_of n x children) (layout-related x children) (a number s) (b number (with_other s v)) i s v k
       (same number i s v k)
 
+  -- state after a node and its children
+  abbrev behind : RenderNode → Forest RenderNode → Places State → ℕ → State → Option State
+  behind x children a number s = through_visit (visit x children a number s) (λ below q. run_at (layout_of m) below 0 children q)
+
+  abbrev other_behind : RenderNode → Forest RenderNode → Places OtherState → ℕ → OtherState → Option OtherState
+  other_behind x children b number e = through_visit (other_visit x children b number e) (λ below q. run_at (layout_of n) below 0 children q)
+
   -- THE THEOREM: trees laid out from related states end in related states
   run_at-related : (t : Forest RenderNode) (a : Places State) (b : Places OtherState) → PlacesRelated a b → (number : ℕ) (i : I) (s : State)
       (v : Different) → Holds i s v →
       Both N M (Reached i (stacks_of s v)) (run_at (layout_of m) a number t s) (run_at (layout_of n) b number t (with_other s v))
   run_at-related none a b same number i s v k = here i s v k
   run_at-related (node x children beside) a b same number i s v k =
-      then_reached i i (stacks_of s v) (through_visit (visit x children a number s) (λ below q. run_at (layout_of m) below 0 children q))
-      (through_visit (other_visit x children b number (with_other s v)) (λ below q. run_at (layout_of n) below 0 children q)) _ _
-      (visit-related i (stacks_of s v) (visit x children a number s) (other_visit x children b number (with_other s v))
+      then_reached i i (stacks_of s v) (behind x children a number s) (other_behind x children b number (with_other s v)) _ _
+      (visit-related i (stacks_of s v) _ _ _ _ (node-related x children a b same number i s v k) (λ c d both j q u z.
+      run_at-related children c d both 0 j q u z)) (λ r u l z. run_at-related beside a b same (number + 1) i r u z)
+
+  behind-related : (x : RenderNode) (children : Forest RenderNode) (a : Places State) (b : Places OtherState) → PlacesRelated a b →
+      (number : ℕ) (i : I) (s : State) (v : Different) → Holds i s v →
+      Both N M (Reached i (stacks_of s v)) (behind x children a number s) (other_behind x children b number (with_other s v))
+  behind-related x children a b same number i s v k =
+      visit-related i (stacks_of s v) (visit x children a number s) (other_visit x children b number (with_other s v))
       (λ below q. run_at (layout_of m) below 0 children q) (λ below q. run_at (layout_of n) below 0 children q)
-      (node-related x children a b same number i s v k) (λ c d both j q u z. run_at-related children c d both 0 j q u z))
-      (λ r u l z. run_at-related beside a b same (number + 1) i r u z)
+      (node-related x children a b same number i s v k) (λ c d both j q u z. run_at-related children c d both 0 j q u z)
 
   pub run-related : (t : Forest RenderNode) (i : I) (s : State) (v : Different) → Holds i s v →
       Both N M (Reached i (stacks_of s v)) (run (layout_of m) t s) (run (layout_of n) t (with_other s v))
@@ -536,86 +525,63 @@ module _ {S A K T B L U C I : Type 0} (m : Algebra S A K T B) (pull : L → U �
   -- ---- visited nodes
 
   module _ (there : N) (never : M → ⊥) where
-    -- functions that are equal on related values are equal on related partial values
-    made-related : {X Y Z : Type 0} (R : X → Y → Type 0) (f : X → Z) (g : Y → Z) (otherwise : Z) (a : Option X) (b : Option Y) → Both N M R a b →
-        ((x : X) (y : Y) → R x y → f x ≡ g y) → option_map_or f a otherwise ≡ option_map_or g b otherwise
-    made-related R f g otherwise None None k same = refl
-    made-related R f g otherwise None (Some y) k same = absurd (never k)
-    made-related R f g otherwise (Some x) None k same = absurd k
-    made-related R f g otherwise (Some x) (Some y) k same = same x y k
+    -- functions that are equal on related states are equal on reached states, if there are any
+    after-same : {Z : Type 0} (f : State → Z) (g : OtherState → Z) (otherwise : Z) (i : I) (w : K × L) (a : Option State) (b : Option OtherState) →
+        Both N M (Reached i w) a b → ((q : State) (u : Different) → Holds i q u → f q ≡ g (with_other q u)) →
+        option_map_or f a otherwise ≡ option_map_or g b otherwise
+    after-same f g otherwise i w None None k same = refl
+    after-same f g otherwise i w None (Some e) k same = absurd (never k)
+    after-same f g otherwise i w (Some q) None k same = absurd k
+    after-same f g otherwise i w (Some q) (Some e) k same = same q k.other k.holds ∙ ap g (sym k.is)
 
-    -- whether the places and the states inside two visits are related
-    abbrev InnerRelated : K × L → Places State × State → Places OtherState × OtherState → Type 0
-    InnerRelated w x y = PlacesRelated x.0 y.0 × Deeper w x.1 y.1
+    -- functions that are equal on related places and states are equal inside related visits, if there are children
+    inside-same : {Z : Type 0} (f : Places State × State → Z) (g : Places OtherState × OtherState → Z) (otherwise : Z) (i : I) (w : K × L)
+        (a : Visit State) (b : Visit OtherState) → Related i w a b → ((x : Places State) (y : Places OtherState) → PlacesRelated x y →
+        (j : I) (q : State) (u : Different) → Holds j q u → f (x, q) ≡ g (y, with_other q u)) →
+        option_map_or f (inside a) otherwise ≡ option_map_or g (inside b) otherwise
+    inside-same f g otherwise i w (Leaf a) (Leaf b) k same = refl
+    inside-same f g otherwise i w (Leaf a) (Inner b y o) k same = absurd (never k.1)
+    inside-same f g otherwise i w (Inner a x z) (Leaf b) k same = absurd k
+    inside-same f g otherwise i w (Inner None x z) (Inner None y o) k same = refl
+    inside-same f g otherwise i w (Inner None x z) (Inner (Some e) y o) k same = absurd (never k.0)
+    inside-same f g otherwise i w (Inner (Some q) x z) (Inner None y o) k same = absurd k.0
+    inside-same f g otherwise i w (Inner (Some q) x z) (Inner (Some e) y o) k same =
+        let t : Reached k.0.0 w q e = k.0.1.0 in same x y k.1 k.0.0 q t.other t.holds ∙ ap (λ d. g (y, d)) (sym t.is)
 
-    inside-related : (i : I) (w : K × L) (a : Visit State) (b : Visit OtherState) → Related i w a b →
-        Both N M (InnerRelated w) (inside a) (inside b)
-    inside-related i w (Leaf a) (Leaf b) k = there
-    inside-related i w (Leaf a) (Inner b y g) k = absurd (never k.1)
-    inside-related i w (Inner a x f) (Leaf b) k = absurd k
-    inside-related i w (Inner a x f) (Inner b y g) k =
-        Both-map N M (λ q e. After i w q e f g) (InnerRelated w) _ _ a b k.0 (λ q e c. (k.1, (c.0, c.1.0)))
-
-    -- functions that are equal on related states are equal on reached states
-    at-related : {X : Type 0} (f : State → X) (g : OtherState → X) (i : I) (w : K × L) (q : State) (e : OtherState) → Reached i w q e →
-        ((u : Different) → Holds i q u → f q ≡ g (with_other q u)) → f q ≡ g e
-    at-related f g i w q e z same = same z.other z.holds ∙ ap g (sym z.is)
-
-    abbrev behind_node : RenderNode → Forest RenderNode → Places State → ℕ → State → Option State
-    behind_node x children a number s = through_visit (visit x children a number s) (λ below q. run_at (layout_of m) below 0 children q)
-
-    abbrev other_behind : RenderNode → Forest RenderNode → Places OtherState → ℕ → OtherState → Option OtherState
-    other_behind x children b number e = through_visit (other_visit x children b number e) (λ below q. run_at (layout_of n) below 0 children q)
-
-    behind-related : (x : RenderNode) (children : Forest RenderNode) (a : Places State) (b : Places OtherState) → PlacesRelated a b →
-        (number : ℕ) (i : I) (s : State) (v : Different) → Holds i s v →
-        Both N M (Reached i (stacks_of s v)) (behind_node x children a number s) (other_behind x children b number (with_other s v))
-    behind-related x children a b same number i s v k =
-        visit-related i (stacks_of s v) (visit x children a number s) (other_visit x children b number (with_other s v))
-        (λ below q. run_at (layout_of m) below 0 children q) (λ below q. run_at (layout_of n) below 0 children q)
-        (node-related x children a b same number i s v k) (λ c d both j q u z. run_at-related children c d both 0 j q u z)
+    -- functions that are equal on related states are equal inside a node's visit and after it
+    node-same : {Z : Type 0} (f : Places State × State → Z) (g : Places OtherState × OtherState → Z) (next : State → Z) (other_next : OtherState → Z)
+        (otherwise : Z) (x : RenderNode) (children : Forest RenderNode) (a : Places State) (b : Places OtherState) → PlacesRelated a b →
+        (number : ℕ) (i : I) (s : State) (v : Different) → Holds i s v → ((x : Places State) (y : Places OtherState) → PlacesRelated x y →
+        (j : I) (q : State) (u : Different) → Holds j q u → f (x, q) ≡ g (y, with_other q u)) →
+        ((q : State) (u : Different) → Holds i q u → next q ≡ other_next (with_other q u)) →
+        (option_map_or f (inside (visit x children a number s)) otherwise ≡ option_map_or g (inside (other_visit x children b number (with_other s v))) otherwise)
+        × (option_map_or next (behind x children a number s) otherwise ≡ option_map_or other_next (other_behind x children b number (with_other s v)) otherwise)
+    node-same f g next other_next otherwise x children a b both number i s v k below beside = (
+      inside-same f g otherwise i (stacks_of s v) _ _ (node-related x children a b both number i s v k) below,
+      after-same next other_next otherwise i (stacks_of s v) _ _ (behind-related x children a b both number i s v k) beside,
+    )
 
     -- both sides visit the same nodes
     nodes-related : (t : Forest RenderNode) (a : Places State) (b : Places OtherState) → PlacesRelated a b → (number : ℕ) (i : I) (s : State)
         (v : Different) → Holds i s v → nodes_at true (layout_of m) a number t s ≡ nodes_at true (layout_of n) b number t (with_other s v)
     nodes-related none a b same number i s v k = refl
     nodes-related (node x children beside) a b same number i s v k =
-        let w = stacks_of s v in
-        let below : Places State × State → List RenderNode = λ y. nodes_at true (layout_of m) y.0 0 children y.1 in
-        let other_below : Places OtherState × OtherState → List RenderNode = λ y. nodes_at true (layout_of n) y.0 0 children y.1 in
-        let next : State → List RenderNode = λ q. nodes_at true (layout_of m) a (number + 1) beside q in
-        let other_next : OtherState → List RenderNode = λ q. nodes_at true (layout_of n) b (number + 1) beside q in
-        ap (λ l. x ∷ (l ++ from next (behind_node x children a number s)))
-        (made-related (InnerRelated w) below other_below [] (inside (visit x children a number s))
-        (inside (other_visit x children b number (with_other s v)))
-        (inside-related i w _ _ (node-related x children a b same number i s v k)) (λ y e z.
-        at-related (λ q. below (y.0, q)) (λ q. other_below (e.0, q)) z.1.0 w y.1 e.1 z.1.1 (λ u d. nodes-related children y.0 e.0 z.0 0 z.1.0 y.1 u d)))
-        ∙ ap (λ l. x ∷ (from other_below (inside (other_visit x children b number (with_other s v))) ++ l))
-        (made-related (Reached i w) next other_next [] (behind_node x children a number s) (other_behind x children b number (with_other s v))
-        (behind-related x children a b same number i s v k) (λ q e z.
-        at-related next other_next i w q e z (λ u d. nodes-related beside a b same (number + 1) i q u d)))
+        let e = node-same (λ y. nodes_at true (layout_of m) y.0 0 children y.1) (λ y. nodes_at true (layout_of n) y.0 0 children y.1)
+        (λ q. nodes_at true (layout_of m) a (number + 1) beside q) (λ q. nodes_at true (layout_of n) b (number + 1) beside q) []
+        x children a b same number i s v k (λ y z both j q u d. nodes-related children y z both 0 j q u d)
+        (λ q u d. nodes-related beside a b same (number + 1) i q u d) in
+        ap₂ (λ l k. x ∷ (l ++ k)) e.0 e.1
 
     -- the greatest numbers of nodes open at once are equal
     open-related : (t : Forest RenderNode) (a : Places State) (b : Places OtherState) → PlacesRelated a b → (number : ℕ) (i : I) (s : State)
         (v : Different) → Holds i s v → open_at (layout_of m) a number t s ≡ open_at (layout_of n) b number t (with_other s v)
     open-related none a b same number i s v k = refl
     open-related (node x children beside) a b same number i s v k =
-        let w = stacks_of s v in
-        let below : Places State × State → ℕ = λ y. 1 + open_at (layout_of m) y.0 0 children y.1 in
-        let other_below : Places OtherState × OtherState → ℕ = λ y. 1 + open_at (layout_of n) y.0 0 children y.1 in
-        let next : State → ℕ = λ q. open_at (layout_of m) a (number + 1) beside q in
-        let other_next : OtherState → ℕ = λ q. open_at (layout_of n) b (number + 1) beside q in
-        omega (
-          arith,
-          made-related (InnerRelated w) below other_below 0 (inside (visit x children a number s))
-              (inside (other_visit x children b number (with_other s v)))
-              (inside-related i w _ _ (node-related x children a b same number i s v k)) (λ y e z.
-              at-related (λ q. below (y.0, q)) (λ q. other_below (e.0, q)) z.1.0 w y.1 e.1 z.1.1 (λ u d.
-              ap (λ c. 1 + c) (open-related children y.0 e.0 z.0 0 z.1.0 y.1 u d))),
-          made-related (Reached i w) next other_next 0 (behind_node x children a number s) (other_behind x children b number (with_other s v))
-              (behind-related x children a b same number i s v k) (λ q e z.
-              at-related next other_next i w q e z (λ u d. open-related beside a b same (number + 1) i q u d)),
-        )
+        let e = node-same (λ y. 1 + open_at (layout_of m) y.0 0 children y.1) (λ y. 1 + open_at (layout_of n) y.0 0 children y.1)
+        (λ q. open_at (layout_of m) a (number + 1) beside q) (λ q. open_at (layout_of n) b (number + 1) beside q) 0
+        x children a b same number i s v k (λ y z both j q u d. ap (λ c. 1 + c) (open-related children y z both 0 j q u d))
+        (λ q u d. open-related beside a b same (number + 1) i q u d) in
+        ap₂ max e.0 e.1
 
     pub walked-related : (t : Forest RenderNode) (i : I) (s : State) (v : Different) → Holds i s v →
         (visited (layout_of m) t s ≡ visited (layout_of n) t (with_other s v)) × (most_open (layout_of m) t s ≡ most_open (layout_of n) t (with_other s v))
@@ -648,8 +614,6 @@ module _ {S A K T B L U C I : Type 0} (m : Algebra S A K T B) (pull : L → U �
         (run-related t i s v k) (λ r e z.
         Both-map N M (Reached i (stacks_of r z.other)) R view wanted (ended m.decoration end footnotes cut s.text.tag r)
         (ended m.decoration other_end footnotes cut v.tag e)
-        (subst (λ x. Both N M (Reached i (stacks_of r z.other)) (ended m.decoration end footnotes cut s.text.tag r)
-        (ended m.decoration other_end footnotes cut v.tag x)) (sym z.is)
-        (ended-related footnotes cut s.text.tag v.tag i r z.other c
+        (rw z.is (ended-related footnotes cut s.text.tag v.tag i r z.other c
         (tags_later (stacks_of s v) (stacks_of r z.other) s.text.tag v.tag k.0 z.later) z.holds)) (λ q x y.
-        subst (λ e. R (view q) (wanted e)) (sym y.is) (related q y.other y.holds)))
+        rw y.is (related q y.other y.holds)))
