@@ -1,7 +1,7 @@
 -- A BLOCK BESIDE ANOTHER that was fed the same with overflow on: both have the same lines. With overflow on no operation
 -- refuses. With overflow off no line passes the width, if closing lines are cut.
-use Rattle.std.proofs.Common.{◌≡◌, ℕ, ◌-◌, ◌≤◌, ◌+◌, sum, Bool, true, false, cond, leb, ◌||◌, List, [], ◌∷◌, ◌++◌, length, Option, Some, None}
-use Rattle.std.proofs.Common.{refl, sym, ap, ◌∙◌, subst, arith, IfSome, All, min, option_map}
+use Rattle.std.proofs.Common.{◌≡◌, ℕ, ◌-◌, ◌≤◌, ◌+◌, sum, Bool, true, false, cond, leb, ◌||◌, List, [], ◌∷◌, length, Option, Some, None}
+use Rattle.std.proofs.Common.{refl, sym, ap, subst, arith, IfSome, All, min, option_map}
 use Rattle.std.specs.List.{list_all}
 use Rattle.std.specs.Option.{unwrap_or}
 use Rattle.std.proofs.lemmas.Bool.{leb-true, and_parts}
@@ -10,25 +10,23 @@ use Rattle.std.proofs.lemmas.List.Sums.{sum_by-cons}
 use Rattle.html_render_layout_lines.specs.declared.character.Item.{Item}
 use Rattle.html_render_layout_lines.specs.Line.{Line, columns, AllWithinWidth}
 use Rattle.html_render_layout_paragraphs.specs.CutText.{text_lines}
-use Rattle.html_render_layout_paragraphs.specs.Paragraph.{LineBuffer, Setting, without_overflow, with_overflow, paragraph, all_lines}
-use Rattle.html_render_layout_paragraphs.specs.Stream.{styled}
+use Rattle.html_render_layout_paragraphs.specs.Paragraph.{without_overflow, with_overflow, paragraph, all_lines}
 use Rattle.html_render_layout_paragraphs.specs.laws.Answers.{Both, Both-weaken}
 use Rattle.html_render_layout_paragraphs.specs.laws.Beside.{paragraph-beside, cut-beside}
 use Rattle.html_render_layout_paragraphs.specs.laws.Overflow.{answers, refines}
 use Rattle.html_render_layout_paragraphs.specs.laws.Within.{IsWithin, all_lines_within, within}
 use Rattle.html_render_parts_widths.specs.laws.Needs.{across_within}
-use Rattle.html_render_layout_buffer.specs.Marked.{marked_before, marked_behind}
 use Rattle.html_render_layout_buffer.specs.Padding.{filled, repeated}
-use Rattle.html_render_layout_pictures.specs.Picture.{KeptCell, picture}
+use Rattle.html_render_layout_pictures.specs.Picture.{KeptCell}
 use Rattle.html_render_layout_pictures.specs.Widths.{KeepsToWidth, RowWithin}
 use Rattle.html_render_layout_pictures.specs.laws.Padding.{filled-within, repeated-columns}
 use Rattle.html_render_layout_pictures.specs.laws.Widths.{marked_before-within, marked_behind-within, picture_within}
 use Rattle.html_render_layout_blocks.specs.declared.block.BlockSetting.{BlockSetting}
-use Rattle.html_render_layout_blocks.specs.Block.{paragraph_setting, mark_items, empty_block}
+use Rattle.html_render_layout_blocks.specs.Block.{empty_block}
 use Rattle.html_render_layout_blocks.specs.Definition.{Fed, definition, DefinedBlock, operations, ending}
-use Rattle.html_render_layout_blocks.specs.OpenRows.{OpenRow, past_cell, whole_row}
-use Rattle.html_render_layout_blocks.specs.Tables.{Rows, frame_of}
-use Rattle.html_render_layout_blocks.specs.laws.Related.{line_setting, OptionTags, Relates, RelatesEnds, RelatesParts, Related, operations-related, ends-related}
+use Rattle.html_render_layout_blocks.specs.OpenRows.{OpenRow, whole_row}
+use Rattle.html_render_layout_blocks.specs.Tables.{Rows}
+use Rattle.html_render_layout_blocks.specs.laws.Related.{OptionTags, Relates, RelatesEnds, RelatesParts, Related, operations-related, ends-related}
 use Rattle.html_render_layout_blocks.specs.laws.Related.{empty-related}
 use Rattle.html_render_layout_blocks.specs.laws.TableWithin.{OpenWithin, columns_room, place_room, open-within, cell-within, whole-within}
 use Rattle.html_render_layout_blocks.specs.laws.TableWithin.{frame_width_within, columns_room-within}

@@ -1,23 +1,21 @@
 -- A sub-block of white space alone has no line, so appending it flushes the outer block and does no more.
-use Rattle.std.proofs.Common.{◌≡◌, ℕ, Bool, true, false, ◌&&◌, ◌||◌, cond, List, [], ◌∷◌, ◌++◌, Option, Some, None, is_some, length, ◌==◌, option_map, option_and_then, refl, sym, ap, ◌∙◌, append-nil}
+use Rattle.std.proofs.Common.{◌≡◌, ℕ, Bool, true, false, cond, List, [], ◌∷◌, Option, Some, None, is_some, length, ◌==◌, option_map, option_and_then, refl, ap, ◌∙◌}
 use Rattle.std.specs.List.{list_all}
 use Rattle.std.specs.Option.{option_or}
 use Rattle.std.proofs.lemmas.Bool.{and_parts}
 use Rattle.html_render_dom_values.specs.declared.white_space.WhiteSpace.TheVariants.{Normal}
 use Rattle.html_render_layout_lines.specs.declared.character.Character.{Character}
 use Rattle.html_render_layout_lines.specs.declared.character.Item.TheVariants as item
-use Rattle.html_render_layout_lines.specs.declared.character.Kind.{Kind}
 use Rattle.html_render_layout_lines.specs.declared.character.Kind.TheVariants.{Space, Divider, Dropped, Letter}
 use Rattle.html_render_layout_lines.specs.declared.character.TextStyle.{TextStyle}
 use Rattle.html_render_layout_lines.specs.Character.{kind, is_collapsible, has_no_width, character_of}
 use Rattle.html_render_layout_lines.specs.Line.{Line}
 use Rattle.html_render_layout_lines.specs.TaggedText.{under}
-use Rattle.html_render_layout_paragraphs.specs.Paragraph.{LineBuffer, all_lines, empty_buffer}
-use Rattle.html_render_layout_paragraphs.specs.Stream.{State, start, step, after, styled, finished, character_step, with_pending, placed_word}
+use Rattle.html_render_layout_paragraphs.specs.Stream.{State, start, step, after, styled, character_step, with_pending, placed_word}
 use Rattle.html_render_layout_buffer.specs.Padding.{filled}
 use Rattle.html_render_layout_buffer.specs.Prefixed.{prefixed}
 use Rattle.html_render_layout_blocks.specs.Joined.{fitting}
-use Rattle.html_render_layout_blocks.specs.Block.{Block, flush, feed, put_lines, append, inner_block, inner_width, paragraph_setting}
+use Rattle.html_render_layout_blocks.specs.Block.{flush, feed, put_lines, append, inner_block, inner_width, paragraph_setting}
 use Rattle.html_render_layout_blocks.specs.Machine as machine
 use Rattle.html_render_layout_blocks.specs.Machine.{machine, MachineBlock, operations}
 

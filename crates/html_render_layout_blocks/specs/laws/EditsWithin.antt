@@ -1,5 +1,5 @@
 -- With overflow off no line passes the width of its block, after any sequence of operations.
-use Rattle.std.proofs.Common.{◌≡◌, ℕ, Bool, true, false, Option, Some, None, refl, IfSome}
+use Rattle.std.proofs.Common.{◌≡◌, ℕ, true, false, Option, Some, None, refl, IfSome}
 use Rattle.std.specs.Option.{option_map_or}
 use Rattle.html_render_dom_values.specs.Outcome.{◌>>=◌}
 use Rattle.html_render_layout_lines.specs.Line.{AllWithinWidth}

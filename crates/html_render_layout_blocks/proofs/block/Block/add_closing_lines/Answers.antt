@@ -2,7 +2,7 @@ use Rattle.std.proofs.Common.{map, ap, ◌∙◌, sym, Some}
 use Rattle.std.specs.Str.{chars}
 use Rattle.std.specs.String.{string_bytes}
 use Rattle.html_render_layout_blocks.specs.Closing.{closing_lines}
-use Rattle.html_render_layout_blocks.specs.Machine.{machine, MachineBlock, operations, ending}
+use Rattle.html_render_layout_blocks.specs.Machine.{MachineBlock, operations, ending}
 use Rattle.html_render_layout_blocks.proofs.Closing.{closing_added}
 use Rattle.html_render_layout_blocks.proofs.block.Block.add_closing_lines.Goals as goal
 
