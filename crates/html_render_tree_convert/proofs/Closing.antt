@@ -11,7 +11,7 @@ use Rattle.html_render_layout_nodes.specs.laws.Preorder.{flatten-followed_by}
 use Rattle.html_render_layout_nodes.specs.RenderNodes.{no_style, without_style}
 use Rattle.html_render_layout_nodes.specs.Tables.{TableParts, unmeasured_table}
 use Rattle.html_render_layout_nodes.specs.declared.tree.NodeKind.{NodeKind}
-use Rattle.html_render_layout_nodes.specs.declared.tree.NodeKind.TheVariants.{Container, FragmentStart, Table, TableRow}
+use Rattle.html_render_layout_nodes.specs.declared.tree.NodeKind.TheVariants.{Container, Dl, FragmentStart, Link, Ol, Table, TableRow}
 use Rattle.html_render_layout_nodes.specs.declared.tree.RenderNode.{RenderNode}
 use Rattle.html_render_parts.specs.TableCells.{cell_grid_of}
 use Rattle.html_render_tree_mapping.specs.Conversion.{vanishes}
@@ -24,11 +24,14 @@ use Rattle.html_render_tree_mapping.specs.declared.mapping.IfEmpty.TheVariants.{
 use Rattle.html_render_tree_mapping.specs.declared.plans.Element.{Element}
 use Rattle.html_render_tree_mapping.specs.declared.tables.CellSpan.{CellSpan}
 use Rattle.html_render_tree_mapping.specs.declared.tables.Part.TheVariants as part
-use Rattle.html_render_tree_convert.specs.OpenElements.{OpenKind, OpenElement, Insertion, nothing, within, inserts, insertion_of, leaves, over_entries, node_in, holder, carrier}
-use Rattle.html_render_tree_convert.specs.OpenElements as open_kind
-use Rattle.html_render_tree_convert.specs.Steps.{Closed, with_given, all_parted, appended, begun, begun_cell, begun_node, begun_row, begun_rows, caption_kind, closed, closed_node, closed_once, is_row, is_rows, is_table, mark_left, received, received_any, row_carrier, table_in_container}
+use Rattle.html_render_tree_convert.specs.OpenElements.{OpenElement, Insertion, nothing, within, inserts, insertion_of, leaves, over_entries, node_in, holder, carrier}
+use Rattle.html_render_tree_convert.specs.Keeping.{keeping_of}
+use Rattle.html_render_tree_convert.specs.declared.elements.OpenKind.{OpenKind}
+use Rattle.html_render_tree_convert.specs.declared.elements.OpenKind.TheVariants as open_kind
+use Rattle.html_render_tree_convert.specs.declared.kinds.Keeping.TheVariants.{Any}
+use Rattle.html_render_tree_convert.specs.Steps.{Closed, with_given, all_parted, appended, begun, begun_cell, begun_node, begun_row, begun_rows, caption_kind, closed, closed_node, closed_once, is_captions, is_row, is_rows, is_table, mark_left, once, received, received_any, table_in_container}
 use Rattle.html_render_tree_convert.proofs.Entries.{Entries, or-true, appended-nil, appended_assoc, entries-over, entries-within, filled, filled-nothing, filled-twice, flatten-trees, nil-appended, nodes-leaves}
-use Rattle.html_render_tree_convert.proofs.Coming.{all_come, as_block, as_caption, closed_result, comes, comes_any, counted, if-same, is_plain, kept, map-map, members, members-come, node-entries, one_more, part_trees, parts, parts-come, plain-come, row-one, rows-one, take_due, without_due}
+use Rattle.html_render_tree_convert.proofs.Coming.{all_come, as_block, as_caption, closed_result, comes, comes_any, counted, if-same, is_plain, kept, map-map, members, members-come, node-entries, one_more, part_trees, parts, parts-come, plain-come, row-one, rows-one, take_due}
 
 -- the results of its children come into the first of these open elements, and that closes
 abbrev pub closed_over : List Result → List OpenElement → Option (List OpenElement)
@@ -94,14 +97,27 @@ holder-left (open_kind.Cell span) h rs n f m i c q ps =
 holder-left open_kind.Caption h rs n f m i c q ps =
     ap (λ x. closed (x ∷ (q ∷ ps))) (plain-come open_kind.Caption h rs (holder open_kind.Caption n f m i c))
     ∙ simp (entries-within n i (trees_of (kept open_kind.Caption rs)))
+holder-left open_kind.Root h rs n f m i c q ps =
+    ap (λ x. closed (x ∷ (q ∷ ps))) (plain-come open_kind.Root h rs (holder open_kind.Root n f m i c))
+    ∙ simp (entries-within n i (trees_of (kept open_kind.Root rs)))
 holder-left k h rs n f m i c q ps = cc
+
+-- what an element becomes whose node keeps and counts results by its kind
+made-node : (e : Element) (kind : NodeKind) (rs : List Result) → (let k = open_kind.Node (keeping_of kind) in
+    Some (left_of (of_kind e (element.Node kind)) (vanishes e.if_empty (list_any (counted k) rs)) false (over e.style kind (kept k rs)))
+    ≡ made (of_kind e (element.Node kind)) [] rs)
+made-node e (Ol start) rs = refl
+made-node e Dl rs = refl
+made-node e (Link target) rs = refl
+made-node e kind rs = refl
 
 module _ (e : Element) (p : OpenElement) (ps : List OpenElement) (rs : List Result) where
   node-inside : (kind : NodeKind) → (not (inserts e) || holds_insertions kind) ≡ true →
-      closed_over rs ((begun_node true kind (of_kind e (element.Node kind)) ++ p ∷ []) ++ ps) ≡ after_result p ps (made (of_kind e (element.Node kind)) [] rs)
-  node-inside kind h =
-      holder-left (open_kind.Node kind) refl rs (node_in e.style kind) e.if_empty e.texts.mark (insertion_of e) (inserts e) p ps
-      ∙ ap (λ x. Some (x ∷ ps)) (left-comes (of_kind e (element.Node kind)) _ false _ (over e.style kind (kept (open_kind.Node kind) rs)) p p (λ v. refl) (rw h))
+      closed_over rs (begun_node true kind (of_kind e (element.Node kind)) ++ p ∷ ps) ≡ after_result p ps (made (of_kind e (element.Node kind)) [] rs)
+  node-inside kind h = let k = open_kind.Node (keeping_of kind) in
+      holder-left k refl rs (node_in e.style kind) e.if_empty e.texts.mark (insertion_of e) (inserts e) p ps
+      ∙ ap (λ x. Some (x ∷ ps)) (left-comes (of_kind e (element.Node kind)) _ false _ (over e.style kind (kept k rs)) p p (λ v. refl) (rw h))
+      ∙ ap (after_result p ps) (made-node e kind rs)
 
   -- a node in a container
   wrapped-entries : (n : RenderNode) (i : Insertion) (o : Option Nodes) →
@@ -114,13 +130,13 @@ module _ (e : Element) (p : OpenElement) (ps : List OpenElement) (rs : List Resu
 
   module _ (kind : NodeKind) where
     abbrev wrapped : IfEmpty → OpenElement
-    wrapped f = record (holder (open_kind.Node kind) (node_in e.style kind) f None nothing false) { is_wrapped = true }
+    wrapped f = record (holder (open_kind.Node (keeping_of kind)) (node_in e.style kind) f None nothing false) { is_wrapped = true }
 
     abbrev wrapper : IfEmpty → OpenElement
-    wrapper f = holder (open_kind.Node Container) (without_style Container) f e.texts.mark (insertion_of e) true
+    wrapper f = holder (open_kind.Node Any) (without_style Container) f e.texts.mark (insertion_of e) true
 
     abbrev trees_in : Option Nodes
-    trees_in = trees_of (kept (open_kind.Node kind) rs)
+    trees_in = trees_of (kept (open_kind.Node (keeping_of kind)) rs)
 
     wrapped-left : (f : IfEmpty) (has_results has_children : Bool) →
         closed (record (wrapped f) { has_results = has_results; has_children = has_children; written = appended (Some []) (option_map flatten trees_in) }
@@ -133,48 +149,52 @@ module _ (e : Element) (p : OpenElement) (ps : List OpenElement) (rs : List Resu
     wrapped-left Vanishes false c = refl
 
     node-beside : (not (inserts e) || holds_insertions kind) ≡ false →
-        closed_over rs ((begun_node false kind (of_kind e (element.Node kind)) ++ p ∷ []) ++ ps) ≡ after_result p ps (made (of_kind e (element.Node kind)) [] rs)
-    node-beside h =
-        ap (λ x. closed (x ∷ (wrapper e.if_empty ∷ (p ∷ ps)))) (plain-come (open_kind.Node kind) refl rs (wrapped e.if_empty))
-        ∙ wrapped-left e.if_empty (list_any (counted (open_kind.Node kind)) rs) (is_filled (kept (open_kind.Node kind) rs))
-        ∙ ap (λ x. Some (x ∷ ps)) (left-comes (of_kind e (element.Node kind)) _ false _ (over e.style kind (kept (open_kind.Node kind) rs)) p p (λ v. refl)
+        closed_over rs (begun_node false kind (of_kind e (element.Node kind)) ++ p ∷ ps) ≡ after_result p ps (made (of_kind e (element.Node kind)) [] rs)
+    node-beside h = let k = open_kind.Node (keeping_of kind) in
+        ap (λ x. closed (x ∷ (wrapper e.if_empty ∷ (p ∷ ps)))) (plain-come k refl rs (wrapped e.if_empty))
+        ∙ wrapped-left e.if_empty (list_any (counted k) rs) (is_filled (kept k rs))
+        ∙ ap (λ x. Some (x ∷ ps)) (left-comes (of_kind e (element.Node kind)) _ false _ (over e.style kind (kept k rs)) p p (λ v. refl)
         (rw h (simp (wrapped-entries (node_in e.style kind) (insertion_of e) trees_in))))
+        ∙ ap (after_result p ps) (made-node e kind rs)
 
-  caption-closes : closed_over rs (begun (element.Part part.Caption) (of_kind e (element.Part part.Caption)) p ++ ps)
+  caption-closes : closed_over rs (begun (element.Part part.Caption) (of_kind e (element.Part part.Caption)) (p ∷ ps))
       ≡ after_result p ps (made (of_kind e (element.Part part.Caption)) [] rs)
   caption-closes =
-      holder-left open_kind.Caption refl rs (node_in e.style (caption_kind p.kind)) e.if_empty e.texts.mark (insertion_of e) (inserts e) p ps
+      holder-left open_kind.Caption refl rs (node_in e.style (caption_kind (is_captions p.kind))) e.if_empty e.texts.mark (insertion_of e) (inserts e) p ps
       ∙ simp (filter-all, any-all)
       (ap (λ x. Some (x ∷ ps)) (left-comes (of_kind e (element.Part part.Caption)) _ false _ (record (over e.style Container rs) { role = role.Caption }) p p (λ v. refl)
       (by p.kind (inserts e || is_filled rs) (option_map (filled 0 (insertion_of e)) (trees_of rs)))))
     where
       by : (k : OpenKind) (h : Bool) (o : Option Nodes) →
-          received (closed_result (record { role = role.Caption; node = node_in e.style (caption_kind k); has_children = h; below = o })) p
+          received (closed_result (record { role = role.Caption; node = node_in e.style (caption_kind (is_captions k)); has_children = h; below = o })) p
           ≡ received (closed_result (as_caption k (record { role = role.Caption; node = node_in e.style Container; has_children = h; below = o }))) p
       by open_kind.Captions h o = refl
       by k h o = refl
 
   cell-closes : (span : CellSpan) (b : Bool) → is_row p.kind ≡ b →
-      closed_over rs (begun_cell span b (of_kind e (element.Part (part.Cell span))) p ++ ps)
+      closed_over rs (begun_cell span b (of_kind e (element.Part (part.Cell span))) (p ∷ ps))
       ≡ after_result p ps (made (of_kind e (element.Part (part.Cell span))) [] rs)
   cell-closes span true k =
-      holder-left (open_kind.Cell span) refl rs _ Stands e.texts.mark (within p.due (insertion_of e)) (inserts e) (without_due p) ps
+      holder-left (open_kind.Cell span) refl rs _ Stands e.texts.mark (within p.due (insertion_of e)) (inserts e) (once p) ps
       ∙ rw k (simp (filter-all, filled-twice))
   cell-closes span false k =
-      holder-left (open_kind.Cell span) refl rs _ Stands e.texts.mark (insertion_of e) (inserts e) p ps ∙ rw k (simp filter-all)
+      holder-left (open_kind.Cell span) refl rs _ Stands e.texts.mark (within nothing (insertion_of e)) (inserts e) p ps ∙ rw k (simp (filter-all, append-nil))
 
   -- ---- rows
 
-  row-left : (i : Insertion) (q : OpenElement) → closed (all_come rs (row_carrier e i) ∷ (q ∷ ps))
+  abbrev row : Insertion → OpenElement
+  row i = record (carrier (open_kind.Row []) (node_in e.style TableRow) e i None) { if_empty = Stands }
+
+  row-left : (i : Insertion) (q : OpenElement) → closed (all_come rs (row i) ∷ (q ∷ ps))
       ≡ Some (received (closed_result (record (row_over e.style (members cell_of rs)) { below = option_map (filled 1 i) (beside (members cell_of rs)) })) q ∷ ps)
   row-left i q =
-      ap (λ x. closed (x ∷ (q ∷ ps))) (members-come open_kind.Row cell_of 0 (λ g. g) (λ s x r. row-one s x.role x r) (λ g. refl) rs [] (row_carrier e i))
+      ap (λ x. closed (x ∷ (q ∷ ps))) (members-come open_kind.Row cell_of 0 (λ g. g) (λ s x r. row-one s x.role x r) (λ g. refl) rs [] (row i))
       ∙ simp (if-same, entries-over (node_in e.style TableRow) (filled 1 i) (beside (members cell_of rs)))
 
   row-closes : (b : Bool) → is_rows p.kind ≡ b →
-      closed_over rs (begun_row b (of_kind e (element.Part part.Row)) p ++ ps) ≡ after_result p ps (made (of_kind e (element.Part part.Row)) [] rs)
-  row-closes true k = row-left (within p.due (insertion_of e)) (record p { due = nothing; given = None }) ∙ rw k (simp filled-twice)
-  row-closes false k = row-left (insertion_of e) p ∙ rw k
+      closed_over rs (begun_row b (of_kind e (element.Part part.Row)) (p ∷ ps)) ≡ after_result p ps (made (of_kind e (element.Part part.Row)) [] rs)
+  row-closes true k = row-left (within p.due (insertion_of e)) (once p) ∙ rw k (simp filled-twice)
+  row-closes false k = row-left (within nothing (insertion_of e)) p ∙ rw k (simp append-nil)
 
   -- ---- parts of a table
 
@@ -205,30 +225,35 @@ module _ (e : Element) (p : OpenElement) (ps : List OpenElement) (rs : List Resu
       (carrier (open_kind.Rows []) (without_style Container) e i g))
       ∙ simp (nil-appended, map-map)
 
-  given-back : is_table p.kind ≡ true → (b : Bool) → with_given (if b then None else Some p.due) (without_due p) ≡ record p { due = if b then nothing else p.due }
+  given-back : is_table p.kind ≡ true → (b : Bool) → with_given (if b then None else Some p.due) (once p) ≡ record (once p) { due = if b then nothing else p.due }
   given-back h true = refl
   given-back h false = rw h
 
+  -- a table gives nothing back
+  table-once : (k : OpenKind) → is_table k ≡ true → record (once (record p { kind = k })) { due = p.due } ≡ record p { kind = k }
+  table-once (open_kind.Parts spans) h = refl
+  table-once k h = cc
+
   rows-close : (b : Bool) → is_table p.kind ≡ b → (k : ElementKind) → level_in k (inserts e) false ≡ Some 2 →
-      closed_over rs (begun_rows b (of_kind e k) p ++ ps)
+      closed_over rs (begun_rows b (of_kind e k) (p ∷ ps))
       ≡ Some (comes_any (left_of (of_kind e k) (vanishes e.if_empty (is_filled rs)) false (rows_over (members row_of rs))) p ∷ ps)
   rows-close true h k two =
-      rows-left (within p.due (insertion_of e)) (Some p.due) (without_due p)
+      rows-left (within p.due (insertion_of e)) (Some p.due) (once p)
       ∙ ap (λ x. Some (x ∷ ps)) (left-comes (of_kind e k) _ false _ (rows_over (members row_of rs)) p
-      (with_given (if is_filled (members row_of rs) then None else Some p.due) (without_due p)) (λ v. rw (vanish-empty e.if_empty rs v, h)) (rw (two, h) (simp (filled-twice, take-filled (insertion_of e) (members row_of rs), given-back h))))
+      (with_given (if is_filled (members row_of rs) then None else Some p.due) (once p)) (λ v. rw (vanish-empty e.if_empty rs v, h) (table-once p.kind h)) (rw (two, h) (simp (filled-twice, take-filled (insertion_of e) (members row_of rs), given-back h))))
   rows-close false h k two =
-      rows-left (insertion_of e) None p
+      rows-left (within nothing (insertion_of e)) None p
       ∙ ap (λ x. Some (x ∷ ps)) (left-comes (of_kind e k) _ false _ (rows_over (members row_of rs)) p
-      (with_given (if is_filled (members row_of rs) then None else None) p) (λ v. simp if-same) (rw (two, h) (simp if-same)))
+      (with_given (if is_filled (members row_of rs) then None else None) p) (λ v. simp if-same) (rw (two, h) (simp (if-same, append-nil))))
 
   -- ---- an element of any kind but a table
 
   node-closes : (kind : NodeKind) (b : Bool) → (not (inserts e) || holds_insertions kind) ≡ b →
-      closed_over rs ((begun_node b kind (of_kind e (element.Node kind)) ++ p ∷ []) ++ ps) ≡ after_result p ps (made (of_kind e (element.Node kind)) [] rs)
+      closed_over rs (begun_node b kind (of_kind e (element.Node kind)) ++ p ∷ ps) ≡ after_result p ps (made (of_kind e (element.Node kind)) [] rs)
   node-closes kind true h = node-inside kind h
   node-closes kind false h = node-beside kind h
 
-  pub closes : (k : ElementKind) → is_table_kind k ≡ false → closed_over rs (begun k (of_kind e k) p ++ ps) ≡ after_result p ps (made (of_kind e k) [] rs)
+  pub closes : (k : ElementKind) → is_table_kind k ≡ false → closed_over rs (begun k (of_kind e k) (p ∷ ps)) ≡ after_result p ps (made (of_kind e k) [] rs)
   closes (element.Node kind) h = node-closes kind (not (inserts e) || holds_insertions kind) refl
   closes (element.Part part.Table) h = cc
   closes (element.Part part.Body) h = rows-close (is_table p.kind) refl (element.Part part.Body) refl
@@ -271,7 +296,7 @@ module _ (e : Element) (p : OpenElement) (ps : List OpenElement) where
   table_open = record (holder (open_kind.Parts []) (node_in e.style Container) e.if_empty e.texts.mark nothing true) { due = insertion_of e }
 
   abbrev container_open : List Result → OpenElement
-  container_open c = record (captions_open c) { kind = open_kind.Node Container }
+  container_open c = record (captions_open c) { kind = open_kind.Node Any }
 
   alone-closes : (l : List Result) (grid : Option TableParts) →
       option_map (λ left. received_any left p ∷ ps) (option_map (λ g. if vanishes e.if_empty (list_any (λ r. r.has_children) (parts l)) then mark_left e.texts.mark

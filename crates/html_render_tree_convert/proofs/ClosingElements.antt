@@ -1,6 +1,5 @@
 -- What elements leave in their parents, as code closes them; and the innermost open element closes in that outside it.
 use Rattle.std.proofs.Common.{◌≡◌, ℕ, Bool, true, false, ◌||◌, if◌then◌else◌, Option, Some, None, option_map, List, [], ◌∷◌, ◌++◌, refl, ap, subst, ◌∙◌, append_assoc, ◌+◌, ◌<◌, ◌≤◌, length, take, drop, get_or, set, reverse, sym, arith, take_at, drop_at}
-use Rattle.std.proofs.Math.Bool.{or-false, or-true}
 use Rattle.std.specs.Prelude.{Result, OnOk, IfErr}
 use Rattle.std.proofs.lemmas.Result.{IfOk-weaker, IfErr-weaker}
 use Rattle.html_render_dom_values.specs.declared.errors.Error.{Error}
@@ -10,13 +9,12 @@ use Rattle.html_render_layout_nodes.specs.declared.tree.RenderNode.{RenderNode}
 use Rattle.html_render_layout_nodes.specs.Tables.{TableParts}
 use Rattle.html_render_tree_mapping.specs.Conversion.{vanishes}
 use Rattle.html_render_tree_mapping.specs.Results.{Role}
-use Rattle.html_render_tree_mapping.specs.Results as results
-use Rattle.html_render_tree_convert.specs.Closing.{ClosedIn, ClosesInto, ClosesLast, ClosesNode, ClosesStanding, FailsToClose, Gridded, are_rows, closed_entries, closed_with, gives_to, is_completed, is_parts, role_left, with_given_of, without_given}
+use Rattle.html_render_tree_convert.specs.Closing.{ClosedIn, ClosesInto, ClosesLast, ClosesNode, ClosesStanding, FailsToClose, Gridded, closed_entries, gives_to, with_given_of, without_given}
 use Rattle.html_render_tree_convert.specs.Held.{Held, due_of}
 use Rattle.html_render_tree_convert.specs.OpenElements.{OpenElement, leaves, nothing, sized}
 use Rattle.html_render_tree_convert.specs.Opening.{Becomes}
 use Rattle.html_render_tree_convert.specs.Seen.{Holds, IsSound, Level, element_seen, given_in, is_none, is_root, seen}
-use Rattle.html_render_tree_convert.specs.Steps.{Closed, closed_node, closed_once, left_by, mark_left, received, received_any, unless_vanished, with_given}
+use Rattle.html_render_tree_convert.specs.Steps.{Closed, closed_as, closed_node, closed_once, is_completed, is_rows, is_table, left_by, mark_left, on_grid, received, received_any, role_left, unless_vanished, with_given}
 use Rattle.html_render_tree_convert.specs.declared.elements.Open.{Open}
 use Rattle.html_render_tree_convert.specs.declared.elements.OpenKind.{OpenKind}
 use Rattle.html_render_tree_convert.specs.declared.elements.OpenKind.TheVariants.{Root, Parts, Rows, Row}
@@ -32,10 +30,10 @@ use Rattle.html_render_tree_convert.proofs.Stacks.{last-set, last-split}
 -- ---- an element with a node of its own that doesn't vanish
 
 completed-same : (r : Role) (e : Entry RenderNode) (es back : Entries) (has_children is_stray : Bool) →
-    closed_entries r (has_children || false) is_stray e (es ++ back)
+    closed_entries r has_children is_stray e (es ++ back)
     ≡ closed_node r e.node has_children (option_map (λ l. l ++ back) (if is_stray then None else Some es))
-completed-same r e es back has_children true = simp or-false
-completed-same r e es back has_children false = simp or-false
+completed-same r e es back has_children true = refl
+completed-same r e es back has_children false = refl
 
 node-same : (r : Role) (e : Entry RenderNode) (es : Entries) (has_children is_stray : Bool) →
     closed_entries r has_children is_stray e es ≡ closed_node r e.node has_children (if is_stray then None else Some es)
@@ -59,17 +57,17 @@ record AsClosed (k : OpenKind) (o : Open) (own : Entries) : Type 0 where
   first : Entry RenderNode
   others : Entries
   entries_are : completed k o own ≡ first ∷ others
-  closed_is : closed_entries (role_left k) (o.has_children || is_parts k) o.is_stray first others
-      ≡ closed_with (element_seen (record o { kind = k }) own).kind (element_seen (record o { kind = k }) own)
+  closed_is : closed_entries (role_left k) (is_table k || o.has_children) o.is_stray first others
+      ≡ closed_as (element_seen (record o { kind = k }) own).kind (element_seen (record o { kind = k }) own)
 
-as-closed : (k : OpenKind) (o : Open) (own : Entries) → is_root k ≡ false → are_rows k ≡ false → Holds k own → AsClosed k o own
+as-closed : (k : OpenKind) (o : Open) (own : Entries) → is_root k ≡ false → is_rows k ≡ false → Holds k own → AsClosed k o own
 as-closed Root o own root rows h = cc
 as-closed (Rows l) o own root rows h = cc
 as-closed k o [] root rows h = absurd h
 as-closed (Parts spans) o (x ∷ xs) root rows h =
-    record { first = x; others = xs; entries_are = refl; closed_is = simp or-true (node-same results.Contents x xs true o.is_stray) }
+    record { first = x; others = xs; entries_are = refl; closed_is = node-same (role_left (Parts spans)) x xs true o.is_stray }
 as-closed (Row cells) o (x ∷ xs) root rows h =
-    record { first = x; others = xs; entries_are = refl; closed_is = simp or-false (node-same (results.Row cells) x xs o.has_children o.is_stray) }
+    record { first = x; others = xs; entries_are = refl; closed_is = node-same (role_left (Row cells)) x xs o.has_children o.is_stray }
 as-closed k o (x ∷ xs) root rows h = record {
   first = x;
   others = xs ++ leaves (due_of o.due).back;
@@ -78,16 +76,16 @@ as-closed k o (x ∷ xs) root rows h = record {
 }
 
 pub node-standing : (o parent new : Open) (old written after : Entries) (r : Role) (has_children : Bool) (result : Result (Unit {0}) Error) →
-    are_rows o.kind ≡ false → written ≡ completed o.kind o old → r ≡ role_left o.kind → has_children ≡ (o.has_children || is_parts o.kind) →
+    is_rows o.kind ≡ false → written ≡ completed o.kind o old → r ≡ role_left o.kind → has_children ≡ (is_table o.kind || o.has_children) →
     OnOk result (ClosesNode r has_children o.is_stray o.start parent written new after) → OnOk result (ClosesStanding o parent old new after)
 node-standing o parent new old written after r has_children result rows done is_role is_filled =
     IfOk-weaker result (λ _. ClosesNode r has_children o.is_stray o.start parent written new after) (λ _. ClosesStanding o parent old new after)
     (λ _ closes is_outermost before below p q l m.
     let a = as-closed o.kind o l.own l.root rows l.holds in
-    let c : closed_entries r has_children o.is_stray a.first a.others ≡ closed_with p.kind p =
+    let c : closed_entries r has_children o.is_stray a.first a.others ≡ closed_as p.kind p =
     ap (λ b. closed_entries r b o.is_stray a.first a.others) is_filled
-    ∙ ap (λ x. closed_entries x (o.has_children || is_parts o.kind) o.is_stray a.first a.others) is_role
-    ∙ a.closed_is ∙ ap (λ (x : OpenElement). closed_with x.kind x) l.is_seen in
+    ∙ ap (λ x. closed_entries x (is_table o.kind || o.has_children) o.is_stray a.first a.others) is_role
+    ∙ a.closed_is ∙ ap (λ (x : OpenElement). closed_as x.kind x) l.is_seen in
     let entries : written ≡ before ++ a.first ∷ a.others =
     done ∙ ap (completed o.kind o) l.entries_are ∙ completed-after o.kind o before l.own ∙ ap (λ x. before ++ x) a.entries_are in
     subst (λ x. Level new is_outermost below after (received x q)) c (closes is_outermost before below a.first a.others q entries l.start_is m))
@@ -115,9 +113,9 @@ node-received parent new old after e r has_children is_stray kept start is same 
 record InGrid (o : Open) (before es : Entries) (p : OpenElement) : Type 0 where
   now : OpenElement
   level : Level o false before es now
-  left : left_by p.kind p ≡ Some (unless_vanished p (closed_with now.kind now))
+  left : left_by p.kind p ≡ Some (unless_vanished p (closed_as now.kind now))
 
-grid-by : (k : OpenKind) (o : Open) (own before old new : Entries) → is_root k ≡ false → are_rows k ≡ false → Holds k own → old ≡ before ++ own →
+grid-by : (k : OpenKind) (o : Open) (own before old new : Entries) → is_root k ≡ false → is_rows k ≡ false → Holds k own → old ≡ before ++ own →
     o.start ≡ length before → Gridded k o.start old new → InGrid (record o { kind = k }) before new (element_seen (record o { kind = k }) own)
 grid-by Root o own before old new root rows h is start g = cc
 grid-by (Rows l) o own before old new root rows h is start g = cc
@@ -127,7 +125,7 @@ grid-by (Parts spans) o (x ∷ xs) before old new root rows h is start g =
     let p = element_seen (record o { kind = Parts spans }) (x ∷ xs) in record {
       now = element_seen (record o { kind = Parts spans }) own;
       level = record { own = own; entries_are = g.2 before (x ∷ xs) is start; start_is = start; root = refl; holds = tt; is_seen = refl };
-      left = ap (option_map (λ (grid : TableParts). unless_vanished p (closed_node results.Contents (record p.node { kind = Table grid }) true p.written))) g.1;
+      left = ap (option_map (λ (grid : TableParts). unless_vanished p (closed_as (Parts spans) (on_grid p grid)))) g.1;
     }
 grid-by k o own before old new root rows h is start g = record {
   now = element_seen (record o { kind = k }) own;
@@ -135,14 +133,14 @@ grid-by k o own before old new root rows h is start g = record {
   left = refl;
 }
 
-none-given : (k : OpenKind) (g : Bool) (o : Open) → are_rows k ≡ false → given_in k g o.due.outer ≡ None
+none-given : (k : OpenKind) (g : Bool) (o : Open) → is_rows k ≡ false → given_in k g o.due.outer ≡ None
 none-given (Rows rows) g o e = cc
 none-given k true o e = refl
 none-given k false o e = refl
 
 -- ---- an element with a node of its own closes
 
-module _ (o parent new : Open) (old grid after : Entries) (rows : are_rows o.kind ≡ false) (gridded : Gridded o.kind o.start old grid) where
+module _ (o parent new : Open) (old grid after : Entries) (rows : is_rows o.kind ≡ false) (gridded : Gridded o.kind o.start old grid) where
   in-grid : (before own : Entries) → is_root o.kind ≡ false → Holds o.kind own → old ≡ before ++ own → o.start ≡ length before →
       InGrid o before grid (element_seen o own)
   in-grid before own root holds is start = grid-by o.kind o own before old grid root rows holds is start gridded
@@ -159,7 +157,7 @@ module _ (o parent new : Open) (old grid after : Entries) (rows : are_rows o.kin
       (let g = in-grid before l.own l.root l.holds l.entries_are l.start_is in
       let left : dropping ≡ before = is_dropped ∙ ap (take o.start) g.level.entries_are ∙ take_at before g.level.own o.start (sym l.start_is) in record {
         left = mark_left o.due.mark;
-        is_left = g.left ∙ ap (λ b. Some (if b then mark_left o.due.mark else Some (closed_with g.now.kind g.now))) v;
+        is_left = g.left ∙ ap (λ b. Some (if b then mark_left o.due.mark else Some (closed_as g.now.kind g.now))) v;
         parent =
             subst (λ x. Level new is_outermost below after (received_any (mark_left o.due.mark) x)) (nothing-given l.own q)
             (subst (λ x. Level new is_outermost below after (received_any (mark_left x) q)) mark_is
@@ -172,7 +170,7 @@ module _ (o parent new : Open) (old grid after : Entries) (rows : are_rows o.kin
       IfOk-weaker result (λ _. ClosesStanding o parent grid new after) (λ _. ClosesInto o parent old new after)
       (λ _ closes is_outermost before below p q l m. subst (λ x. ClosedIn x q is_outermost below new after) l.is_seen
       (let g = in-grid before l.own l.root l.holds l.entries_are l.start_is in
-      let c = closed_with g.now.kind g.now in record {
+      let c = closed_as g.now.kind g.now in record {
         left = Some c;
         is_left = g.left ∙ ap (λ b. Some (if b then mark_left o.due.mark else Some c)) v;
         parent =
@@ -186,7 +184,7 @@ module _ (o parent new : Open) (old grid after : Entries) (rows : are_rows o.kin
 abbrev rows_closed : Open → Entries → Closed
 rows_closed o own = result_seen (role_left o.kind) Container o.has_children o.is_stray own
 
-rows-left : (k : OpenKind) (o : Open) (own : Entries) → are_rows k ≡ true →
+rows-left : (k : OpenKind) (o : Open) (own : Entries) → is_rows k ≡ true →
     left_by (element_seen (record o { kind = k }) own).kind (element_seen (record o { kind = k }) own)
     ≡ Some (if vanishes o.if_empty o.has_results then mark_left o.due.mark else Some (rows_closed (record o { kind = k }) own))
 rows-left (Rows rows) o own e = refl
@@ -201,7 +199,7 @@ mark-kept o parent = by (gives_to o parent)
     by false = refl
 
 -- Where a part of a table closes in a parent, `element` is the part once its insertion is given back, and `given` the parent.
-module _ (o parent element given new : Open) (old after : Entries) (rows : are_rows o.kind ≡ true) (element_is : element ≡ without_given o parent)
+module _ (o parent element given new : Open) (old after : Entries) (rows : is_rows o.kind ≡ true) (element_is : element ≡ without_given o parent)
     (given_is : given ≡ with_given_of o parent) where
   given-level : (is_outermost : Bool) (below es own : Entries) (q : OpenElement) → Level parent is_outermost below es q →
       Level given is_outermost below es (with_given (element_seen o own).given q)

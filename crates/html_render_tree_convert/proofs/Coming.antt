@@ -16,9 +16,10 @@ use Rattle.html_render_parts.specs.declared.table.Span.{Span}
 use Rattle.html_render_tree_mapping.specs.Results.{Nodes, Role, Result, of_role, are_rows, beside, cell_of, is_caption, joined, row_of, spans_of, stands_alone, trees_of}
 use Rattle.html_render_tree_mapping.specs.Results as role
 use Rattle.html_render_tree_mapping.specs.declared.tables.CellSpan.{CellSpan}
-use Rattle.html_render_tree_convert.specs.OpenElements.{OpenKind, OpenElement, Insertion, nothing}
-use Rattle.html_render_tree_convert.specs.OpenElements as open_kind
-use Rattle.html_render_tree_convert.specs.Steps.{Closed, accepts, appended, counts_in, is_row, is_rows, is_table, received}
+use Rattle.html_render_tree_convert.specs.OpenElements.{OpenElement, Insertion, nothing}
+use Rattle.html_render_tree_convert.specs.declared.elements.OpenKind.{OpenKind}
+use Rattle.html_render_tree_convert.specs.declared.elements.OpenKind.TheVariants as open_kind
+use Rattle.html_render_tree_convert.specs.Steps.{Closed, accepts, appended, counts_in, is_row, is_rows, is_table, once, received}
 use Rattle.html_render_tree_convert.proofs.Entries.{Entries, appended-nil, appended_assoc, filled, filled-nothing}
 
 -- ---- one result
@@ -49,10 +50,6 @@ abbrev pub as_caption : (parent : OpenKind) → Result → Result
 as_caption open_kind.Captions r = as_block r
 as_caption _ r = r
 
--- an open element whose first cell has what was due
-abbrev pub without_due : OpenElement → OpenElement
-without_due p = record p { due = nothing }
-
 -- whether rows take what is due: they do where there is one, or where a row has no trees
 abbrev pub take_due : Option Nodes → Bool
 take_due (Some none) = false
@@ -62,13 +59,13 @@ abbrev pub comes_as : Role → Result → OpenElement → OpenElement
 comes_as role.Contents r p = received (closed_result r) p
 comes_as role.Caption r p = received (closed_result (as_caption p.kind r)) p
 comes_as (role.Rows rows) r p =
-    if is_table p.kind then received (closed_result (filled_result 2 p.due r)) (record p { due = if take_due r.below then nothing else p.due })
+    if is_table p.kind then received (closed_result (filled_result 2 p.due r)) (record (once p) { due = if take_due r.below then nothing else p.due })
     else received (closed_result r) p
 comes_as (role.Row cells) r p =
-    if is_rows p.kind then received (closed_result (filled_result 1 p.due r)) (record p { due = nothing; given = None })
+    if is_rows p.kind then received (closed_result (filled_result 1 p.due r)) (once p)
     else received (closed_result r) p
 comes_as (role.Cell span) r p =
-    if is_row p.kind then received (closed_result (filled_result 0 p.due r)) (without_due p) else received (closed_result r) p
+    if is_row p.kind then received (closed_result (filled_result 0 p.due r)) (once p) else received (closed_result r) p
 
 -- an open element once the node of a result has opened in it and closed
 abbrev pub comes : Result → OpenElement → OpenElement
@@ -119,7 +116,8 @@ node-entries n (Some t) (Some u) = ap Some (simp append-nil)
 -- ---- nodes, cells and captions
 
 abbrev pub is_plain : OpenKind → Bool
-is_plain (open_kind.Node kind) = true
+is_plain open_kind.Root = true
+is_plain (open_kind.Node keeping) = true
 is_plain (open_kind.Cell span) = true
 is_plain open_kind.Caption = true
 is_plain _ = false
@@ -146,8 +144,10 @@ keeps_one k x q =
 
 keeps-one : (k : OpenKind) → is_plain k ≡ true → (y : Role) (x : Result) (q : OpenElement) →
     comes_as y (record x { role = y }) (record q { kind = k }) ≡ keeps_one k (record x { role = y }) q
-keeps-one (open_kind.Node kind) h role.Contents x q = refl
-keeps-one (open_kind.Node kind) h y x q = refl
+keeps-one open_kind.Root h role.Contents x q = refl
+keeps-one open_kind.Root h y x q = refl
+keeps-one (open_kind.Node keeping) h role.Contents x q = refl
+keeps-one (open_kind.Node keeping) h y x q = refl
 keeps-one (open_kind.Cell span) h role.Contents x q = refl
 keeps-one (open_kind.Cell span) h y x q = refl
 keeps-one open_kind.Caption h role.Contents x q = refl

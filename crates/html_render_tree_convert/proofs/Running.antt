@@ -20,8 +20,8 @@ use Rattle.html_render_tree_mapping.specs.declared.plans.Plan.TheVariants.{Nothi
 use Rattle.html_render_tree_mapping.specs.declared.tables.Part.TheVariants as part
 use Rattle.html_render_tree_convert.specs.Events.{Event, Parts, Close, children_events, events, node_events, nothing_inside, picks}
 use Rattle.html_render_tree_convert.specs.OpenElements.{OpenElement, holder, insertion_of, inserts, node_in, root}
-use Rattle.html_render_tree_convert.specs.OpenElements as open_kind
-use Rattle.html_render_tree_convert.specs.Steps.{all_parted, all_written, begun, begun_cell, begun_node, begun_row, begun_rows, converted, is_row, is_rows, is_table, run}
+use Rattle.html_render_tree_convert.specs.declared.elements.OpenKind.TheVariants as open_kind
+use Rattle.html_render_tree_convert.specs.Steps.{all_parted, all_written, begun, begun_node, converted, opened, run}
 use Rattle.html_render_tree_convert.specs.declared.cursor.Pick.{Pick}
 use Rattle.html_render_tree_convert.specs.declared.cursor.Pick.TheVariants.{All, Captions, Others, Feet}
 use Rattle.html_render_tree_convert.proofs.Closing.{after_result, captions_open, closed_over, closes, filter-all, is_table_kind, of_kind, table, table-closes}
@@ -80,27 +80,18 @@ close-run ev os runs (q ∷ qs) h made p ps closes es =
 
 -- ---- an element
 
-rows-filled : (b : Bool) (e : Element) (p : OpenElement) (ps : Stack) → is_filled (begun_rows b e p ++ ps) ≡ true
-rows-filled true e p ps = refl
-rows-filled false e p ps = refl
-
 module _ (inside_events : Pick → List Event) (inside : (Content → Bool) → Option (List Result))
     (runs : (pick : Pick) → Runs (inside_events pick) (inside (picks pick))) (e : Element) (p : OpenElement) (ps : Stack) (es : List Event) where
-  begun-filled : (k : ElementKind) → is_filled (begun k (of_kind e k) p ++ ps) ≡ true
+  begun-filled : (k : ElementKind) → is_filled (begun k (of_kind e k) (p ∷ ps)) ≡ true
   begun-filled (element.Node kind) = elim (not (inserts e) || holds_insertions kind)
-      as (λ b. is_filled ((begun_node b kind (of_kind e (element.Node kind)) ++ p ∷ []) ++ ps) ≡ true) [ true ↦ refl | false ↦ refl ]
-  begun-filled (element.Part part.Body) = rows-filled (is_table p.kind) (of_kind e (element.Part part.Body)) p ps
-  begun-filled (element.Part part.Foot) = rows-filled (is_table p.kind) (of_kind e (element.Part part.Foot)) p ps
-  begun-filled (element.Part part.Row) =
-      elim (is_rows p.kind) as (λ b. is_filled (begun_row b (of_kind e (element.Part part.Row)) p ++ ps) ≡ true) [ true ↦ refl | false ↦ refl ]
-  begun-filled (element.Part (part.Cell span)) =
-      elim (is_row p.kind) as (λ b. is_filled (begun_cell span b (of_kind e (element.Part (part.Cell span))) p ++ ps) ≡ true) [ true ↦ refl | false ↦ refl ]
+      as (λ b. is_filled (begun_node b kind (of_kind e (element.Node kind)) ++ p ∷ ps) ≡ true) [ true ↦ refl | false ↦ refl ]
+  begun-filled (element.Part part.Table) = refl
   begun-filled k = refl
 
   plain-runs : (k : ElementKind) → is_table_kind k ≡ false →
-      run ((inside_events All ++ Close ∷ []) ++ es) (begun k (of_kind e k) p ++ ps) ≡ run_after es p ps (inside (picks All) >>= made (of_kind e k) [])
+      run ((inside_events All ++ Close ∷ []) ++ es) (begun k (of_kind e k) (p ∷ ps)) ≡ run_after es p ps (inside (picks All) >>= made (of_kind e k) [])
   plain-runs k h =
-      close-run (inside_events All) (inside (picks All)) (runs All) (begun k (of_kind e k) p ++ ps) (begun-filled k) (made (of_kind e k) []) p ps
+      close-run (inside_events All) (inside (picks All)) (runs All) (begun k (of_kind e k) (p ∷ ps)) (begun-filled k) (made (of_kind e k) []) p ps
       (λ rs. closes e p ps rs k h) es
 
   parted-filled : (c : List Result) → is_filled (all_parted (captions_open e p ps c ∷ (p ∷ ps))) ≡ true
@@ -134,7 +125,7 @@ module _ (inside_events : Pick → List Event) (inside : (Content → Bool) → 
           (all_parted (captions_open e p ps (captions cs) ∷ (p ∷ ps))) (parted-filled (captions cs)) (made (table e p ps) (captions cs)) p ps
           (λ l. table-closes e p ps (captions cs) l) es
 
-  element-runs : (k : ElementKind) → run ((children_events k inside_events ++ Close ∷ []) ++ es) (begun k (of_kind e k) p ++ ps)
+  element-runs : (k : ElementKind) → run ((children_events k inside_events ++ Close ∷ []) ++ es) (begun k (of_kind e k) (p ∷ ps))
       ≡ run_after es p ps (over_children (of_kind e k) inside)
   element-runs (element.Part part.Table) = table-runs
   element-runs k = plain-runs k refl
@@ -144,6 +135,7 @@ module _ (inside_events : Pick → List Event) (inside : (Content → Bool) → 
 node-run : (plan : Plan) (inside_events : Pick → List Event) (inside : (Content → Bool) → Option (List Result)) →
     ((pick : Pick) → Runs (inside_events pick) (inside (picks pick))) → (es : List Event) (p : OpenElement) (ps : Stack) →
     run (node_events plan inside_events ++ es) (p ∷ ps) ≡ run_after es p ps (result_of plan inside)
+unfolding opened
 node-run Nothing inside_events inside runs es p ps = refl
 node-run (Alone n) inside_events inside runs es p ps = refl
 node-run (Over e false) inside_events inside runs es p ps = element-runs nothing_inside (λ test. Some []) (λ pick es p ps. refl) e p ps es e.kind
@@ -194,7 +186,7 @@ trees-run rules (node content children others) pick es p ps =
 -- ---- documents
 
 root-written : (rs : List Result) → all_written (all_come rs root ∷ []) ≡ option_map flatten (trees_of rs)
-root-written rs = ap (λ q. all_written (q ∷ [])) (plain-come (open_kind.Node Container) refl rs root) ∙ simp (nil-appended, filter-all)
+root-written rs = ap (λ q. all_written (q ∷ [])) (plain-come open_kind.Root refl rs root) ∙ simp (nil-appended, filter-all)
 
 pub documents_convert : (rules : List StyleRule) (dom : Dom) → converted rules (tree_of dom 0) ≡ option_map flatten (render_tree_of rules dom)
 documents_convert rules dom =

@@ -3,17 +3,15 @@ use Rattle.std.proofs.Common.{◌≡◌, ℕ, ◌+◌, ◌<◌, ◌≤◌, Bool,
 use Rattle.std.specs.Bool.{OnFalse, OnTrue}
 use Rattle.std.proofs.lemmas.List.{reverse-append, reverse-reverse, length-reverse}
 use Rattle.html_render_layout_nodes.specs.declared.tree.Entry.{Entry}
-use Rattle.html_render_layout_nodes.specs.declared.tree.NodeKind.{NodeKind}
 use Rattle.html_render_layout_nodes.specs.declared.tree.RenderNode.{RenderNode}
-use Rattle.html_render_tree_convert.specs.Closing.{are_rows, with_given_of}
+use Rattle.html_render_tree_convert.specs.Closing.{with_given_of}
 use Rattle.html_render_tree_convert.specs.Held.{due_of, nothing_held}
-use Rattle.html_render_tree_convert.specs.Keeping.{keeping_of}
 use Rattle.html_render_tree_convert.specs.OpenElements.{Insertion, OpenElement}
 use Rattle.html_render_tree_convert.specs.OpenElements as elements
-use Rattle.html_render_tree_convert.specs.Opening.{Becomes, Innermost, IsOpen, innermost, is_in, once, with_captions, without_captions, wrote}
+use Rattle.html_render_tree_convert.specs.Opening.{Becomes, Innermost, wrote}
 use Rattle.html_render_tree_convert.specs.declared.elements.Place.TheVariants as place
-use Rattle.html_render_tree_convert.specs.Seen.{AllHold, Holds, IsSound, Level, element_seen, given_in, has_entry, inside, is_none, is_root, kind_seen, own_node, seen}
-use Rattle.html_render_tree_convert.specs.Steps.{Closed, closed_leaf, is_captions, put, received, with_given}
+use Rattle.html_render_tree_convert.specs.Seen.{AllHold, Holds, IsSound, Level, element_seen, given_in, has_entry, inside, is_none, is_root, own_node, seen}
+use Rattle.html_render_tree_convert.specs.Steps.{Closed, closed_leaf, innermost, is_captions, is_in, is_rows, once, put, received, with_captions, with_given, without_captions}
 use Rattle.html_render_tree_mapping.specs.declared.mapping.IfEmpty.TheVariants.{Stands}
 use Rattle.html_render_tree_convert.specs.declared.elements.Open.{Open}
 use Rattle.html_render_tree_convert.specs.declared.elements.OpenKind.{OpenKind}
@@ -93,18 +91,7 @@ innermost-none os now es ps same h e = sym e ∙ ap (λ l. seen (reverse l) es) 
     by [] h = refl
     by (x ∷ xs) h = absurd (omega (arith, h))
 
--- kind of the innermost open element's node
-abbrev pub own_kind : {o : Open} {ps : List OpenElement} → Innermost o ps → NodeKind
-own_kind {o = o} i = (own_node (has_entry o.kind) i.own).kind
-
 -- ---- an element opens
-
-pub IsOpen-seen : (os : List Open) (es : Entries) → 0 < length os → IsOpen (seen (reverse os) es)
-IsOpen-seen os es h = by (reverse os) (omega (arith, h, length-reverse os))
-  where
-    by : (rs : List Open) → 0 < length rs → IsOpen (seen rs es)
-    by [] h = absurd (omega (arith, h))
-    by (o ∷ rs) h = tt
 
 some-sound : (rs : List Open) (es : Entries) → 0 < length rs → IsSound rs es → (is_none rs ≡ false) × AllHold rs es
 some-sound [] es some h = absurd (omega (arith, some))
@@ -135,7 +122,7 @@ Holds-more k (e ∷ es) xs h = h
 -- an open element as it is seen, by its node and what is written of its children
 abbrev seen_as : Open → RenderNode → Option Entries → OpenElement
 seen_as o n written = record {
-  kind = kind_seen o.kind n.kind;
+  kind = o.kind;
   node = n;
   if_empty = o.if_empty;
   mark = o.due.mark;
@@ -266,7 +253,7 @@ becomes-emptied old new es e =
     (λ own h. (subst (λ (o : Open). Holds o.kind own) (sym e) h, ap (λ o. element_seen o own) e ∙ emptied-seen old.kind old own))
 
 -- a table is given an insertion back
-given-seen : (k j : OpenKind) (g : Bool) (o parent : Open) (own : Entries) → are_rows k ≡ true →
+given-seen : (k j : OpenKind) (g : Bool) (o parent : Open) (own : Entries) → is_rows k ≡ true →
     element_seen (with_given_of (record o { kind = k; is_given = g }) (record parent { kind = j })) own
     ≡ with_given (given_in k g o.due.outer) (element_seen (record parent { kind = j }) own)
 given-seen (Rows rows) (Parts spans) true o parent own e =
@@ -276,7 +263,7 @@ given-seen (Rows rows) j false o parent own e = refl
 given-seen (Rows rows) j true o parent own e = refl
 given-seen k j g o parent own e = cc
 
-pub becomes-given : (o old new : Open) (es : Entries) → are_rows o.kind ≡ true → new ≡ with_given_of o old →
+pub becomes-given : (o old new : Open) (es : Entries) → is_rows o.kind ≡ true → new ≡ with_given_of o old →
     Becomes (with_given (given_in o.kind o.is_given o.due.outer)) old new es es
 becomes-given o old new es rows e =
     becomes-alone (with_given (given_in o.kind o.is_given o.due.outer)) old new es (ap (λ (x : Open). x.start) e) (ap (λ (x : Open). is_root x.kind) e)
@@ -284,18 +271,17 @@ becomes-given o old new es rows e =
 
 -- ---- the captions of a table have come
 
-captions-kind : (k : OpenKind) (own : NodeKind) → is_captions (kind_seen k own) ≡ true → k ≡ Captions
-captions-kind Captions own e = refl
-captions-kind k own e = cc
+captions-kind : (k : OpenKind) → is_captions k ≡ true → k ≡ Captions
+captions-kind Captions e = refl
+captions-kind k e = cc
 
 pub in-captions : (o : Open) (ps : List OpenElement) → Innermost o ps → is_in place.Captions ps ≡ true → o.kind ≡ Captions
-in-captions o ps i e = captions-kind o.kind (own_node (has_entry o.kind) i.own).kind (ap (is_in place.Captions) (sym i.seen_is) ∙ e)
+in-captions o ps i e = captions-kind o.kind (ap (is_in place.Captions) (sym i.seen_is) ∙ e)
 
 captions-kept : (o : Open) (own : Entries) → Holds Captions own →
     Holds (Node Any) own × (element_seen (record o { kind = Node Any }) own ≡ with_captions (element_seen (record o { kind = Captions }) own))
 captions-kept o [] h = absurd h
-captions-kept o (e ∷ es) h =
-    (sym (ap keeping_of h), ap (λ k. let p : OpenElement = record (element_seen (record o { kind = Captions }) (e ∷ es)) { kind = elements.Node k } in p) h)
+captions-kept o (e ∷ es) h = (tt, refl)
 
 pub becomes-container : (old new : Open) (es : Entries) → old.kind ≡ Captions → new ≡ record old { kind = Node Any } → Becomes with_captions old new es es
 becomes-container old new es k e =

@@ -32,7 +32,7 @@ use Rattle.html_render_tree_mapping.specs.Results.{Result, results}
 use Rattle.html_render_tree_mapping.specs.declared.plans.Plan.{Plan}
 use Rattle.html_render_tree_mapping.specs.declared.plans.Plan.TheVariants.{Nothing, Alone, Over}
 use Rattle.html_render_tree_convert.specs.OpenElements.{OpenElement, root}
-use Rattle.html_render_tree_convert.specs.Steps.{after, all_written, closed, converted, opened, run}
+use Rattle.html_render_tree_convert.specs.Steps.{after, all_parted, all_written, closed, converted, opened, run}
 use Rattle.html_render_tree_convert.proofs.Coming.{all_come}
 use Rattle.html_render_tree_convert.proofs.Running.{trees-run}
 
@@ -66,6 +66,26 @@ module _ (rules : List StyleRule) (dom : Dom) (forest : IsForest dom) where
 -- open elements
 abbrev pub Stack : Type 0
 Stack = List OpenElement
+
+-- an element without children closes: the captions of a table have come at once
+abbrev pub before_end : Pick → Stack → Stack
+before_end Captions cs = all_parted cs
+before_end _ cs = cs
+
+pub unparted : (pick : Pick) (cs : Stack) → (pick ≡ Captions → ⊥) → before_end pick cs ≡ cs
+unparted Captions cs h = absurd (h refl)
+unparted pick cs h = refl
+
+pub alone-run : (k : ElementKind) (cs : Stack) → run (children_events k nothing_inside ++ event.Close ∷ []) cs ≡ closed (before_end (first_pick k) cs)
+alone-run k cs = by k
+  where
+    same : (o : Option Stack) → (o >>= run []) ≡ o
+    same None = refl
+    same (Some ds) = refl
+
+    by : (k : ElementKind) → run (children_events k nothing_inside ++ event.Close ∷ []) cs ≡ closed (before_end (first_pick k) cs)
+    by (element.Part part.Table) = same (closed (all_parted cs))
+    by k = same (closed cs)
 
 then-then : {X Y Z : Type 0} (f : X → Option Y) (g : Y → Option Z) (h : X → Option Z) → ((x : X) → h x ≡ (f x >>= g)) →
     (o : Option X) → (o >>= h) ≡ ((o >>= f) >>= g)

@@ -1,5 +1,5 @@
 -- What an element that closes leaves in its parent, as code closes it.
-use Rattle.std.specs.Prelude.{◌≡◌, ℕ, Bool, true, false, ◌&&◌, List, [], ◌∷◌, ◌++◌, length, Option, Some, None, option_map, reverse, if◌then◌else◌}
+use Rattle.std.specs.Prelude.{◌≡◌, ℕ, Bool, false, ◌&&◌, List, [], ◌∷◌, ◌++◌, length, Option, Some, None, option_map, reverse, if◌then◌else◌}
 use Rattle.html_render_dom_values.specs.declared.errors.Error.{Error}
 use Rattle.html_render_layout_nodes.specs.Tables.{TableParts, unmeasured_table}
 use Rattle.html_render_layout_nodes.specs.declared.tree.Entry.{Entry}
@@ -8,14 +8,12 @@ use Rattle.html_render_layout_nodes.specs.declared.tree.RenderNode.{RenderNode}
 use Rattle.html_render_parts.specs.Refusal.{Fails}
 use Rattle.html_render_parts.specs.TableCells.{cell_grid_of}
 use Rattle.html_render_tree_mapping.specs.Results.{Role}
-use Rattle.html_render_tree_mapping.specs.Results as results
 use Rattle.html_render_tree_convert.specs.OpenElements.{OpenElement, nothing, sized, with_kind}
-use Rattle.html_render_tree_convert.specs.OpenElements as elements
 use Rattle.html_render_tree_convert.specs.Seen.{Holds, Level, element_seen}
-use Rattle.html_render_tree_convert.specs.Steps.{Closed, closed_as, closed_node, left_by, received, received_any, with_given}
+use Rattle.html_render_tree_convert.specs.Steps.{Closed, closed_as, is_table, left_by, received, received_any, with_given}
 use Rattle.html_render_tree_convert.specs.declared.elements.Open.{Open}
 use Rattle.html_render_tree_convert.specs.declared.elements.OpenKind.{OpenKind}
-use Rattle.html_render_tree_convert.specs.declared.elements.OpenKind.TheVariants.{Parts, Rows, Row, Cell, Caption}
+use Rattle.html_render_tree_convert.specs.declared.elements.OpenKind.TheVariants.{Parts}
 
 abbrev pub Entries : Type 0
 Entries = List (Entry RenderNode)
@@ -36,29 +34,6 @@ FailsGrid _ e = ⊥
 
 -- ---- what is closed
 
--- role of what an open element of a kind becomes
-abbrev pub role_left : OpenKind → Role
-role_left (Rows rows) = results.Rows rows
-role_left (Row cells) = results.Row cells
-role_left (Cell span) = results.Cell span
-role_left Caption = results.Caption
-role_left _ = results.Contents
-
--- whether an element writes what is due after its children
-abbrev pub is_completed : OpenKind → Bool
-is_completed (Parts spans) = false
-is_completed (Rows rows) = false
-is_completed (Row cells) = false
-is_completed _ = true
-
-abbrev pub is_parts : OpenKind → Bool
-is_parts (Parts spans) = true
-is_parts _ = false
-
-abbrev pub are_rows : OpenKind → Bool
-are_rows (Rows rows) = true
-are_rows _ = false
-
 -- entries that close, an element's own first
 abbrev pub closed_entries : Role → (has_children is_stray : Bool) → (own : Entry RenderNode) → (inside : Entries) → Closed
 closed_entries r has_children is_stray own inside = record {
@@ -68,16 +43,11 @@ closed_entries r has_children is_stray own inside = record {
   entries = if is_stray then None else Some (sized (own ∷ inside));
 }
 
--- an element as it closes, a table with its grid in its node
-abbrev pub closed_with : elements.OpenKind → OpenElement → Closed
-closed_with (elements.Parts spans) p = closed_node results.Contents p.node true p.written
-closed_with kind p = closed_as kind p
-
 -- ---- what functions do
 
 -- whether a part of a table gives its insertion back to its parent
 abbrev pub gives_to : (o parent : Open) → Bool
-gives_to o parent = o.is_given && is_parts parent.kind
+gives_to o parent = o.is_given && is_table parent.kind
 
 -- a part of a table once its insertion is given back
 abbrev pub without_given : (o parent : Open) → Open
@@ -99,7 +69,7 @@ ClosesNode r has_children is_stray start parent old new after =
 abbrev pub ClosesStanding : (o parent : Open) (old : Entries) (new : Open) (after : Entries) → Type 0
 ClosesStanding o parent old new after = (is_outermost : Bool) (before below : Entries) (p q : OpenElement) →
     Level o false before old p → Level parent is_outermost below before q →
-    Level new is_outermost below after (received (closed_with p.kind p) q)
+    Level new is_outermost below after (received (closed_as p.kind p) q)
 
 -- An element has closed in its parent:
 -- * left: what it leaves;

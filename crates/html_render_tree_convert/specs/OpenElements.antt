@@ -6,12 +6,12 @@ use Rattle.html_render_layout_nodes.specs.declared.tree.NodeKind.{NodeKind}
 use Rattle.html_render_layout_nodes.specs.declared.tree.NodeKind.TheVariants.{Container}
 use Rattle.html_render_layout_nodes.specs.declared.tree.NodeStyle.{NodeStyle}
 use Rattle.html_render_layout_nodes.specs.declared.tree.RenderNode.{RenderNode}
-use Rattle.html_render_parts.specs.declared.table.Span.{Span}
 pub use Rattle.html_render_tree_mapping.specs.Plans.{Insertion, text_nodes, inserts, insertion_of}
 use Rattle.html_render_tree_mapping.specs.declared.mapping.IfEmpty.{IfEmpty}
 use Rattle.html_render_tree_mapping.specs.declared.mapping.IfEmpty.TheVariants.{Stands}
-use Rattle.html_render_tree_mapping.specs.declared.tables.CellSpan.{CellSpan}
 use Rattle.html_render_tree_mapping.specs.declared.plans.Element.{Element}
+use Rattle.html_render_tree_convert.specs.declared.elements.OpenKind.{OpenKind}
+use Rattle.html_render_tree_convert.specs.declared.elements.OpenKind.TheVariants.{Root}
 
 -- ---- insertions
 
@@ -45,22 +45,6 @@ abbrev pub over_entries : RenderNode → List (Entry RenderNode) → List (Entry
 over_entries n es = record { node = n; subtree_len = length es + 1 } ∷ es
 
 -- ---- open elements
-
--- Kind of an open element:
--- * Node: an element that becomes a node of this kind, or a container round one;
--- * Captions: a table whose captions come;
--- * Parts: a table whose rows come, with the spans of the cells so far;
--- * Rows: a part of a table, with its rows so far;
--- * Row: a row, with its cells so far;
--- * Cell, Caption.
-pub data OpenKind : Type 0 where
-  Node : NodeKind → OpenKind
-  Captions : OpenKind
-  Parts : List (List Span) → OpenKind
-  Rows : List (List CellSpan) → OpenKind
-  Row : List CellSpan → OpenKind
-  Cell : CellSpan → OpenKind
-  Caption : OpenKind
 
 -- An open element:
 -- * node: its node;
@@ -118,4 +102,4 @@ carrier kind n e due given = record {
 
 -- a document before its first event
 abbrev pub root : OpenElement
-root = holder (Node Container) (without_style Container) Stands None nothing false
+root = holder Root (without_style Container) Stands None nothing false

@@ -2,18 +2,16 @@
 use Rattle.std.specs.Prelude.{◌≡◌, Bool, true, false, List, [], ◌∷◌, ◌++◌, length, take, drop, Option, Some, None, if◌then◌else◌}
 use Rattle.html_render_layout_nodes.specs.RenderNodes.{without_style}
 use Rattle.html_render_layout_nodes.specs.declared.tree.Entry.{Entry}
-use Rattle.html_render_layout_nodes.specs.declared.tree.NodeKind.{NodeKind}
 use Rattle.html_render_layout_nodes.specs.declared.tree.NodeKind.TheVariants.{Container}
 use Rattle.html_render_layout_nodes.specs.declared.tree.RenderNode.{RenderNode}
 use Rattle.html_render_tree_mapping.specs.Results.{Role}
 use Rattle.html_render_tree_mapping.specs.Results as results
 use Rattle.html_render_tree_convert.specs.OpenElements.{Insertion, OpenElement}
-use Rattle.html_render_tree_convert.specs.OpenElements as elements
 use Rattle.html_render_tree_convert.specs.Held.{due_of}
-use Rattle.html_render_tree_convert.specs.Keeping.{keeping_of}
+use Rattle.html_render_tree_convert.specs.Steps.{gathered}
 use Rattle.html_render_tree_convert.specs.declared.elements.Open.{Open}
 use Rattle.html_render_tree_convert.specs.declared.elements.OpenKind.{OpenKind}
-use Rattle.html_render_tree_convert.specs.declared.elements.OpenKind.TheVariants.{Root, Node, Captions, Parts, Rows, Row, Cell, Caption}
+use Rattle.html_render_tree_convert.specs.declared.elements.OpenKind.TheVariants.{Root, Rows}
 use Rattle.html_render_tree_convert.specs.declared.elements.Role.{Role as RoleIn}
 use Rattle.html_render_tree_convert.specs.declared.elements.Role.TheVariants as role
 
@@ -33,17 +31,6 @@ has_entry Root = false
 has_entry (Rows rows) = false
 has_entry _ = true
 
--- kind of an open element whose node is of a kind
-abbrev pub kind_seen : OpenKind → (own : NodeKind) → elements.OpenKind
-kind_seen Root own = elements.Node Container
-kind_seen (Node keeping) own = elements.Node own
-kind_seen Captions own = elements.Captions
-kind_seen (Parts spans) own = elements.Parts spans
-kind_seen (Rows rows) own = elements.Rows rows
-kind_seen (Row cells) own = elements.Row cells
-kind_seen (Cell span) own = elements.Cell span
-kind_seen Caption own = elements.Caption
-
 -- node of an open element with these entries, its own first if it has one
 abbrev pub own_node : (has_entry : Bool) → List (Entry RenderNode) → RenderNode
 own_node true (e ∷ es) = e.node
@@ -61,9 +48,9 @@ given_in _ _ _ = None
 
 -- AN OPEN ELEMENT with these entries
 abbrev pub element_seen : Open → List (Entry RenderNode) → OpenElement
-element_seen o es = let n = own_node (has_entry o.kind) es in record {
-  kind = kind_seen o.kind n.kind;
-  node = n;
+element_seen o es = record {
+  kind = o.kind;
+  node = own_node (has_entry o.kind) es;
   if_empty = o.if_empty;
   mark = o.due.mark;
   due = due_of o.due;
@@ -84,13 +71,23 @@ abbrev pub Holds : OpenKind → List (Entry RenderNode) → Type 0
 Holds Root es = Unit {0}
 Holds (Rows rows) es = Unit {0}
 Holds kind [] = ⊥
-Holds (Node keeping) (e ∷ es) = keeping ≡ keeping_of e.node.kind
-Holds Captions (e ∷ es) = e.node.kind ≡ Container
 Holds kind (e ∷ es) = Unit {0}
 
 abbrev pub is_root : OpenKind → Bool
 is_root Root = true
 is_root _ = false
+
+-- An open element's kind with the rows, the row or the cell of a result:
+-- * is: it is what the result makes of it;
+-- * entry, root: it has an entry of its own, and is the root, exactly as before;
+-- * given: it gives back the same insertion;
+-- * holds: its entries stay those of its kind.
+pub record Gathers (old : OpenKind) (r : Role) (new : OpenKind) : Type 0 where
+  pub is : new ≡ gathered old r
+  pub entry : has_entry new ≡ has_entry old
+  pub root : is_root new ≡ is_root old
+  pub given : (is_given : Bool) (outer : Insertion) → given_in new is_given outer ≡ given_in old is_given outer
+  pub holds : (own : List (Entry RenderNode)) → Holds old own → Holds new own
 
 -- An open element whose entries follow those outside it, and what it is seen as:
 -- * own: its entries;

@@ -15,7 +15,7 @@ use Rattle.html_render_layout_nodes.specs.declared.tree.NodeKind.TheVariants.{Co
 use Rattle.html_render_layout_nodes.specs.declared.tree.RenderNode.{RenderNode}
 use Rattle.html_render_parts.specs.TableCells.{cell_grid_of}
 use Rattle.html_render_tree_mapping.specs.Conversion.{vanishes}
-use Rattle.html_render_tree_mapping.specs.Results.{Role, is_caption, cell_of, row_of, stands_alone, keeps, counts}
+use Rattle.html_render_tree_mapping.specs.Results.{Role, is_caption, cell_of, row_of, stands_alone}
 pub use Rattle.html_render_tree_mapping.specs.Results.{are_rows}
 use Rattle.html_render_tree_mapping.specs.Results as role
 use Rattle.html_render_tree_mapping.specs.Tables.{greatest_width, spanned_in}
@@ -25,43 +25,18 @@ use Rattle.html_render_tree_mapping.specs.declared.mapping.IfEmpty.TheVariants.{
 use Rattle.html_render_tree_mapping.specs.declared.tables.CellSpan.{CellSpan}
 use Rattle.html_render_tree_mapping.specs.declared.tables.Part.TheVariants as part
 use Rattle.html_render_tree_convert.specs.Events.{Event, Put, Open, Parts, Close, events}
-use Rattle.html_render_tree_convert.specs.OpenElements.{OpenKind, OpenElement, Insertion, nothing, within, inserts, insertion_of}
+use Rattle.html_render_tree_convert.specs.Keeping.{counts_by, keeping_of, keeps_by}
+use Rattle.html_render_tree_convert.specs.OpenElements.{OpenElement, Insertion, nothing, within, inserts, insertion_of}
 use Rattle.html_render_tree_convert.specs.OpenElements.{leaves, over_entries, node_in, holder, carrier, root}
-use Rattle.html_render_tree_convert.specs.OpenElements as open_kind
+use Rattle.html_render_tree_convert.specs.declared.elements.OpenKind.{OpenKind}
+use Rattle.html_render_tree_convert.specs.declared.elements.OpenKind.TheVariants as open_kind
+use Rattle.html_render_tree_convert.specs.declared.elements.Place.{Place}
+use Rattle.html_render_tree_convert.specs.declared.elements.Place.TheVariants as place
+use Rattle.html_render_tree_convert.specs.declared.kinds.Keeping.TheVariants.{Any}
 use Rattle.html_render_tree_convert.specs.declared.cursor.Pick.TheVariants.{All}
 use Rattle.html_render_tree_mapping.specs.declared.plans.Element.{Element}
 
 -- ---- an element opens
-
--- a node that holds what it inserts, or else in a container that holds it
-abbrev pub begun_node : (is_inside : Bool) → NodeKind → Element → List OpenElement
-begun_node true kind e = holder (open_kind.Node kind) (node_in e.style kind) e.if_empty e.texts.mark (insertion_of e) (inserts e) ∷ []
-begun_node false kind e =
-    record (holder (open_kind.Node kind) (node_in e.style kind) e.if_empty None nothing false) { is_wrapped = true }
-    ∷ holder (open_kind.Node Container) (without_style Container) e.if_empty e.texts.mark (insertion_of e) true
-    ∷ []
-
--- Rows in a table take what is due there, until they end without a row.
-abbrev pub begun_rows : (in_table : Bool) → Element → (parent : OpenElement) → List OpenElement
-begun_rows true e p =
-    carrier (open_kind.Rows []) (without_style Container) e (within p.due (insertion_of e)) (Some p.due) ∷ record p { due = nothing } ∷ []
-begun_rows false e p = carrier (open_kind.Rows []) (without_style Container) e (insertion_of e) None ∷ p ∷ []
-
-abbrev pub row_carrier : Element → (due : Insertion) → OpenElement
-row_carrier e due = record (carrier (open_kind.Row []) (node_in e.style TableRow) e due None) { if_empty = Stands }
-
-abbrev pub cell_holder : CellSpan → Element → (due : Insertion) → OpenElement
-cell_holder span e due = holder (open_kind.Cell span) (node_in e.style TableCell) Stands e.texts.mark due (inserts e)
-
--- A row in rows takes what is due there, for good.
-abbrev pub begun_row : (in_rows : Bool) → Element → (parent : OpenElement) → List OpenElement
-begun_row true e p = row_carrier e (within p.due (insertion_of e)) ∷ record p { due = nothing; given = None } ∷ []
-begun_row false e p = row_carrier e (insertion_of e) ∷ p ∷ []
-
--- A cell in a row holds what is due there.
-abbrev pub begun_cell : CellSpan → (in_row : Bool) → Element → (parent : OpenElement) → List OpenElement
-begun_cell span true e p = cell_holder span e (within p.due (insertion_of e)) ∷ record p { due = nothing } ∷ []
-begun_cell span false e p = cell_holder span e (insertion_of e) ∷ p ∷ []
 
 abbrev pub is_table : OpenKind → Bool
 is_table (open_kind.Parts spans) = true
@@ -79,24 +54,79 @@ abbrev pub is_captions : OpenKind → Bool
 is_captions open_kind.Captions = true
 is_captions _ = false
 
+-- whether an open element is an element of a table
+abbrev pub is_place : Place → OpenKind → Bool
+is_place place.Captions kind = is_captions kind
+is_place place.Table kind = is_table kind
+is_place place.Rows kind = is_rows kind
+is_place place.Row kind = is_row kind
+
+abbrev pub is_in : Place → List OpenElement → Bool
+is_in wanted [] = false
+is_in wanted (p ∷ ps) = is_place wanted p.kind
+
+-- the innermost open element is changed
+abbrev pub innermost : (OpenElement → OpenElement) → List OpenElement → List OpenElement
+innermost f [] = []
+innermost f (p ∷ ps) = f p ∷ ps
+
+-- what is due in the innermost open element, if it is taken
+abbrev pub taken : (is_taken : Bool) → List OpenElement → Insertion
+taken true (p ∷ ps) = p.due
+taken is_taken ps = nothing
+
+-- An open element once what is due in it is taken. Rows give nothing back then.
+abbrev pub once : OpenElement → OpenElement
+once p = record p { due = nothing; given = if is_rows p.kind then None else p.given }
+
+abbrev pub left_once : (is_taken : Bool) → List OpenElement → List OpenElement
+left_once true ps = innermost once ps
+left_once false ps = ps
+
+-- a node that holds what it inserts, or else in a container that holds it
+abbrev pub begun_node : (is_inside : Bool) → NodeKind → Element → List OpenElement
+begun_node true kind e =
+    holder (open_kind.Node (keeping_of kind)) (node_in e.style kind) e.if_empty e.texts.mark (insertion_of e) (inserts e) ∷ []
+begun_node false kind e =
+    record (holder (open_kind.Node (keeping_of kind)) (node_in e.style kind) e.if_empty None nothing false) { is_wrapped = true }
+    ∷ holder (open_kind.Node Any) (without_style Container) e.if_empty e.texts.mark (insertion_of e) true
+    ∷ []
+
+-- Rows in a table take what is due there, until they end without a row.
+abbrev pub begun_rows : (in_table : Bool) → Element → List OpenElement → List OpenElement
+begun_rows in_table e ps =
+    let due = taken in_table ps in
+    carrier (open_kind.Rows []) (without_style Container) e (within due (insertion_of e)) (if in_table then Some due else None) ∷ left_once in_table ps
+
+-- A row in rows takes what is due there, for good.
+abbrev pub begun_row : (in_rows : Bool) → Element → List OpenElement → List OpenElement
+begun_row in_rows e ps =
+    record (carrier (open_kind.Row []) (node_in e.style TableRow) e (within (taken in_rows ps) (insertion_of e)) None) { if_empty = Stands }
+    ∷ left_once in_rows ps
+
+-- A cell in a row holds what is due there.
+abbrev pub begun_cell : CellSpan → (in_row : Bool) → Element → List OpenElement → List OpenElement
+begun_cell span in_row e ps =
+    holder (open_kind.Cell span) (node_in e.style TableCell) Stands e.texts.mark (within (taken in_row ps) (insertion_of e)) (inserts e)
+    ∷ left_once in_row ps
+
 -- kind of a caption's node
-abbrev pub caption_kind : (parent : OpenKind) → NodeKind
-caption_kind parent = if is_captions parent then Block else Container
+abbrev pub caption_kind : (in_captions : Bool) → NodeKind
+caption_kind in_captions = if in_captions then Block else Container
 
--- what opens with an element, and its parent
-abbrev pub begun : ElementKind → Element → (parent : OpenElement) → List OpenElement
-begun (element.Node kind) e p = begun_node (not (inserts e) || holds_insertions kind) kind e ++ p ∷ []
-begun (element.Part part.Table) e p = holder open_kind.Captions (node_in e.style Container) e.if_empty e.texts.mark (insertion_of e) true ∷ p ∷ []
-begun (element.Part part.Body) e p = begun_rows (is_table p.kind) e p
-begun (element.Part part.Foot) e p = begun_rows (is_table p.kind) e p
-begun (element.Part part.Row) e p = begun_row (is_rows p.kind) e p
-begun (element.Part (part.Cell span)) e p = begun_cell span (is_row p.kind) e p
-begun (element.Part part.Caption) e p =
-    holder open_kind.Caption (node_in e.style (caption_kind p.kind)) e.if_empty e.texts.mark (insertion_of e) (inserts e) ∷ p ∷ []
+-- what opens with an element, and the elements outside it
+abbrev pub begun : ElementKind → Element → List OpenElement → List OpenElement
+begun (element.Node kind) e ps = begun_node (not (inserts e) || holds_insertions kind) kind e ++ ps
+begun (element.Part part.Table) e ps = holder open_kind.Captions (node_in e.style Container) e.if_empty e.texts.mark (insertion_of e) true ∷ ps
+begun (element.Part part.Body) e ps = begun_rows (is_in place.Table ps) e ps
+begun (element.Part part.Foot) e ps = begun_rows (is_in place.Table ps) e ps
+begun (element.Part part.Row) e ps = begun_row (is_in place.Rows ps) e ps
+begun (element.Part (part.Cell span)) e ps = begun_cell span (is_in place.Row ps) e ps
+begun (element.Part part.Caption) e ps =
+    holder open_kind.Caption (node_in e.style (caption_kind (is_in place.Captions ps))) e.if_empty e.texts.mark (insertion_of e) (inserts e) ∷ ps
 
-abbrev pub opened : Element → List OpenElement → List OpenElement
-opened e [] = []
-opened e (p ∷ ps) = begun e.kind e p ++ ps
+unfoldable pub opened : Element → List OpenElement → List OpenElement
+opened e ps = begun e.kind e ps
 
 -- ---- the captions of a table have come
 
@@ -104,16 +134,20 @@ opened e (p ∷ ps) = begun e.kind e p ++ ps
 abbrev pub table_in_container : OpenElement
 table_in_container = record (holder (open_kind.Parts []) (without_style Container) Vanishes None nothing false) { is_wrapped = true }
 
--- With a caption the container stays, and the table opens in it. Without one the container becomes the table, and what is written
--- is due in the first cell.
+abbrev pub with_captions : OpenElement → OpenElement
+with_captions p = record p { kind = open_kind.Node Any }
+
+-- a table without a caption: what is written is due in the first cell
+abbrev pub without_captions : OpenElement → OpenElement
+without_captions p = record p {
+  kind = open_kind.Parts [];
+  due = record { front = option_map_or (λ es. map (λ (e : Entry RenderNode). e.node) es) p.written []; back = p.due.back };
+  written = Some [];
+}
+
+-- With a caption the container stays, and the table opens in it. Without one the container becomes the table.
 abbrev pub parted : OpenElement → List OpenElement
-parted p =
-    if p.has_results then table_in_container ∷ record p { kind = open_kind.Node Container } ∷ []
-    else record p {
-      kind = open_kind.Parts [];
-      due = record { front = option_map_or (λ es. map (λ (e : Entry RenderNode). e.node) es) p.written []; back = p.due.back };
-      written = Some [];
-    } ∷ []
+parted p = if p.has_results then table_in_container ∷ with_captions p ∷ [] else without_captions p ∷ []
 
 -- ---- an element closes
 
@@ -137,18 +171,31 @@ closed_node r n has_children written =
 abbrev pub completed_entries : OpenElement → Option (List (Entry RenderNode))
 completed_entries p = option_map (λ es. es ++ leaves p.due.back) p.written
 
--- a table on its grid
-abbrev pub closed_table : OpenElement → TableParts → Closed
-closed_table p grid = closed_node role.Contents (record p.node { kind = Table grid }) true p.written
+-- role of what an open element of a kind becomes
+abbrev pub role_left : OpenKind → Role
+role_left (open_kind.Rows rows) = role.Rows rows
+role_left (open_kind.Row cells) = role.Row cells
+role_left (open_kind.Cell span) = role.Cell span
+role_left open_kind.Caption = role.Caption
+role_left _ = role.Contents
+
+-- whether an element writes what is due after its children
+abbrev pub is_completed : OpenKind → Bool
+is_completed (open_kind.Parts spans) = false
+is_completed (open_kind.Rows rows) = false
+is_completed (open_kind.Row cells) = false
+is_completed _ = true
 
 -- an open element of a kind as it closes, unless it vanishes
 abbrev pub closed_as : OpenKind → OpenElement → Closed
 closed_as (open_kind.Rows rows) p =
     record { role = role.Rows rows; kind = p.node.kind; has_children = p.has_children; entries = p.written }
-closed_as (open_kind.Row cells) p = closed_node (role.Row cells) p.node p.has_children p.written
-closed_as (open_kind.Cell span) p = closed_node (role.Cell span) p.node p.has_children (completed_entries p)
-closed_as open_kind.Caption p = closed_node role.Caption p.node p.has_children (completed_entries p)
-closed_as _ p = closed_node role.Contents p.node p.has_children (completed_entries p)
+closed_as kind p =
+    closed_node (role_left kind) p.node (is_table kind || p.has_children) (if is_completed kind then completed_entries p else p.written)
+
+-- a table on its grid
+abbrev pub on_grid : OpenElement → TableParts → OpenElement
+on_grid p grid = record p { node = record p.node { kind = Table grid } }
 
 -- what an element leaves that vanishes: its mark
 abbrev pub mark_left : (mark : Option (List ℕ)) → Option Closed
@@ -159,14 +206,15 @@ unless_vanished p c = if vanishes p.if_empty p.has_results then mark_left p.mark
 
 -- WHAT AN ELEMENT LEAVES that closes, if anything; none if it is a table without a grid
 abbrev pub left_by : OpenKind → OpenElement → Option (Option Closed)
-left_by (open_kind.Parts spans) p = option_map (λ grid. unless_vanished p (closed_table p grid)) (option_map unmeasured_table (cell_grid_of spans))
+left_by (open_kind.Parts spans) p =
+    option_map (λ grid. unless_vanished p (closed_as (open_kind.Parts spans) (on_grid p grid))) (option_map unmeasured_table (cell_grid_of spans))
 left_by kind p = Some (unless_vanished p (closed_as kind p))
 
 -- ---- an open element receives a result
 
 -- whether a result is kept
 abbrev pub accepts : OpenKind → Role → NodeKind → Bool
-accepts (open_kind.Node parent) r kind = keeps parent kind
+accepts (open_kind.Node keeping) r kind = keeps_by keeping kind
 accepts open_kind.Captions r kind = is_caption r
 accepts (open_kind.Parts spans) r kind = are_rows r
 accepts (open_kind.Rows rows) r kind = is_some (row_of r)
@@ -175,7 +223,7 @@ accepts _ r kind = true
 
 -- whether a result counts
 abbrev pub counts_in : OpenKind → Role → NodeKind → (has_children : Bool) → Bool
-counts_in (open_kind.Node parent) r kind has_children = counts parent r kind has_children
+counts_in (open_kind.Node keeping) r kind has_children = counts_by keeping r kind has_children
 counts_in open_kind.Captions r kind has_children = is_caption r
 counts_in (open_kind.Parts spans) r kind has_children = has_children && are_rows r
 counts_in _ r kind has_children = true
@@ -229,16 +277,9 @@ abbrev pub put : RenderNode → List OpenElement → List OpenElement
 put n [] = []
 put n (p ∷ ps) = received (closed_leaf n) p ∷ ps
 
-abbrev pub parted_as : OpenKind → OpenElement → List OpenElement
-parted_as open_kind.Captions p = parted p
-parted_as _ p = p ∷ []
-
-abbrev pub parted_any : OpenElement → List OpenElement
-parted_any p = parted_as p.kind p
-
 abbrev pub all_parted : List OpenElement → List OpenElement
 all_parted [] = []
-all_parted (p ∷ ps) = parted_any p ++ ps
+all_parted (p ∷ ps) = if is_captions p.kind then parted p ++ ps else p ∷ ps
 
 abbrev pub closed_once : List OpenElement → Option (List OpenElement)
 closed_once [] = Some []

@@ -6,7 +6,7 @@ ghost use Rattle.html_render_dom_values.specs.Outcome.{OnlyOutOfMemory};
 ghost use Rattle.html_render_layout_nodes.specs.RenderNodes.{without_style};
 ghost use Rattle.html_render_parts.specs.Refusal.{Fails};
 ghost use Rattle.html_render_tree_convert.specs.OpenElements.{OpenElement, leaf, nothing, root};
-ghost use Rattle.html_render_tree_convert.specs.Opening.{Becomes, Innermost, IsOpen, due_in};
+ghost use Rattle.html_render_tree_convert.specs.Opening.{Becomes, Innermost, due_in};
 ghost use Rattle.html_render_tree_convert.specs.Seen.{Holds, element_seen, is_root};
 ghost use Rattle.html_render_tree_convert.specs.Steps.{closed_leaf, put, received};
 
@@ -150,7 +150,6 @@ impl Conversion {
         requires root { is_root element.kind ≡ false }
         requires holds { Holds element.kind (leaf node ∷ []) }
         ensures ok { OnOk result (self.new ≡ element_seen element (leaf node ∷ []) ∷ self.old) }
-        ensures open { OnOk result (IsOpen self.old) }
         ensures err { OnlyOutOfMemory result }
     {
         if self.elements.is_empty() {
@@ -172,7 +171,6 @@ impl Conversion {
         requires root { is_root element.kind ≡ false }
         requires holds { Holds element.kind [] }
         ensures ok { OnOk result (self.new ≡ element_seen element [] ∷ self.old) }
-        ensures open { OnOk result (IsOpen self.old) }
         ensures err { OnlyOutOfMemory result }
     {
         if self.elements.is_empty() {

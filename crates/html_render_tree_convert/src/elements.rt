@@ -6,10 +6,8 @@ ghost use Rattle.html_render_layout_nodes.specs.declared.tree.Entry.{Entry};
 ghost use Rattle.html_render_layout_nodes.specs.declared.tree.RenderNode.{RenderNode};
 ghost use Rattle.html_render_tree_mapping.specs.Conversion.{vanishes};
 ghost use Rattle.html_render_tree_mapping.specs.Results.{stands_alone};
-ghost use Rattle.html_render_tree_convert.specs.Receiving.{Gathers, counts_for, keeps_in, places};
-ghost use Rattle.html_render_tree_convert.specs.Opening.{is_place};
-ghost use Rattle.html_render_tree_convert.specs.Seen.{Holds, element_seen, is_root, kind_seen, meant};
-ghost use Rattle.html_render_tree_convert.specs.Steps.{accepts, received};
+ghost use Rattle.html_render_tree_convert.specs.Seen.{Gathers, Holds, element_seen, is_root, meant};
+ghost use Rattle.html_render_tree_convert.specs.Steps.{accepts, counts_in, has_place, is_place, received};
 
 use crate::due::Due;
 use crate::kinds::{Keeping, shows_nothing};
@@ -81,7 +79,7 @@ pub enum Place {
 impl OpenKind {
     /// Reports whether an open element of this kind is `place`.
     pub fn is_place(&self, place: Place) -> bool
-        ensures { (own : NodeKind) → result ≡ is_place place (kind_seen self.now own) }
+        ensures { result ≡ is_place place self.now }
     {
         match place {
             Place::Captions => matches!(self, OpenKind::Captions),
@@ -94,7 +92,7 @@ impl OpenKind {
     /// Reports whether it keeps a result of this role and kind.
     #[inline(always)]
     fn keeps(&self, role: &Role, kind: &NodeKind) -> bool
-        ensures { result ≡ keeps_in self.now (meant role.now) kind.now }
+        ensures { result ≡ accepts self.now (meant role.now) kind.now }
     {
         match self {
             OpenKind::Node(keeping) => keeping.keeps(kind),
@@ -109,7 +107,7 @@ impl OpenKind {
     /// Reports whether a result of this role and kind counts.
     #[inline(always)]
     fn counts(&self, role: &Role, kind: &NodeKind, has_children: bool) -> bool
-        ensures { result ≡ counts_for self.now (meant role.now) kind.now has_children }
+        ensures { result ≡ counts_in self.now (meant role.now) kind.now has_children }
     {
         match self {
             OpenKind::Node(Keeping::Shown) => {
@@ -124,7 +122,7 @@ impl OpenKind {
     /// Reports whether a result of this role is in its place, if it is kept.
     #[inline(always)]
     fn has_place(&self, role: &Role) -> bool
-        ensures { result ≡ places self.now (meant role.now) }
+        ensures { result ≡ has_place self.now (meant role.now) }
     {
         match self {
             OpenKind::Parts(_) | OpenKind::Rows(_) | OpenKind::Row(_) => true,

@@ -3,12 +3,12 @@
 ghost use Rattle.std.specs.Prelude.{◌≡◌, ◌||◌, ◌∷◌, ◌++◌, false, if◌then◌else◌, IfErr, List, OnOk, Some, reverse, true};
 ghost use Rattle.html_render_dom_values.specs.Outcome.{OnlyOutOfMemory};
 ghost use Rattle.html_render_parts.specs.Refusal.{Fails};
-ghost use Rattle.html_render_tree_convert.specs.Closing.{ClosesInto, ClosesLast, ClosesNode, ClosesStanding, FailsGrid, FailsToClose, Gridded, are_rows, is_completed, is_parts, role_left, with_given_of, without_given};
+ghost use Rattle.html_render_tree_convert.specs.Closing.{ClosesInto, ClosesLast, ClosesNode, ClosesStanding, FailsGrid, FailsToClose, Gridded, with_given_of, without_given};
 ghost use Rattle.html_render_tree_convert.specs.Held.{due_of};
 ghost use Rattle.html_render_tree_convert.specs.OpenElements.{leaves};
 ghost use Rattle.html_render_tree_convert.specs.Opening.{Becomes};
 ghost use Rattle.html_render_tree_convert.specs.Seen.{meant};
-ghost use Rattle.html_render_tree_convert.specs.Steps.{closed, closed_once, is_wrapped, mark_left, received_any};
+ghost use Rattle.html_render_tree_convert.specs.Steps.{closed, closed_once, is_completed, is_rows, is_table, is_wrapped, mark_left, received_any, role_left};
 
 use super::{Conversion, put_in};
 use crate::builder::{Tree, set_kind, write_size};
@@ -118,7 +118,7 @@ fn close_into(alloc: Global, element: Open, parent: &mut Open, tree: &mut Tree) 
 /// Reports whether an element of this kind is a part of a table.
 #[inline(always)]
 fn are_rows(kind: &OpenKind) -> bool
-    ensures { result ≡ are_rows kind.now }
+    ensures { result ≡ is_rows kind.now }
 {
     matches!(kind, OpenKind::Rows(_))
 }
@@ -173,7 +173,7 @@ fn close_rows(
     parent: &mut Open,
     tree: &mut Tree,
 ) -> Result<(), Error>
-    requires { are_rows element.kind ≡ true }
+    requires { is_rows element.kind ≡ true }
     ensures ok { OnOk result (ClosesInto element parent.old tree.old.items parent.new tree.new.items) }
     ensures err { OnlyOutOfMemory result }
 {
@@ -217,7 +217,7 @@ fn give_back(alloc: Global, element: &mut Open, parent: &mut Open) -> Result<(),
 /// `OutOfMemory` if an allocation is refused.
 #[inline(always)]
 fn close_standing(element: Open, parent: &mut Open, tree: &mut Tree) -> Result<(), Error>
-    requires { are_rows element.kind ≡ false }
+    requires { is_rows element.kind ≡ false }
     ensures ok { OnOk result (ClosesStanding element parent.old tree.old.items parent.new tree.new.items) }
     ensures err { OnlyOutOfMemory result }
 {
@@ -244,7 +244,7 @@ fn close_standing(element: Open, parent: &mut Open, tree: &mut Tree) -> Result<(
 /// `OutOfMemory` if an allocation is refused.
 #[inline(never)]
 fn close_part(element: Open, parent: &mut Open, tree: &mut Tree) -> Result<(), Error>
-    requires { are_rows element.kind ≡ false }
+    requires { is_rows element.kind ≡ false }
     ensures ok { OnOk result (ClosesStanding element parent.old tree.old.items parent.new tree.new.items) }
     ensures err { OnlyOutOfMemory result }
 {
@@ -276,9 +276,9 @@ fn is_completed(kind: &OpenKind) -> bool
 
 /// Reports whether what an element of this kind becomes has children: a table always has some.
 fn has_children_left(kind: &OpenKind, has_children: bool) -> bool
-    ensures { result ≡ (has_children || is_parts kind.now) }
+    ensures { result ≡ (is_table kind.now || has_children) }
 {
-    has_children || matches!(kind, OpenKind::Parts(_))
+    matches!(kind, OpenKind::Parts(_)) || has_children
 }
 
 /// Returns the role of what an element of this kind becomes.

@@ -3,12 +3,13 @@
 ghost use Rattle.std.specs.Prelude.{◌≡◌, [], ◌∷◌, ◌++◌, ◌<◌, IfOk, None, OnOk, Some, false, true, length};
 ghost use Rattle.html_render_dom_values.specs.Outcome.{OnlyOutOfMemory};
 ghost use Rattle.html_render_dom.specs.ElementStyle.{style_of};
+ghost use Rattle.html_render_tree_convert.specs.Keeping.{keeping_of};
 ghost use Rattle.html_render_tree_convert.specs.Held.{due_of, insertion_in, nothing_held};
-ghost use Rattle.html_render_tree_convert.specs.OpenElements.{Node, holder, leaf, leaves, node_in, nothing, text_nodes};
-ghost use Rattle.html_render_tree_convert.specs.Opening.{Becomes, IsOpen, due_in, has_result, innermost, is_in, kind_of_caption};
-ghost use Rattle.html_render_tree_convert.specs.Opening.{left_once, taken, with_captions, without_captions, wrote};
+ghost use Rattle.html_render_tree_convert.specs.OpenElements.{holder, leaf, leaves, node_in, nothing, text_nodes};
+ghost use Rattle.html_render_tree_convert.specs.Opening.{Becomes, due_in, has_result, wrote};
 ghost use Rattle.html_render_tree_convert.specs.Seen.{Holds, element_seen, is_root};
-ghost use Rattle.html_render_tree_convert.specs.Steps.{all_parted, opened, table_in_container};
+ghost use Rattle.html_render_tree_convert.specs.Steps.{all_parted, caption_kind, innermost, is_in, left_once, opened};
+ghost use Rattle.html_render_tree_convert.specs.Steps.{table_in_container, taken, with_captions, without_captions};
 ghost use Rattle.html_render_tree_mapping.specs.ElementTexts.{has_any, no_texts};
 ghost use Rattle.html_render_tree_mapping.specs.Plans.{element_of};
 
@@ -132,7 +133,6 @@ impl Conversion {
         requires holds { Holds element.kind (leaf node ∷ []) }
         ensures ok { OnOk result (self.new
             ≡ wrote (leaves (text_nodes NodeKind.FragmentStart mark ++ text_nodes NodeKind.Text before)) (element_seen element (leaf node ∷ []) ∷ self.old)) }
-        ensures open { OnOk result (IsOpen self.old) }
         ensures err { OnlyOutOfMemory result }
     {
         self.begin(element, node)?;
@@ -144,6 +144,7 @@ impl Conversion {
     /// # Errors
     ///
     /// `OutOfMemory` if an allocation is refused.
+    #[tactic(auto, unfolding(crate::specs::Steps::opened))]
     #[inline(always)]
     fn open_node(
         &mut self,
@@ -207,6 +208,7 @@ impl Conversion {
     /// # Errors
     ///
     /// `OutOfMemory` if an allocation is refused.
+    #[tactic(auto, unfolding(crate::specs::Steps::opened))]
     #[inline(never)]
     fn open_inserting(
         &mut self,
@@ -254,7 +256,7 @@ impl Conversion {
         if_empty: IfEmpty,
     ) -> Result<(), Error>
         ensures ok { OnOk result (self.new
-            ≡ record (holder (Node kind) (node_in style kind) if_empty None nothing false) { is_wrapped = true } ∷ self.old) }
+            ≡ record (holder (OpenKind.Node (keeping_of kind)) (node_in style kind) if_empty None nothing false) { is_wrapped = true } ∷ self.old) }
         ensures err { OnlyOutOfMemory result }
     {
         let keeping = Keeping::of(&kind);
@@ -275,7 +277,7 @@ impl Conversion {
 
     /// Returns the kind of the node of a caption that opens: it is a block in a table whose captions come.
     fn caption_kind(&self) -> NodeKind
-        ensures { result ≡ kind_of_caption self.now }
+        ensures { result ≡ caption_kind (is_in Place.Captions self.now) }
     {
         if self.is_in(Place::Captions) {
             return NodeKind::Block;
@@ -320,10 +322,8 @@ impl Conversion {
         if_empty: IfEmpty,
         texts: ElementTexts,
     ) -> Result<(), Error>
-        ensures body { (style : NodeStyle) → OnOk result (self.new
+        ensures ok { (style : NodeStyle) → OnOk result (self.new
             ≡ opened (record { kind = ElementKind.Part Part.Body; style = style; if_empty = if_empty; texts = texts }) self.old) }
-        ensures foot { (style : NodeStyle) → OnOk result (self.new
-            ≡ opened (record { kind = ElementKind.Part Part.Foot; style = style; if_empty = if_empty; texts = texts }) self.old) }
         ensures err { OnlyOutOfMemory result }
     {
         let in_table = self.is_in(Place::Table);
@@ -340,6 +340,7 @@ impl Conversion {
     /// # Errors
     ///
     /// `OutOfMemory` if an allocation is refused.
+    #[tactic(auto, unfolding(crate::specs::Steps::opened))]
     fn open_row(
         &mut self,
         alloc: Global,
@@ -395,6 +396,7 @@ impl Conversion {
     /// # Errors
     ///
     /// `OutOfMemory` if an allocation is refused.
+    #[tactic(auto, unfolding(crate::specs::Steps::opened))]
     fn open_table(
         &mut self,
         alloc: Global,
@@ -422,6 +424,7 @@ impl Conversion {
     /// # Errors
     ///
     /// `OutOfMemory` if an allocation is refused.
+    #[tactic(auto, unfolding(crate::specs::Steps::opened))]
     fn open_caption(
         &mut self,
         alloc: Global,

@@ -1,5 +1,5 @@
 use Rattle.std.proofs.Common.{◌-◌, vec_len, set, refl, ap, ◌∙◌, arith}
-use Rattle.html_render_tree_convert.specs.Opening.{innermost, without_captions}
+use Rattle.html_render_tree_convert.specs.Steps.{innermost, without_captions}
 use Rattle.html_render_tree_convert.proofs.SeenLemmas.{Changed, changed-last, in-captions, innermost-last}
 use Rattle.html_render_tree_convert.proofs.conversion.Conversion.become_parts.Goals as goal
 use Rattle.html_render_tree_convert.proofs.conversion.Conversion.become_parts.Goals.{In-Some, In_default-make_parts}

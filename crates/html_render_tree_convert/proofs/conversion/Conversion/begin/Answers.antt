@@ -1,9 +1,8 @@
-use Rattle.std.proofs.Common.{[], ◌∷◌, ◌∙◌, ap, subst, arith}
+use Rattle.std.proofs.Common.{[], ◌∷◌, ◌∙◌, ap, arith}
 use Rattle.std.proofs.lemmas.Bool.Decides.{nat_tests}
 use Rattle.html_render_tree_convert.specs.OpenElements.{leaf}
-use Rattle.html_render_tree_convert.specs.Opening.{IsOpen}
 use Rattle.html_render_tree_convert.specs.Seen.{element_seen}
-use Rattle.html_render_tree_convert.proofs.SeenLemmas.{IsOpen-seen, Pushed, pushed}
+use Rattle.html_render_tree_convert.proofs.SeenLemmas.{Pushed, pushed}
 use Rattle.html_render_tree_convert.proofs.conversion.Conversion.begin.Goals as goal
 use Rattle.html_render_tree_convert.proofs.conversion.Conversion.begin.Goals.{In_default}
 
@@ -13,10 +12,6 @@ opened c =
     let e = c.in_default.ensures in
     pushed c.self.inside.elements.items c.begin_in.new.elements.items c.args.element c.self.inside.tree.items (leaf c.args.node ∷ []) c.begin_in.new.tree.items
     e.elements e.tree (grind (arith, nat_tests, c.is_empty.ensures)) c.requires.root c.requires.holds c.self.invariant
-
-pub returns-clause-open : goal.returns-clause-open
-returns-clause-open c =
-    subst IsOpen c.self.view_is (IsOpen-seen c.self.inside.elements.items c.self.inside.tree.items (grind (arith, nat_tests, c.is_empty.ensures)))
 
 pub invariant_of-self-in_default : goal.invariant_of-self-in_default
 invariant_of-self-in_default c = (opened c).0

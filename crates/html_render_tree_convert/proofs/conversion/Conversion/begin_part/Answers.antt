@@ -1,15 +1,10 @@
-use Rattle.std.proofs.Common.{◌≡◌, ℕ, [], ◌∷◌, ◌++◌, ◌∙◌, ap, subst, sym, length, append-nil, arith}
+use Rattle.std.proofs.Common.{◌≡◌, ℕ, [], ◌∷◌, ◌++◌, ◌∙◌, ap, sym, length, append-nil, arith}
 use Rattle.std.proofs.lemmas.Bool.Decides.{nat_tests}
-use Rattle.html_render_tree_convert.specs.Opening.{IsOpen}
 use Rattle.html_render_tree_convert.specs.Seen.{element_seen}
 use Rattle.html_render_tree_convert.specs.declared.elements.Open.{Open}
-use Rattle.html_render_tree_convert.proofs.SeenLemmas.{IsOpen-seen, Pushed, pushed}
+use Rattle.html_render_tree_convert.proofs.SeenLemmas.{Pushed, pushed}
 use Rattle.html_render_tree_convert.proofs.conversion.Conversion.begin_part.Goals as goal
 use Rattle.html_render_tree_convert.proofs.conversion.Conversion.begin_part.Goals.{In_ok-push}
-
-pub returns-clause-open : goal.returns-clause-open
-returns-clause-open c =
-    subst IsOpen c.self.view_is (IsOpen-seen c.self.inside.elements.items c.self.inside.tree.items (grind (arith, nat_tests, c.is_empty.ensures)))
 
 opened : (c : In_ok-push) → Pushed c.self.inside.elements.items c.push.new.self.items c.args.element c.self.inside.tree.items [] c.self.inside.tree.items
 opened c =

@@ -1,5 +1,5 @@
 use Rattle.std.proofs.Common.{◌≡◌, ◌-◌, vec_len, set, refl, ap, ◌∙◌, arith}
-use Rattle.html_render_tree_convert.specs.Opening.{innermost, with_captions}
+use Rattle.html_render_tree_convert.specs.Steps.{innermost, with_captions}
 use Rattle.html_render_tree_convert.specs.declared.elements.OpenKind.TheVariants.{Captions}
 use Rattle.html_render_tree_convert.proofs.SeenLemmas.{Changed, becomes-container, changed-last, in-captions, innermost-last}
 use Rattle.html_render_tree_convert.proofs.conversion.Conversion.keep_captions.Goals as goal

@@ -1,6 +1,5 @@
 use Rattle.std.proofs.Common.{◌-◌, vec_len, set, refl, ap, ◌∙◌, arith}
-use Rattle.html_render_tree_convert.specs.Steps.{closed_leaf, received}
-use Rattle.html_render_tree_convert.specs.Opening.{innermost}
+use Rattle.html_render_tree_convert.specs.Steps.{closed_leaf, innermost, received}
 use Rattle.html_render_tree_convert.proofs.SeenLemmas.{Changed, changed-last, put-innermost}
 use Rattle.html_render_tree_convert.proofs.conversion.Conversion.put.Goals as goal
 use Rattle.html_render_tree_convert.proofs.conversion.Conversion.put.Goals.{In_default-put_in}

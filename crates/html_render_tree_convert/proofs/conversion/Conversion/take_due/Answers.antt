@@ -1,5 +1,6 @@
 use Rattle.std.proofs.Common.{◌-◌, Bool, true, vec_len, set, refl, ap, sym, ◌∙◌, arith}
-use Rattle.html_render_tree_convert.specs.Opening.{Innermost, innermost, left_once, once, taken}
+use Rattle.html_render_tree_convert.specs.Opening.{Innermost}
+use Rattle.html_render_tree_convert.specs.Steps.{innermost, left_once, once, taken}
 use Rattle.html_render_tree_convert.proofs.SeenLemmas.{Changed, becomes-emptied, changed-last, innermost-last}
 use Rattle.html_render_tree_convert.proofs.conversion.Conversion.take_due.Goals as goal
 use Rattle.html_render_tree_convert.proofs.conversion.Conversion.take_due.Goals.{In-Ok}

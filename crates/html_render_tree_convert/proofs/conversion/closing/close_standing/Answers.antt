@@ -1,8 +1,7 @@
 use Rattle.std.proofs.Common.{◌||◌, sym, ap, ◌∙◌}
 use Rattle.html_render_tree_mapping.specs.Results.{Contents}
-use Rattle.html_render_tree_convert.specs.Closing.{is_parts, role_left}
+use Rattle.html_render_tree_convert.specs.Steps.{is_table, role_left}
 use Rattle.html_render_tree_convert.proofs.ClosingElements.{completed, node-standing}
-use Rattle.html_render_tree_convert.proofs.Entries.{or-false}
 use Rattle.html_render_tree_convert.proofs.conversion.closing.close_standing.Goals as goal
 
 pub returns-in-Node-clause-ok : goal.returns-in-Node-clause-ok
@@ -12,5 +11,5 @@ returns-in-Node-clause-ok c =
     Contents o.has_children c.close_node.result c.requires
     (c.in_ok-write_due.ensures.ok ∙ ap (λ k. completed k o c.args.tree.now.items) (sym c.in-Node.is))
     (sym (ap role_left c.in-Node.is))
-    (sym (or-false o.has_children) ∙ ap (λ k. o.has_children || is_parts k) (sym c.in-Node.is))
+    (ap (λ k. is_table k || o.has_children) (sym c.in-Node.is))
     c.close_node.ensures.ok
