@@ -1,7 +1,7 @@
 -- What elements leave in their parents, as code closes them; and the innermost open element closes in that outside it.
 use Rattle.std.proofs.Common.{◌≡◌, ℕ, Bool, true, false, ◌||◌, if◌then◌else◌, Option, Some, None, option_map, List, [], ◌∷◌, ◌++◌, refl, ap, subst, ◌∙◌, append_assoc, ◌+◌, ◌<◌, ◌≤◌, length, take, drop, get_or, set, reverse, sym, arith, take_at, drop_at}
 use Rattle.std.specs.Prelude.{Result, OnOk, IfErr}
-use Rattle.std.proofs.lemmas.Result.{IfOk-weaker, IfErr-weaker}
+use Rattle.std.proofs.lemmas.Result.{IfErr-weaker, on_ok_weaker}
 use Rattle.html_render_dom_values.specs.declared.errors.Error.{Error}
 use Rattle.html_render_layout_nodes.specs.declared.tree.Entry.{Entry}
 use Rattle.html_render_layout_nodes.specs.declared.tree.NodeKind.TheVariants.{Container, Table}
@@ -79,8 +79,7 @@ pub node-standing : (o parent new : Open) (old written after : Entries) (r : Rol
     is_rows o.kind ≡ false → written ≡ completed o.kind o old → r ≡ role_left o.kind → has_children ≡ (is_table o.kind || o.has_children) →
     OnOk result (ClosesNode r has_children o.is_stray o.start parent written new after) → OnOk result (ClosesStanding o parent old new after)
 node-standing o parent new old written after r has_children result rows done is_role is_filled =
-    IfOk-weaker result (λ _. ClosesNode r has_children o.is_stray o.start parent written new after) (λ _. ClosesStanding o parent old new after)
-    (λ _ closes is_outermost before below p q l m.
+    on_ok_weaker result (λ closes is_outermost before below p q l m.
     let a = as-closed o.kind o l.own l.root rows l.holds in
     let c : closed_entries r has_children o.is_stray a.first a.others ≡ closed_as p.kind p =
     ap (λ b. closed_entries r b o.is_stray a.first a.others) is_filled
@@ -152,8 +151,7 @@ module _ (o parent new : Open) (old grid after : Entries) (rows : is_rows o.kind
       dropping ≡ take o.start grid → mark ≡ o.due.mark → OnOk result (Becomes (received_any (mark_left mark)) parent new dropping after) →
       OnOk result (ClosesInto o parent old new after)
   vanished-into result dropping mark v is_dropped mark_is =
-      IfOk-weaker result (λ _. Becomes (received_any (mark_left mark)) parent new dropping after) (λ _. ClosesInto o parent old new after)
-      (λ _ puts is_outermost before below p q l m. subst (λ x. ClosedIn x q is_outermost below new after) l.is_seen
+      on_ok_weaker result (λ puts is_outermost before below p q l m. subst (λ x. ClosedIn x q is_outermost below new after) l.is_seen
       (let g = in-grid before l.own l.root l.holds l.entries_are l.start_is in
       let left : dropping ≡ before = is_dropped ∙ ap (take o.start) g.level.entries_are ∙ take_at before g.level.own o.start (sym l.start_is) in record {
         left = mark_left o.due.mark;
@@ -167,8 +165,7 @@ module _ (o parent new : Open) (old grid after : Entries) (rows : is_rows o.kind
   pub standing-into : (result : Result (Unit {0}) Error) → vanishes o.if_empty o.has_results ≡ false →
       OnOk result (ClosesStanding o parent grid new after) → OnOk result (ClosesInto o parent old new after)
   standing-into result v =
-      IfOk-weaker result (λ _. ClosesStanding o parent grid new after) (λ _. ClosesInto o parent old new after)
-      (λ _ closes is_outermost before below p q l m. subst (λ x. ClosedIn x q is_outermost below new after) l.is_seen
+      on_ok_weaker result (λ closes is_outermost before below p q l m. subst (λ x. ClosedIn x q is_outermost below new after) l.is_seen
       (let g = in-grid before l.own l.root l.holds l.entries_are l.start_is in
       let c = closed_as g.now.kind g.now in record {
         left = Some c;
@@ -215,8 +212,7 @@ module _ (o parent element given new : Open) (old after : Entries) (rows : is_ro
       vanishes element.if_empty element.has_results ≡ true → dropping ≡ take element.start old → mark ≡ element.due.mark →
       OnOk result (Becomes (received_any (mark_left mark)) given new dropping after) → OnOk result (ClosesInto o parent old new after)
   rows-vanished result dropping mark v is_dropped mark_is =
-      IfOk-weaker result (λ _. Becomes (received_any (mark_left mark)) given new dropping after) (λ _. ClosesInto o parent old new after)
-      (λ _ puts is_outermost before below p q l m. subst (λ x. ClosedIn x q is_outermost below new after) l.is_seen
+      on_ok_weaker result (λ puts is_outermost before below p q l m. subst (λ x. ClosedIn x q is_outermost below new after) l.is_seen
       (let left : dropping ≡ before = is_dropped ∙ front before l.own l.entries_are l.start_is in
       let back = with_given (element_seen o l.own).given q in
       let is_mark : mark ≡ o.due.mark = mark_is ∙ ap (λ (x : Open). x.due.mark) element_is ∙ mark-kept o parent in record {
@@ -260,8 +256,7 @@ pub closed-last : (result : Result (Unit {0}) Error) (os popped : List Open) (n 
     n + 1 ≡ length popped → parent ≡ get_or popped n parent → OnOk result (ClosesInto o parent old new after) →
     OnOk result (ClosesLast os old (set popped n new) after)
 closed-last result os popped n o parent new old after is_popped many is_last =
-    IfOk-weaker result (λ _. ClosesInto o parent old new after) (λ _. ClosesLast os old (set popped n new) after)
-    (λ _ closes. λ p q rest e.
+    on_ok_weaker result (λ closes p q rest e.
     let front = take n popped in
     let was = last-first p o (q ∷ rest) (reverse popped) (sym e ∙ reversed-popped os popped o is_popped) in
     let before = last-first q parent rest (reverse front) (was.1 ∙ reversed-popped popped front parent (last-split popped n parent many is_last)) in (

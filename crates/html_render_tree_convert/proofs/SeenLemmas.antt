@@ -11,7 +11,7 @@ use Rattle.html_render_tree_convert.specs.OpenElements as elements
 use Rattle.html_render_tree_convert.specs.Opening.{Becomes, Innermost, wrote}
 use Rattle.html_render_tree_convert.specs.declared.elements.Place.TheVariants as place
 use Rattle.html_render_tree_convert.specs.Seen.{AllHold, Holds, IsSound, Level, element_seen, given_in, has_entry, inside, is_none, is_root, own_node, seen}
-use Rattle.html_render_tree_convert.specs.Steps.{Closed, closed_leaf, innermost, is_captions, is_in, is_rows, once, put, received, with_captions, with_given, without_captions}
+use Rattle.html_render_tree_convert.specs.Steps.{Closed, innermost, is_captions, is_in, is_rows, once, received, with_captions, with_given, without_captions}
 use Rattle.html_render_tree_mapping.specs.declared.mapping.IfEmpty.TheVariants.{Stands}
 use Rattle.html_render_tree_convert.specs.declared.elements.Open.{Open}
 use Rattle.html_render_tree_convert.specs.declared.elements.OpenKind.{OpenKind}
@@ -70,10 +70,6 @@ becomes-alone f old new es start root h is_outermost below p l =
       holds = x.0;
       is_seen = x.1 ∙ ap f l.is_seen;
     }
-
-pub put-innermost : (n : RenderNode) (ps : List OpenElement) → innermost (received (closed_leaf n)) ps ≡ put n ps
-put-innermost n [] = refl
-put-innermost n (p ∷ ps) = refl
 
 -- the innermost open element is the last
 pub innermost-last : (os now : List Open) (n : ℕ) (es : Entries) (o : Open) (ps : List OpenElement) → now ≡ os → n + 1 ≡ length now → o ≡ get_or now n o →
@@ -249,8 +245,7 @@ emptied-seen k o own = refl
 
 pub becomes-emptied : (old new : Open) (es : Entries) → new ≡ emptied old → Becomes once old new es es
 becomes-emptied old new es e =
-    becomes-alone once old new es (ap (λ (o : Open). o.start) e) (ap (λ (o : Open). is_root o.kind) e)
-    (λ own h. (subst (λ (o : Open). Holds o.kind own) (sym e) h, ap (λ o. element_seen o own) e ∙ emptied-seen old.kind old own))
+    subst (λ x. Becomes once old x es es) (sym e) (becomes-alone once old (emptied old) es refl refl (λ own h. (h, emptied-seen old.kind old own)))
 
 -- a table is given an insertion back
 given-seen : (k j : OpenKind) (g : Bool) (o parent : Open) (own : Entries) → is_rows k ≡ true →
@@ -266,8 +261,8 @@ given-seen k j g o parent own e = cc
 pub becomes-given : (o old new : Open) (es : Entries) → is_rows o.kind ≡ true → new ≡ with_given_of o old →
     Becomes (with_given (given_in o.kind o.is_given o.due.outer)) old new es es
 becomes-given o old new es rows e =
-    becomes-alone (with_given (given_in o.kind o.is_given o.due.outer)) old new es (ap (λ (x : Open). x.start) e) (ap (λ (x : Open). is_root x.kind) e)
-    (λ own h. (subst (λ (x : Open). Holds x.kind own) (sym e) h, ap (λ x. element_seen x own) e ∙ given-seen o.kind old.kind o.is_given o old own rows))
+    subst (λ x. Becomes (with_given (given_in o.kind o.is_given o.due.outer)) old x es es) (sym e)
+    (becomes-alone _ old (with_given_of o old) es refl refl (λ own h. (h, given-seen o.kind old.kind o.is_given o old own rows)))
 
 -- ---- the captions of a table have come
 

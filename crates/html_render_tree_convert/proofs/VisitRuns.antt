@@ -96,9 +96,6 @@ run-append : (xs ys : List Event) (cs : Stack) → run (xs ++ ys) cs ≡ (run xs
 run-append [] ys cs = refl
 run-append (x ∷ xs) ys cs = then-then (run xs) (run ys) (run (xs ++ ys)) (run-append xs ys) (after x cs)
 
-pub fails-same : {X : Type 0} (e : Error) (o wanted : Option X) → o ≡ wanted → Fails e o → Fails e wanted
-fails-same e o wanted same h = Fails-same e wanted o (sym same) h
-
 -- an error that is handed on
 pub fails-handed : {X Y : Type 0} (r : Outcome X Error) (e : Error) (wanted : Option Y) → IsErrAnd r (λ f. f ≡ e) → Fails e wanted →
     IfErr r (λ f. Fails f wanted)
@@ -115,15 +112,16 @@ module _ (rules : List StyleRule) (dom : Dom) where
   rest_run ps cs = run (visits_events rules dom (coming dom ps)) cs
 
   -- a visit is done, and the events that come end as all events do
-  goes-on : (plan : Plan) (h : ℕ) (ps qs : List Position) (cs ds : Stack) → (run (done_at_once plan) cs >>= rest_run (followed plan h ps)) ≡ whole_run →
+  pub goes-on : (plan : Plan) (h : ℕ) (ps qs : List Position) (cs ds : Stack) → (run (done_at_once plan) cs >>= rest_run (followed plan h ps)) ≡ whole_run →
       qs ≡ followed plan h ps → run (done_at_once plan) cs ≡ Some ds → rest_run qs ds ≡ whole_run
   goes-on plan h ps qs cs ds all qs_is done =
       ap (λ l. rest_run l ds) qs_is ∙ sym (ap (λ o. o >>= rest_run (followed plan h ps)) done) ∙ all
 
   -- where a step of the run fails, the document can't be converted
-  fails-whole : (e : Error) (step : Option Stack) (rest : Stack → Option Stack) → (step >>= rest) ≡ whole_run → Fails e step →
-      Fails e (converted rules (tree_of dom 0))
-  fails-whole e step rest all fails = Fails-then e whole_run all_written (fails-same e _ whole_run all (Fails-then e step rest fails))
+  pub fails-whole : {X : Type 0} (r : Outcome X Error) (e : Error) (step : Option Stack) (ps : List Position) → (step >>= rest_run ps) ≡ whole_run →
+      Fails e step → IsErrAnd r (λ f. f ≡ e) → IfErr r (λ f. Fails f (converted rules (tree_of dom 0)))
+  fails-whole r e step ps all fails is =
+      fails-handed r e _ is (Fails-then e whole_run all_written (Fails-same e whole_run _ (sym all) (Fails-then e step (rest_run ps) fails)))
 
   module _ (forest : IsForest dom) where
     -- a visit of a node: what is done at once, and then what comes
@@ -137,39 +135,17 @@ module _ (rules : List StyleRule) (dom : Dom) where
         ap (λ l. run l (opened e cs)) (sym (comes-entered rules dom forest h (All-children dom forest h (children_at dom h) refl) ps e.kind))
 
     -- the document's own node
-    pub starts : (run (done_at_once (plan_at rules dom 0)) (root ∷ []) >>= rest_run (followed (plan_at rules dom 0) 0 [])) ≡ whole_run
-    starts =
+    pub starts : (h : ℕ) (ps : List Position) (cs : Stack) → h ≡ 0 → ps ≡ [] → cs ≡ root ∷ [] →
+        (run (done_at_once (plan_at rules dom h)) cs >>= rest_run (followed (plan_at rules dom h) h ps)) ≡ whole_run
+    starts h ps cs h_is ps_is cs_is =
         let Kids : Forest Content → Option Stack = λ t. run (events rules (node (content_at dom 0) t none) all_children) (root ∷ []) in
-        sym (ap Kids (below-children dom forest 0 forest.has_document) ∙ follows (plan_at rules dom 0) 0 [] (root ∷ []))
+        rw (h_is, ps_is, cs_is) (sym (ap Kids (below-children dom forest 0 forest.has_document) ∙ follows (plan_at rules dom 0) 0 [] (root ∷ [])))
 
     -- a node that comes
     pub visits-node : (h : ℕ) (old ps : List Position) (cs : Stack) → coming dom old ≡ Node h ∷ coming dom ps → rest_run old cs ≡ whole_run →
         (run (done_at_once (plan_at rules dom h)) cs >>= rest_run (followed (plan_at rules dom h) h ps)) ≡ whole_run
     visits-node h old ps cs comes so_far =
         sym (follows (plan_at rules dom h) h ps cs) ∙ sym (ap (λ vs. run (visits_events rules dom vs) cs) comes) ∙ so_far
-
-    -- the document's own node is done
-    pub started : (plan : Plan) (h : ℕ) (ps qs : List Position) (cs ds : Stack) → plan ≡ plan_at rules dom h → h ≡ 0 → ps ≡ [] → cs ≡ root ∷ [] →
-        qs ≡ followed plan h ps → run (done_at_once plan) cs ≡ Some ds → rest_run qs ds ≡ whole_run
-    started plan h ps qs cs ds plan_is h_is ps_is cs_is = goes-on plan h ps qs cs ds (rw (plan_is, h_is, ps_is, cs_is) starts)
-
-    -- where it can't be done, the document can't be converted
-    pub start-fails : (e : Error) (plan : Plan) (h : ℕ) (cs : Stack) → plan ≡ plan_at rules dom h → h ≡ 0 → cs ≡ root ∷ [] →
-        Fails e (run (done_at_once plan) cs) → Fails e (converted rules (tree_of dom 0))
-    start-fails e plan h cs plan_is h_is cs_is = fails-whole e _ (rest_run (followed plan h [])) (rw (plan_is, h_is, cs_is) starts)
-
-    -- a node that comes is done
-    pub went_on : (plan : Plan) (h : ℕ) (old ps qs : List Position) (cs ds : Stack) → plan ≡ plan_at rules dom h →
-        coming dom old ≡ Node h ∷ coming dom ps → qs ≡ followed plan h ps → run (done_at_once plan) cs ≡ Some ds → rest_run old cs ≡ whole_run →
-        rest_run qs ds ≡ whole_run
-    went_on plan h old ps qs cs ds plan_is comes qs_is done so_far =
-        goes-on plan h ps qs cs ds (rw plan_is (visits-node h old ps cs comes so_far)) qs_is done
-
-    pub node-fails : (e : Error) (plan : Plan) (h : ℕ) (old ps : List Position) (cs : Stack) → plan ≡ plan_at rules dom h →
-        coming dom old ≡ Node h ∷ coming dom ps → rest_run old cs ≡ whole_run → Fails e (run (done_at_once plan) cs) →
-        Fails e (converted rules (tree_of dom 0))
-    node-fails e plan h old ps cs plan_is comes so_far =
-        fails-whole e _ (rest_run (followed plan h ps)) (rw plan_is (visits-node h old ps cs comes so_far))
 
   -- positions stay at nodes
   pub followed-nodes : (plan : Plan) (h : ℕ) (ps : List Position) → IsNode dom h → All (λ p. IsNode dom p.element) ps →
@@ -182,10 +158,6 @@ module _ (rules : List StyleRule) (dom : Dom) where
   pub visits-close : (old ps : List Position) (cs : Stack) → coming dom old ≡ Close ∷ coming dom ps → rest_run old cs ≡ whole_run →
       (closed cs >>= rest_run ps) ≡ whole_run
   visits-close old ps cs comes so_far = sym (ap (λ vs. run (visits_events rules dom vs) cs) comes) ∙ so_far
-
-  pub close-fails : (e : Error) (old ps : List Position) (cs : Stack) → coming dom old ≡ Close ∷ coming dom ps → rest_run old cs ≡ whole_run →
-      Fails e (closed cs) → Fails e (converted rules (tree_of dom 0))
-  close-fails e old ps cs comes so_far = fails-whole e (closed cs) (rest_run ps) (visits-close old ps cs comes so_far)
 
   -- nothing comes
   pub ended : (ps : List Position) (cs : Stack) → coming dom ps ≡ [] → rest_run ps cs ≡ whole_run → whole_run ≡ Some cs

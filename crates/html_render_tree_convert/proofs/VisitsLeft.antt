@@ -7,6 +7,7 @@ use Rattle.std.proofs.lemmas.Slice.Eq.{bytes_eq-Decides}
 use Rattle.html_render_dom_nodes.specs.Content.{Content, element as element_content, is_html}
 use Rattle.html_render_dom_values.specs.Forest.{count, Forest, none, node}
 use Rattle.html_render_dom.specs.Dom.{Dom, IsForest, IsNode, children_at, content_at, tree_of, trees_of, IsInclusiveAncestor, above, below, itself, node_count, parent_at}
+use Rattle.html_render_dom.proofs.Changed.{descend}
 use Rattle.html_render_dom.proofs.Lists.{first_apart}
 use Rattle.html_render_dom.specs.laws.Trees.{below-children, IsInclusiveAncestor-cases, IsInclusiveAncestor-no_loop}
 use Rattle.html_render_tree_mapping.specs.declared.mapping.ElementKind.{ElementKind}
@@ -28,6 +29,7 @@ use Rattle.html_render_dom_styles.specs.Rules.{Rule as StyleRule}
 use Rattle.html_render_dom.specs.laws.Forests.{IsDistinct-nil, below_or_not, children_at-past}
 use Rattle.html_render_dom.specs.laws.Members.{Contains-head, Contains-tail}
 use Rattle.html_render_tree_mapping.specs.Plans.{plan_at}
+use Rattle.html_render_tree_convert.proofs.Closing.{filter-all}
 
 -- no element is both a caption and a foot by its name
 one_name : (c : Content) → (is_named (codes "caption") c && is_named (codes "tfoot") c) ≡ false
@@ -79,10 +81,6 @@ module _ (size : ℕ → ℕ) (end : ℕ) where
         picked-one h hs (picked Captions dom hs) (picked Others dom hs) (picked Feet dom hs) (is_named (codes "caption") c)
         (is_named (codes "tfoot") c) (one_name c) (parts-all hs)
 
-    picked-all : (hs : List ℕ) → picked all_children dom hs ≡ hs
-    picked-all [] = refl
-    picked-all (h ∷ hs) = ap (λ l. h ∷ l) (picked-all hs)
-
     module _ (h : ℕ) (ps : List Position) where
       abbrev hs : List ℕ
       hs = children_at dom h
@@ -93,7 +91,7 @@ module _ (size : ℕ → ℕ) (end : ℕ) where
             arith,
             left-append (nodes (picked all_children dom hs)) (Close ∷ coming dom ps),
             left-nodes (picked all_children dom hs),
-            ap sizes (picked-all hs),
+            ap sizes (filter-all hs),
           )
 
       table-entered : left (coming dom (entered h Captions ∷ ps)) ≤ sizes hs + (end + end) + left (coming dom ps)
@@ -185,11 +183,6 @@ distinct-once (y ∷ hs) h =
 -- ---- ancestors
 
 module _ (dom : Dom) (forest : IsForest dom) where
-  -- a parent of an inclusive ancestor is one
-  raised : (h k : ℕ) {x : ℕ} → parent_at dom k ≡ Some h → IsInclusiveAncestor dom k x → IsInclusiveAncestor dom h x
-  raised h k e itself = above h e itself
-  raised h k e (above p f r) = above p f (raised h k e r)
-
   -- of two inclusive ancestors of a node one is that of the other
   in_line : (a b : ℕ) {y : ℕ} → IsInclusiveAncestor dom a y → IsInclusiveAncestor dom b y → IsInclusiveAncestor dom a b ⊎ IsInclusiveAncestor dom b a
   in_line a b itself s = inr s
@@ -236,7 +229,7 @@ module _ (dom : Dom) (forest : IsForest dom) where
         elim (cases_Bool (eqb x h)) [
           | inl e ↦ subst (λ z. IsInclusiveAncestor dom h z) (sym (eqb-true x h e)) itself
           | inr e ↦ (let f = inside (omega (arith, lt, one-no x h e)) in
-              raised h f.root (forest.child_names_parent h f.root f.member) f.over)
+              descend dom h f.root (forest.child_names_parent h f.root f.member) f.over)
         ]
 
     found : (t : Forest Content) (hs : List ℕ) → 0 < times t hs → Found hs

@@ -274,8 +274,7 @@ with_given (Some due) p = if is_table p.kind then record p { due = due } else p
 -- ---- events
 
 abbrev pub put : RenderNode → List OpenElement → List OpenElement
-put n [] = []
-put n (p ∷ ps) = received (closed_leaf n) p ∷ ps
+put n ps = innermost (received (closed_leaf n)) ps
 
 abbrev pub all_parted : List OpenElement → List OpenElement
 all_parted [] = []

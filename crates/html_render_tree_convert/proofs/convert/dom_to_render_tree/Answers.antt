@@ -1,8 +1,9 @@
 use Rattle.std.proofs.Common.{ap, Some, sym, ◌∙◌, map}
 use Rattle.html_render_dom_styles.specs.Rules.{rule_of}
+use Rattle.html_render_parts.specs.laws.Refusal.{Fails-same}
 use Rattle.html_render_tree_mapping.specs.Results.{render_tree_of}
 use Rattle.html_render_tree_convert.proofs.Running.{documents_convert}
-use Rattle.html_render_tree_convert.proofs.VisitRuns.{Written, fails-handed, fails-same, fails-tree, written}
+use Rattle.html_render_tree_convert.proofs.VisitRuns.{Written, fails-handed, fails-tree, written}
 use Rattle.html_render_tree_convert.proofs.convert.dom_to_render_tree.Goals as goal
 use Rattle.html_render_tree_convert.proofs.convert.dom_to_render_tree.Goals.{In_ok-entries}
 
@@ -27,4 +28,4 @@ returns-in_err-entries-clause-err c =
     let dom = c.args.dom.now in
     let e = c.in_err-entries.field-0.0 in
     fails-handed c.from_residual.result e _ c.from_residual.ensures.1
-    (fails-tree e (render_tree_of rules dom) (fails-same e _ _ (documents_convert rules dom) c.in_err-entries.ensures.err))
+    (fails-tree e (render_tree_of rules dom) (Fails-same e _ _ (sym (documents_convert rules dom)) c.in_err-entries.ensures.err))

@@ -3,11 +3,12 @@ use Rattle.std.proofs.lemmas.List.Elements.{All-nil}
 use Rattle.std.proofs.lemmas.Result.{IfErr-weaker, IfOk-weaker}
 use Rattle.html_render_dom_styles.specs.Rules.{rule_of}
 use Rattle.html_render_dom.specs.Dom.{IsNode, tree_of}
+use Rattle.html_render_parts.specs.laws.Refusal.{Fails-same}
 use Rattle.html_render_tree_mapping.specs.Plans.{plan_at}
-use Rattle.html_render_tree_convert.specs.Walk.{coming}
+use Rattle.html_render_tree_convert.specs.Walk.{coming, followed}
 use Rattle.html_render_tree_convert.specs.declared.cursor.Position.{Position}
 use Rattle.html_render_tree_convert.specs.declared.cursor.Visit.TheVariants.{Node}
-use Rattle.html_render_tree_convert.proofs.VisitRuns.{close-fails, ended, fails-handed, fails-same, followed-nodes, node-fails, start-fails, one_left, started, went_on}
+use Rattle.html_render_tree_convert.proofs.VisitRuns.{ended, fails-whole, followed-nodes, goes-on, one_left, starts, visits-close, visits-node}
 use Rattle.html_render_tree_convert.proofs.VisitsLeft.{node-less, work}
 use Rattle.html_render_tree_convert.proofs.convert.entries_of.Goals as goal
 use Rattle.html_render_tree_convert.proofs.convert.entries_of.Goals.{In-Node, In_ok-convert_node-in-Node}
@@ -22,9 +23,10 @@ visits-init c =
     let none : All holds c.new-cursor.result = subst (All holds) (sym c.new-cursor.ensures) (All-nil holds) in
     let at : IsNode dom document = subst (IsNode dom) (sym c.get_document.ensures.document) forest.has_document in
     record {
-      comes = started rules dom forest (plan_at rules dom document) document c.new-cursor.result c.convert_node.new.cursor
-          c.in_ok-conversion.conversion c.convert_node.new.conversion refl c.get_document.ensures.document
-          c.new-cursor.ensures c.in_ok-conversion.ensures.ok c.in_ok-convert_node.ensures.cursor c.in_ok-convert_node.ensures.ok;
+      comes = goes-on rules dom (plan_at rules dom document) document c.new-cursor.result c.convert_node.new.cursor
+          c.in_ok-conversion.conversion c.convert_node.new.conversion
+          (starts rules dom forest document c.new-cursor.result c.in_ok-conversion.conversion c.get_document.ensures.document c.new-cursor.ensures
+          c.in_ok-conversion.ensures.ok) c.in_ok-convert_node.ensures.cursor c.in_ok-convert_node.ensures.ok;
       nodes = subst (All holds) (sym c.in_ok-convert_node.ensures.cursor)
           (followed-nodes rules dom (plan_at rules dom document) document c.new-cursor.result at none);
     }
@@ -57,36 +59,41 @@ visits-preserved-in-Continue-branch-4 c =
     let plan = plan_at (map rule_of c.args.rules.now) c.args.dom.now c.in-Node.node in
     let h = c.in-Node.node in
     record {
-      comes = went_on rules dom c.get_document.ensures.forest plan h c.visits.cursor ps c.convert_node-in-Node.new.cursor
-          c.visits.conversion c.convert_node-in-Node.new.conversion refl (comes-node m)
-          c.in_ok-convert_node-in-Node.ensures.cursor c.in_ok-convert_node-in-Node.ensures.ok c.visits.invariant.comes;
+      comes = goes-on rules dom plan h ps c.convert_node-in-Node.new.cursor c.visits.conversion c.convert_node-in-Node.new.conversion
+          (visits-node rules dom c.get_document.ensures.forest h c.visits.cursor ps c.visits.conversion (comes-node m) c.visits.invariant.comes)
+          c.in_ok-convert_node-in-Node.ensures.cursor c.in_ok-convert_node-in-Node.ensures.ok;
       nodes = subst (All holds) (sym c.in_ok-convert_node-in-Node.ensures.cursor)
           (followed-nodes rules dom plan h ps (node-visited m) c.next.ensures.nodes);
     }
 
 pub returns-in_err-convert_node-clause-err : goal.returns-in_err-convert_node-clause-err
 returns-in_err-convert_node-clause-err c =
-    let e = c.in_err-convert_node.field-0.0 in
-    fails-handed c.from_residual-in_err-convert_node.result e _ c.from_residual-in_err-convert_node.ensures.1
-    (start-fails (map rule_of c.args.rules.now) c.args.dom.now c.get_document.ensures.forest e (plan_at (map rule_of c.args.rules.now) c.args.dom.now c.get_document.result)
-    c.get_document.result c.in_ok-conversion.conversion refl c.get_document.ensures.document
-    c.in_ok-conversion.ensures.ok c.in_err-convert_node.ensures.err)
+    let dom = c.args.dom.now in
+    let rules = map rule_of c.args.rules.now in
+    let h = c.get_document.result in
+    fails-whole rules dom c.from_residual-in_err-convert_node.result c.in_err-convert_node.field-0.0 _ (followed (plan_at rules dom h) h [])
+    (starts rules dom c.get_document.ensures.forest h [] c.in_ok-conversion.conversion c.get_document.ensures.document refl
+    c.in_ok-conversion.ensures.ok) c.in_err-convert_node.ensures.err c.from_residual-in_err-convert_node.ensures.1
 
 pub returns-in_err-convert_node-in-Node-clause-err : goal.returns-in_err-convert_node-in-Node-clause-err
 returns-in_err-convert_node-in-Node-clause-err c =
+    let dom = c.args.dom.now in
+    let rules = map rule_of c.args.rules.now in
     let m = (goal.at.returns-in_err-convert_node-in-Node-clause-err c).In-Node in
-    let e = c.in_err-convert_node-in-Node.field-0.0 in
-    fails-handed c.from_residual-in_err-convert_node-in-Node.result e _ c.from_residual-in_err-convert_node-in-Node.ensures.1
-    (node-fails (map rule_of c.args.rules.now) c.args.dom.now c.get_document.ensures.forest e (plan_at (map rule_of c.args.rules.now) c.args.dom.now c.in-Node.node)
-    c.in-Node.node c.visits.cursor c.next.new.self c.visits.conversion refl (comes-node m)
-    c.visits.invariant.comes c.in_err-convert_node-in-Node.ensures.err)
+    let h = c.in-Node.node in
+    let ps = c.next.new.self in
+    fails-whole rules dom c.from_residual-in_err-convert_node-in-Node.result c.in_err-convert_node-in-Node.field-0.0 _ (followed (plan_at rules dom h) h ps)
+    (visits-node rules dom c.get_document.ensures.forest h c.visits.cursor ps c.visits.conversion (comes-node m) c.visits.invariant.comes)
+    c.in_err-convert_node-in-Node.ensures.err c.from_residual-in_err-convert_node-in-Node.ensures.1
 
 pub returns-in_err-close-in-Close-clause-err : goal.returns-in_err-close-in-Close-clause-err
 returns-in_err-close-in-Close-clause-err c =
-    let e = c.in_err-close-in-Close.field-0.0 in
-    fails-handed c.from_residual-in_err-close-in-Close.result e _ c.from_residual-in_err-close-in-Close.ensures.1
-    (close-fails (map rule_of c.args.rules.now) c.args.dom.now e c.visits.cursor c.next.new.self c.visits.conversion
-    (rw c.in-Close.is at (rw c.in-Some.is at c.next.ensures.visit)) c.visits.invariant.comes c.in_err-close-in-Close.ensures.err)
+    let dom = c.args.dom.now in
+    let rules = map rule_of c.args.rules.now in
+    let ps = c.next.new.self in
+    fails-whole rules dom c.from_residual-in_err-close-in-Close.result c.in_err-close-in-Close.field-0.0 _ ps
+    (visits-close rules dom c.visits.cursor ps c.visits.conversion (rw c.in-Close.is at (rw c.in-Some.is at c.next.ensures.visit))
+    c.visits.invariant.comes) c.in_err-close-in-Close.ensures.err c.from_residual-in_err-close-in-Close.ensures.1
 
 pub returns-clause-ok : goal.returns-clause-ok
 returns-clause-ok c =
@@ -102,4 +109,4 @@ returns-clause-err c =
     let rules = map rule_of c.args.rules.now in
     let over : coming dom c.visits.cursor ≡ [] = rw c.in_default.is at c.next.ensures.visit in
     let left = one_left rules (tree_of dom 0) c.visits.conversion (ended rules dom c.visits.cursor c.visits.conversion over c.visits.invariant.comes) in
-    IfErr-weaker c.into_entries.result _ _ (λ e fails. fails-same e left.0.written _ (sym left.2) fails) (c.into_entries.ensures.err left.0 left.1)
+    IfErr-weaker c.into_entries.result _ _ (λ e fails. Fails-same e _ left.0.written left.2 fails) (c.into_entries.ensures.err left.0 left.1)

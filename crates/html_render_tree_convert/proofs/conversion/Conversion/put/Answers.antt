@@ -1,6 +1,6 @@
 use Rattle.std.proofs.Common.{◌-◌, vec_len, set, refl, ap, ◌∙◌, arith}
 use Rattle.html_render_tree_convert.specs.Steps.{closed_leaf, innermost, received}
-use Rattle.html_render_tree_convert.proofs.SeenLemmas.{Changed, changed-last, put-innermost}
+use Rattle.html_render_tree_convert.proofs.SeenLemmas.{Changed, changed-last}
 use Rattle.html_render_tree_convert.proofs.conversion.Conversion.put.Goals as goal
 use Rattle.html_render_tree_convert.proofs.conversion.Conversion.put.Goals.{In_default-put_in}
 
@@ -16,5 +16,4 @@ pub invariant_of-self-in_default-put_in : goal.invariant_of-self-in_default-put_
 invariant_of-self-in_default-put_in c = (changed c).0
 
 pub returns-clause-ok : goal.returns-clause-ok
-returns-clause-ok c =
-    (changed c).1 ∙ ap (innermost (received (closed_leaf c.args.node))) c.self.view_is ∙ put-innermost c.args.node c.args.self.now
+returns-clause-ok c = (changed c).1 ∙ ap (innermost (received (closed_leaf c.args.node))) c.self.view_is
