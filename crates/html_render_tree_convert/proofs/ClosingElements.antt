@@ -1,7 +1,7 @@
 -- What elements leave in their parents, as code closes them; and the innermost open element closes in that outside it.
 use Rattle.std.proofs.Common.{◌≡◌, ℕ, Bool, true, false, ◌||◌, if◌then◌else◌, Option, Some, None, option_map, List, [], ◌∷◌, ◌++◌, refl, ap, subst, ◌∙◌, append_assoc, ◌+◌, ◌<◌, ◌≤◌, length, take, drop, get_or, set, reverse, sym, arith, take_at, drop_at}
-use Rattle.std.specs.Prelude.{Result, OnOk, IfErr}
-use Rattle.std.proofs.lemmas.Result.{IfErr-weaker, on_ok_weaker}
+use Rattle.std.specs.Prelude.{Result, OnOk}
+use Rattle.std.proofs.lemmas.Result.{on_ok_weaker}
 use Rattle.html_render_dom_values.specs.declared.errors.Error.{Error}
 use Rattle.html_render_layout_nodes.specs.declared.tree.Entry.{Entry}
 use Rattle.html_render_layout_nodes.specs.declared.tree.NodeKind.TheVariants.{Container, Table}
@@ -266,14 +266,6 @@ closed-last result os popped n o parent new old after is_popped many is_last =
         subst (λ x. ClosesInto x q old new after) (sym was.0) (subst (λ x. ClosesInto o x old new after) (sym before.0) closes),
       ),
     ))
-
-pub fails-last : (result : Result (Unit {0}) Error) (os popped : List Open) (o : Open) → os ≡ popped ++ o ∷ [] → IfErr result (FailsToClose o) →
-    IfErr result (λ e. (p q : Open) (rest : List Open) → reverse os ≡ p ∷ (q ∷ rest) → FailsToClose p e)
-fails-last result os popped o is_popped =
-    IfErr-weaker result (FailsToClose o) (λ e. (p q : Open) (rest : List Open) → reverse os ≡ p ∷ (q ∷ rest) → FailsToClose p e)
-    (λ e fails. λ p q rest same.
-    let was = last-first p o (q ∷ rest) (reverse popped) (sym same ∙ reversed-popped os popped o is_popped) in
-    subst (λ x. FailsToClose x e) (sym was.0) fails)
 
 -- ---- the innermost of open elements closes
 

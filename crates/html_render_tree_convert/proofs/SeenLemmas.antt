@@ -1,6 +1,5 @@
 -- Open elements with their entries: the innermost changes, and one opens.
-use Rattle.std.proofs.Common.{◌≡◌, ℕ, ◌+◌, ◌<◌, ◌≤◌, Bool, true, false, if◌then◌else◌, not, Option, Some, None, option_map, List, [], ◌∷◌, ◌++◌, length, get_or, set, take, drop, map, reverse, refl, sym, ap, subst, ◌∙◌, arith, append_assoc, append-nil, take_at, drop_at, take-append-drop, length-append}
-use Rattle.std.specs.Bool.{OnFalse, OnTrue}
+use Rattle.std.proofs.Common.{◌≡◌, ℕ, ◌+◌, ◌<◌, ◌≤◌, Bool, true, false, if◌then◌else◌, Option, Some, None, option_map, List, [], ◌∷◌, ◌++◌, length, get_or, set, take, drop, map, reverse, refl, sym, ap, subst, ◌∙◌, arith, append_assoc, append-nil, take_at, drop_at, take-append-drop, length-append}
 use Rattle.std.proofs.lemmas.List.{reverse-append, reverse-reverse, length-reverse}
 use Rattle.html_render_layout_nodes.specs.declared.tree.Entry.{Entry}
 use Rattle.html_render_layout_nodes.specs.declared.tree.RenderNode.{RenderNode}
@@ -79,13 +78,6 @@ innermost-last os now n es o ps same h is e = record {
   rest = seen (reverse (take n now)) (take o.start es);
   seen_is = sym e ∙ ap (λ l. seen l es) (ap reverse (sym same) ∙ innermost-first now n o h is);
 }
-
-pub innermost-none : (os now : List Open) (es : Entries) (ps : List OpenElement) → now ≡ os → length now ≤ 0 → seen (reverse os) es ≡ ps → ps ≡ []
-innermost-none os now es ps same h e = sym e ∙ ap (λ l. seen (reverse l) es) (sym same) ∙ by now h
-  where
-    by : (l : List Open) → length l ≤ 0 → seen (reverse l) es ≡ []
-    by [] h = refl
-    by (x ∷ xs) h = absurd (omega (arith, h))
 
 -- ---- an element opens
 
@@ -230,10 +222,6 @@ pub Alone-some : (os : List Open) (es : Entries) (p : OpenElement) (now : List O
 Alone-some os es p now a same h = omega (arith, h, ap length (same ∙ a.elements_are))
 
 -- ---- what is due
-
-pub OnFalse-not : {P : Type 0} (b : Bool) (Q : Type 0) → (P → Q) → OnTrue b P → OnFalse (not b) Q
-OnFalse-not true Q f h = f h
-OnFalse-not false Q f h = tt
 
 -- what is due is taken for good
 abbrev pub emptied : Open → Open

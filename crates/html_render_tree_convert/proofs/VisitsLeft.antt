@@ -335,19 +335,19 @@ module _ (dom : Dom) (forest : IsForest dom) where
                 (forest-once (below (node_count dom) dom 0) 0 (children_at dom 0) (children-siblings 0)),
           )
 
-pub no-node-twice : (rules : List StyleRule) (dom : Dom) → IsForest dom → (n : ℕ) → IsDistinct eqb (visited n rules dom (Node 0 ∷ []))
-no-node-twice rules dom forest n = distinct-once (visited n rules dom (Node 0 ∷ [])) (λ x. often-once dom forest x rules n)
+pub no_node_twice : (rules : List StyleRule) (dom : Dom) → IsForest dom → (n : ℕ) → IsDistinct eqb (visited n rules dom (Node 0 ∷ []))
+no_node_twice rules dom forest n = distinct-once (visited n rules dom (Node 0 ∷ [])) (λ x. often-once dom forest x rules n)
 
 -- ---- visits that are added
 
 end-added : (xs ys zs : List Visit) → xs ++ (ys ++ zs) ≡ (xs ++ (ys ++ [])) ++ zs
 end-added xs ys zs = sym (append_assoc xs (ys ++ []) zs ∙ ap (λ l. xs ++ l) (append_assoc ys [] zs))
 
-pub followed-append : (dom : Dom) (plan : Plan) (h : ℕ) (ps : List Position) →
+pub followed_append : (dom : Dom) (plan : Plan) (h : ℕ) (ps : List Position) →
     coming dom (followed plan h ps) ≡ coming dom (followed plan h []) ++ coming dom ps
-followed-append dom Nothing h ps = refl
-followed-append dom (Alone n) h ps = refl
-followed-append dom (Over e false) h ps = refl
-followed-append dom (Over e true) h ps =
+followed_append dom Nothing h ps = refl
+followed_append dom (Alone n) h ps = refl
+followed_append dom (Over e false) h ps = refl
+followed_append dom (Over e true) h ps =
     let p = entered h (first_pick e.kind) in
     end-added (nodes (ahead dom p)) (after_pick p.pick dom h) (coming dom ps)

@@ -15,6 +15,7 @@ ghost use Rattle.html_render_tree_convert.specs.declared.cursor.Visit.TheVariant
 ghost use Rattle.html_render_tree_mapping.specs.declared.plans.Plan.{Plan};
 
 /// States that the walk's steps write the render tree of the definition, in pre-order, and nothing where that is `None`.
+#[tactic(auto, using(crate::proofs::Running::documents_convert))]
 fn steps_write_the_render_tree()
     ensures { (rules : List StyleRule) (dom : Dom) → converted rules (tree_of dom 0) ≡ option_map flatten (render_tree_of rules dom) }
 {}
@@ -29,11 +30,13 @@ fn entering_adds_the_events_of_children()
 {}
 
 /// States that a walk over a document meets no node twice, however many visits it makes.
+#[tactic(auto, using(crate::proofs::VisitsLeft::no_node_twice))]
 fn walks_meet_no_node_twice()
     ensures { (rules : List StyleRule) (dom : Dom) → IsForest dom → (n : ℕ) → IsDistinct nat_eq (visited n rules dom (Node 0 ∷ [])) }
 {}
 
 /// States that a visit of a node leaves what comes as it is, and adds in front of it what comes in the node.
+#[tactic(auto, using(crate::proofs::VisitsLeft::followed_append))]
 fn visits_add_in_front()
     ensures { (dom : Dom) (plan : Plan) (h : ℕ) (ps : List Position) →
         coming dom (followed plan h ps) ≡ coming dom (followed plan h []) ++ coming dom ps }

@@ -31,6 +31,3 @@ returns-in-Some c = λ below own is start.
     ∙ ap (λ l. set l s (changed k e)) is ∙ ap (λ n. set (below ++ own) n (changed k e)) start
     ∙ changed-at below own k e (omega (arith, start, c.in-Some.ensures.item.3.0, ap length is))
     (c.in-Some.ensures.value ∙ ap (λ l. get_or l s e) is ∙ ap (λ n. get_or (below ++ own) n e) start)
-
-pub returns-in-None : goal.returns-in-None
-returns-in-None c = λ below own is start. is ∙ past below own c.args.kind (omega (arith, start, c.in-None.ensures.item.3, ap length is))

@@ -11,11 +11,3 @@ returns-then-branch-clause-ok c =
     let before = c.args.tree.now.items in
     received-level (closed_leaf c.args.node) c.args.parent.now c.receive.new.self c.in_ok-receive.field-0 own before c.put.new.tree.items e.start e.root
     (λ es h. e.seen es own h) e.holds (c.in_ok-put.ensures ∙ ap (λ (b : Bool). if b then before ++ own else before) (sym c.if-branch.true))
-
-pub returns-clause-ok : goal.returns-clause-ok
-returns-clause-ok c =
-    let e = c.in_ok-receive.ensures in
-    let own = leaf c.args.node ∷ [] in
-    let before = c.args.tree.now.items in
-    received-level (closed_leaf c.args.node) c.args.parent.now c.receive.new.self c.in_ok-receive.field-0 own before before e.start e.root
-    (λ es h. e.seen es own h) e.holds (ap (λ (b : Bool). if b then before ++ own else before) (sym c.if-branch.false))

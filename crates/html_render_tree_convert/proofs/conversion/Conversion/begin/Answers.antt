@@ -1,7 +1,6 @@
-use Rattle.std.proofs.Common.{[], ◌∷◌, ◌∙◌, ap, arith}
+use Rattle.std.proofs.Common.{[], ◌∷◌, arith}
 use Rattle.std.proofs.lemmas.Bool.Decides.{nat_tests}
 use Rattle.html_render_tree_convert.specs.OpenElements.{leaf}
-use Rattle.html_render_tree_convert.specs.Seen.{element_seen}
 use Rattle.html_render_tree_convert.proofs.SeenLemmas.{Pushed, pushed}
 use Rattle.html_render_tree_convert.proofs.conversion.Conversion.begin.Goals as goal
 use Rattle.html_render_tree_convert.proofs.conversion.Conversion.begin.Goals.{In_default}
@@ -15,6 +14,3 @@ opened c =
 
 pub invariant_of-self-in_default : goal.invariant_of-self-in_default
 invariant_of-self-in_default c = (opened c).0
-
-pub returns-clause-ok : goal.returns-clause-ok
-returns-clause-ok c = (opened c).1 ∙ ap (λ ps. element_seen c.args.element (leaf c.args.node ∷ []) ∷ ps) c.self.view_is

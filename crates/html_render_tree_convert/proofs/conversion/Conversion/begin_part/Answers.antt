@@ -1,6 +1,5 @@
 use Rattle.std.proofs.Common.{◌≡◌, ℕ, [], ◌∷◌, ◌++◌, ◌∙◌, ap, sym, length, append-nil, arith}
 use Rattle.std.proofs.lemmas.Bool.Decides.{nat_tests}
-use Rattle.html_render_tree_convert.specs.Seen.{element_seen}
 use Rattle.html_render_tree_convert.specs.declared.elements.Open.{Open}
 use Rattle.html_render_tree_convert.proofs.SeenLemmas.{Pushed, pushed}
 use Rattle.html_render_tree_convert.proofs.conversion.Conversion.begin_part.Goals as goal
@@ -17,6 +16,3 @@ opened c =
 
 pub invariant_of-self-2 : goal.invariant_of-self-2
 invariant_of-self-2 c = (opened c).0
-
-pub returns-clause-ok : goal.returns-clause-ok
-returns-clause-ok c = (opened c).1 ∙ ap (λ ps. element_seen c.args.element [] ∷ ps) c.self.view_is

@@ -1,5 +1,5 @@
 use Rattle.std.proofs.Common.{◌-◌, length, arith}
-use Rattle.html_render_tree_convert.proofs.SeenLemmas.{innermost-last, innermost-none}
+use Rattle.html_render_tree_convert.proofs.SeenLemmas.{innermost-last}
 use Rattle.html_render_tree_convert.proofs.conversion.Conversion.innermost.Goals as goal
 
 pub returns-in-Some-clause-some : goal.returns-in-Some-clause-some
@@ -8,8 +8,3 @@ returns-in-Some-clause-some c =
     let last = c.in-Some.ensures.item in
     innermost-last c.self.inside.elements.items now (length now - 1) c.self.inside.tree.items c.in-Some.element.now c.args.self.now c.deref.ensures.value
     (omega (arith, last.3.0)) last.1 c.self.view_is
-
-pub returns-in-None-clause-none : goal.returns-in-None-clause-none
-returns-in-None-clause-none c =
-    innermost-none c.self.inside.elements.items c.deref.result.now c.self.inside.tree.items c.args.self.now c.deref.ensures.value c.in-None.ensures.item.3
-    c.self.view_is

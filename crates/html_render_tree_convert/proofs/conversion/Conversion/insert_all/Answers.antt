@@ -1,7 +1,6 @@
-use Rattle.std.proofs.Common.{reverse, sym, ap, subst, ◌∙◌}
+use Rattle.std.proofs.Common.{reverse, sym, subst}
 use Rattle.html_render_tree_convert.specs.OpenElements.{leaves}
-use Rattle.html_render_tree_convert.specs.Opening.{wrote}
-use Rattle.html_render_tree_convert.specs.Seen.{IsSound, seen}
+use Rattle.html_render_tree_convert.specs.Seen.{IsSound}
 use Rattle.html_render_tree_convert.proofs.SeenLemmas.{seen-added}
 use Rattle.html_render_tree_convert.proofs.conversion.Conversion.insert_all.Goals as goal
 
@@ -9,9 +8,3 @@ pub invariant_of-self-in_default : goal.invariant_of-self-in_default
 invariant_of-self-in_default c =
     let os = reverse c.self.inside.elements.items in
     subst (IsSound os) (sym c.in_default.ensures.ok) (seen-added (leaves c.args.nodes.items) os c.self.inside.tree.items c.self.invariant).0
-
-pub returns-clause-ok : goal.returns-clause-ok
-returns-clause-ok c =
-    let os = reverse c.self.inside.elements.items in
-    let xs = leaves c.args.nodes.items in
-    ap (seen os) c.in_default.ensures.ok ∙ (seen-added xs os c.self.inside.tree.items c.self.invariant).1 ∙ ap (wrote xs) c.self.view_is

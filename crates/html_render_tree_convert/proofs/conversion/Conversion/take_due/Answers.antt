@@ -1,6 +1,6 @@
-use Rattle.std.proofs.Common.{◌-◌, Bool, true, vec_len, set, refl, ap, sym, ◌∙◌, arith}
+use Rattle.std.proofs.Common.{◌-◌, Bool, vec_len, set, refl, ap, sym, ◌∙◌, arith}
 use Rattle.html_render_tree_convert.specs.Opening.{Innermost}
-use Rattle.html_render_tree_convert.specs.Steps.{innermost, left_once, once, taken}
+use Rattle.html_render_tree_convert.specs.Steps.{innermost, left_once, once}
 use Rattle.html_render_tree_convert.proofs.SeenLemmas.{Changed, becomes-emptied, changed-last, innermost-last}
 use Rattle.html_render_tree_convert.proofs.conversion.Conversion.take_due.Goals as goal
 use Rattle.html_render_tree_convert.proofs.conversion.Conversion.take_due.Goals.{In-Ok}
@@ -23,11 +23,6 @@ top c =
     let elements = c.self.inside.elements in
     innermost-last elements.items elements.items (vec_len elements - 1) c.self.inside.tree.items c.in-Some.parent.now c.args.self.now refl
     (omega (arith, c.in-Some.ensures.variant.0 refl, elements.ok.0)) c.in-Some.ensures.value c.self.view_is
-
-pub returns-in-Ok-clause-due : goal.returns-in-Ok-clause-due
-returns-in-Ok-clause-due c =
-    c.in-Ok.ensures.due ∙ ap (taken true) (sym (top c).seen_is)
-    ∙ ap (λ (b : Bool). taken b c.args.self.now) (sym c.if-not-is_taken.false)
 
 pub returns-in-Ok-clause-left : goal.returns-in-Ok-clause-left
 returns-in-Ok-clause-left c =

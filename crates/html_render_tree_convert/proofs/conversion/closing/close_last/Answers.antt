@@ -1,5 +1,5 @@
 use Rattle.std.proofs.Common.{◌-◌, vec_len, refl, arith}
-use Rattle.html_render_tree_convert.proofs.ClosingElements.{closed-last, fails-last}
+use Rattle.html_render_tree_convert.proofs.ClosingElements.{closed-last}
 use Rattle.html_render_tree_convert.proofs.conversion.closing.close_last.Goals as goal
 
 pub returns-clause-ok : goal.returns-clause-ok
@@ -8,7 +8,3 @@ returns-clause-ok c =
     closed-last c.close_into.result c.args.elements.now.items popped.items (vec_len popped - 1) c.in-Some.element c.in-Some-last_mut.parent.now
     c.close_into.new.parent c.args.tree.now.items c.close_into.new.tree.items c.in-Some.ensures.items
     (omega (arith, c.in-Some-last_mut.ensures.variant.0 refl, popped.ok.0)) c.in-Some-last_mut.ensures.value c.close_into.ensures.ok
-
-pub returns-clause-err : goal.returns-clause-err
-returns-clause-err c =
-    fails-last c.close_into.result c.args.elements.now.items c.pop.new.self.items c.in-Some.element c.in-Some.ensures.items c.close_into.ensures.err

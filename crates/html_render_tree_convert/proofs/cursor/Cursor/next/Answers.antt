@@ -37,17 +37,6 @@ returns-in-Some-clause-visit c =
     ∙ ap (λ vs. vs ++ coming dom ps) c.in-Some.ensures.some
     ∙ ap (λ vs. c.in-Some.visit ∷ vs) (append_assoc (nodes (ahead dom q)) (after_pick q.pick dom q.element) (coming dom ps) ∙ ap (coming dom) (sym (moved s q)))
 
-pub returns-in-Some-clause-nodes : goal.returns-in-Some-clause-nodes
-returns-in-Some-clause-nodes c =
-    let s = (goal.at.returns-in-Some-clause-nodes c).In_ok-position in
-    let holds = λ (p : Position). IsNode c.args.dom.now p.element in
-    let p = c.in_ok-position.position.now in
-    let q = c.advance.new.position in
-    let ps = outer s in
-    let all : All holds (p ∷ ps) = subst (All holds) (was s) c.requires in
-    subst (All holds) (sym (moved s q))
-    (All-cons holds q ps (subst (IsNode c.args.dom.now) (sym c.in-Some.ensures.element) (All-head holds p ps all)) (All-tail holds p ps all))
-
 pub returns-clause-nodes : goal.returns-clause-nodes
 returns-clause-nodes c =
     let s = (goal.at.returns-clause-nodes c).In_ok-position in
