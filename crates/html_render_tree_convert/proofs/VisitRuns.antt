@@ -54,14 +54,15 @@ module _ (rules : List StyleRule) (dom : Dom) (forest : IsForest dom) where
       by false same = same
 
   -- children come before others as the events of their trees
-  pub comes-entered : (h : ℕ) → All (IsNode dom) (children_at dom h) → (ps : List Position) (kind : ElementKind) →
+  pub comes_entered : (h : ℕ) (kind : ElementKind) (ps : List Position) →
       visits_events rules dom (coming dom (entered h (first_pick kind) ∷ ps))
       ≡ (children_events kind (λ pick. events rules (trees_of dom (children_at dom h)) pick) ++ event.Close ∷ [])
       ++ visits_events rules dom (coming dom ps)
-  comes-entered h all ps (element.Part part.Table) =
-      let of = λ (pick : Pick). nodes-events pick (children_at dom h) all in
+  comes_entered h (element.Part part.Table) ps =
+      let of = λ (pick : Pick). nodes-events pick (children_at dom h) (All-children dom forest h (children_at dom h) refl) in
       simp (append_assoc, flat_map-append, of Captions, of Others, of Feet)
-  comes-entered h all ps kind = simp (append_assoc, flat_map-append, nodes-events all_children (children_at dom h) all)
+  comes_entered h kind ps =
+      simp (append_assoc, flat_map-append, nodes-events all_children (children_at dom h) (All-children dom forest h (children_at dom h) refl))
 
 -- open elements
 abbrev pub Stack : Type 0
@@ -132,7 +133,7 @@ module _ (rules : List StyleRule) (dom : Dom) where
     follows (Alone n) h ps cs = refl
     follows (Over e false) h ps cs = run-append (element_events e nothing_inside) (visits_events rules dom (coming dom ps)) cs
     follows (Over e true) h ps cs =
-        ap (λ l. run l (opened e cs)) (sym (comes-entered rules dom forest h (All-children dom forest h (children_at dom h) refl) ps e.kind))
+        ap (λ l. run l (opened e cs)) (sym (comes_entered rules dom forest h e.kind ps))
 
     -- the document's own node
     pub starts : (h : ℕ) (ps : List Position) (cs : Stack) → h ≡ 0 → ps ≡ [] → cs ≡ root ∷ [] →
