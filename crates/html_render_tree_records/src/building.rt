@@ -1,6 +1,7 @@
 //! The document that steps build.
 
-ghost use Rattle.std.specs.Prelude.{◌≡◌, ◌↔◌, IsTrue, ◌<◌, ◌≤◌, ◌++◌, ◌∷◌, [], All, length, string_bytes, IfOk, IfErr, IfSome, OnOk};
+ghost use Rattle.std.specs.Prelude.{◌≡◌, ◌↔◌, IsTrue, ◌<◌, ◌≤◌, ◌++◌, ◌∷◌, [], All, length, string_bytes, IfOk, IfErr, OnOk};
+ghost use Rattle.std.specs.Option.{ForSome};
 ghost use Rattle.html_render_dom.specs.Dom.{Dom, IsInclusiveAncestor, IsNode, node_count};
 ghost use Rattle.html_render_dom_nodes.specs.Content.{name_of};
 ghost use Rattle.html_render_tree_records.specs.Steps as steps;
@@ -8,7 +9,7 @@ ghost use Rattle.html_render_tree_records.specs.StepFaults.{CanDo, Denies};
 ghost use Rattle.html_render_tree_records.specs.Steps.{AreStepsOf, Built, Does, DoesKind, HasName, HasNode, HasValue, IsStepFault};
 ghost use Rattle.html_render_tree_records.specs.declared.step.StepKind.TheVariants as kind;
 
-use crate::pieces::piece_of;
+use crate::pieces::piece_in;
 use crate::step::{Step, StepKind};
 use html_render_dom::Error;
 use html_render_dom::dom::{Attribute, Handle, LocalName, NodeOrText, QualName, RcDom};
@@ -96,6 +97,9 @@ impl<T: Drop> From<AllocFailed<T>> for StepError {
 struct StepOver<'a> {
     step: &'a Step,
     text: &'a [u8],
+    /// The text, if all of it is UTF-8.
+    string: Option<&'a str>,
+    ghost same: { ForSome string (λ s. s.now ≡ text.now) },
 }
 
 impl<'a> StepOver<'a> {
@@ -104,12 +108,8 @@ impl<'a> StepOver<'a> {
         ensures ok { IfOk result (λ s. (s.now ≡ steps.value_in self.now.text.now self.now.step.now) × HasValue self.now.text.now self.now.step.now) }
         ensures err { IfErr result (λ fault. Denies fault (HasValue self.now.text.now self.now.step.now)) }
     {
-        piece_of(
-            self.text,
-            self.step.value as usize,
-            self.step.value_length as usize,
-        )
-        .ok_or(Fault::Faulty)
+        let (value, length) = (self.step.value as usize, self.step.value_length as usize);
+        piece_in(self.text, self.string, value, length).ok_or(Fault::Faulty)
     }
 
     /// Returns a copy of the step's text; `Faulty` if it is no piece of the text.
@@ -127,7 +127,7 @@ impl<'a> StepOver<'a> {
         ensures err { IfErr result (λ fault. Denies fault (HasName self.now.text.now self.now.step.now)) }
     {
         let (name, length) = (self.step.name as usize, self.step.name_length as usize);
-        piece_of(self.text, name, length).ok_or(Fault::Faulty)
+        piece_in(self.text, self.string, name, length).ok_or(Fault::Faulty)
     }
 
     /// Returns a copy of the step's name without its namespace; `Faulty` if it is no piece of the text.
@@ -548,14 +548,17 @@ fn take(
     dom: &mut RcDom,
     made: &mut Vec<Handle>,
     text: &[u8],
+    string: Option<&str>,
     step: &Step,
 ) -> Result<(), Fault>
+    requires string { ForSome string (λ s. s.now ≡ text.now) }
     requires made { All (IsNode dom.old) made.old.items }
     ensures ok { OnOk result (DoesKind text.now step.now (steps.kind_of step.now.kind) (record { dom = dom.old; made = made.old.items }) (record { dom = dom.new; made = made.new.items })) }
     ensures made { OnOk result (All (IsNode dom.new) made.new.items) }
     ensures err { IfErr result (λ fault. Denies fault ((new : Built) × DoesKind text.now step.now (steps.kind_of step.now.kind) (record { dom = dom.old; made = made.old.items }) new)) }
 {
-    take_kind(alloc, dom, made, StepOver { step, text }, step.step_kind())
+    let given = StepOver { step, text, string };
+    take_kind(alloc, dom, made, given, step.step_kind())
 }
 
 /// Takes steps over a text, in order, and returns the document that they build. `text` is the buffer of which the steps'
@@ -571,9 +574,11 @@ pub fn built(alloc: Global, text: &[u8], steps: &[Step]) -> Result<RcDom, StepEr
     let mut dom = RcDom::new(alloc)?;
     let mut made = Vec::new(alloc);
     made.push(dom.get_document())?;
+    // pieces of a text that is UTF-8 aren't tested one by one
+    let string = str::from_utf8(text).ok();
     let mut rest = steps;
     while let Some((step, behind)) = rest.split_first() {
-        match take(alloc, &mut dom, &mut made, text, step) {
+        match take(alloc, &mut dom, &mut made, text, string, step) {
             Ok(()) => rest = behind,
             Err(Fault::Refused(error)) => return Err(StepError::Refused(error)),
             Err(Fault::Faulty) => return Err(StepError::Faulty(steps.len() - rest.len())),
