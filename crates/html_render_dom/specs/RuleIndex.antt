@@ -57,6 +57,6 @@ IsPlain rules p = style_of p.style ≡ element_style rules (string_bytes p.name)
 abbrev pub Finds : RuleIndex → List Rule → Type 0
 Finds index rules = Indexes index rules × All (IsPlain rules) index.plain.items
 
--- the declarations of the rule with a number, if there is one and it is selected
+-- the declarations of the rule with a number, if there is one and it selects the element
 abbrev pub said_at : (selects : Rule → Bool) → List Rule → (number : ℕ) → List Applied
 said_at selects rules number = flat_map applied (filter selects (option_to_list (slice_get rules number)))
