@@ -1,11 +1,13 @@
 //! The program.
 
 use std::ffi::OsStr;
-use std::fs;
+use std::fs::{self, File};
 use std::io::Write;
 use std::os::unix::ffi::OsStrExt;
 use std::path::{Path, PathBuf};
 use std::process::{Command, Output, Stdio};
+use std::thread;
+use std::time::Duration;
 
 fn htext(words: &[&str], page: &str) -> Output {
     let mut child = Command::new(env!("CARGO_BIN_EXE_htext"))
@@ -296,14 +298,25 @@ fn wrong_usage_of_many_pages() {
 
 #[test]
 fn progress_on_a_terminal() {
+    let folder = folder_of_pages("progress", &[("a.html", "<p>a")]);
+    let pipe = folder.join("b.html");
+    assert!(Command::new("mkfifo").arg(&pipe).status().unwrap().success());
     // `script` gives the program a terminal
-    let folder = folder_of_pages("progress", &[("a.html", &"<p>a b c".repeat(20_000)), ("b.html", &"<p>a b c".repeat(20_000))]);
     let command = format!("{} --jobs 1 --output-dir texts a.html b.html missing", env!("CARGO_BIN_EXE_htext"));
-    let output = Command::new("script").args(["-qec", &command, "/dev/null"]).current_dir(&folder).stdin(Stdio::null()).output().unwrap();
+    let mut child = Command::new("script");
+    child.args(["-qec", &command, "/dev/null"]).current_dir(&folder).stdin(Stdio::null()).stdout(Stdio::piped());
+    let child = child.spawn().unwrap();
+    // it is opened as the program opens it, and ends after the time between two lines of progress
+    let mut page = File::options().write(true).open(&pipe).unwrap();
+    thread::sleep(Duration::from_millis(150));
+    page.write_all(b"<p>b").unwrap();
+    drop(page);
+    let output = child.wait_with_output().unwrap();
     let shown = String::from_utf8(output.stdout).unwrap();
-    assert!(shown.contains("\r1 of 3 pages"), "{shown:?}");
+    assert!(shown.contains("\r2 of 3 pages"), "{shown:?}");
     assert!(shown.ends_with("\r\u{1b}[Khtext: missing: No such file or directory (os error 2)\r\n\r\u{1b}[Khtext: 1 of 3 pages have no text\r\n"), "{shown:?}");
     assert_eq!(output.status.code(), Some(3));
+    assert_eq!(fs::read_to_string(folder.join("texts/b.txt")).unwrap(), "b\n");
 }
 
 #[test]
