@@ -11,7 +11,7 @@ use Rattle.html_render_layout_nodes.specs.declared.tree.NodeKind.{NodeKind}
 use Rattle.html_render_layout_nodes.specs.declared.tree.NodeKind.TheVariants.{Block, Div, Emphasis, Ul, Ol, ListItem, Dt, Strikeout, Superscript, Link, Table, TableRow}
 use Rattle.html_render_layout_nodes.specs.declared.tree.NodeStyle.{NodeStyle}
 use Rattle.html_render_layout_nodes.specs.declared.tree.RenderNode.{RenderNode}
-use Rattle.html_render_layout_nodes.specs.Visitor.{Places, Way, Into, Past, past, opened_with}
+use Rattle.html_render_layout_nodes.specs.Visitor.{Visits, Places, Way, Into, Past, past, opened_with}
 use Rattle.html_render_layout.specs.declared.nesting.OwnBlock.{OwnBlock}
 use Rattle.html_render_layout.specs.declared.nesting.OwnBlock.TheVariants as block
 use Rattle.html_render_layout.specs.declared.nesting.OwnBlock.TheVariants.{Shared, Prefixed}
@@ -26,7 +26,7 @@ use Rattle.html_render_layout.specs.declared.state.Outer.{Outer}
 use Rattle.html_render_layout.specs.declared.state.OuterTable.{OuterTable}
 use Rattle.html_render_layout.specs.declared.state.TextContext.{TextContext}
 use Rattle.html_render_layout.specs.Layout.{Algebra, State, write_number, spaces, padded, emphasis_decoration}
-use Rattle.html_render_layout.specs.Layout.{block_of, shape_of, style_steps}
+use Rattle.html_render_layout.specs.Layout.{block_of, shape_of, style_steps, layout_of}
 use Rattle.html_render_layout.specs.Layout.{on_block, write, within, nested, appended_block, block_place, cell_place, Fence, perform, shape_layout, perform_all}
 
 -- number of an item, by the list's first number and the item's index from 0; it saturates
@@ -181,3 +181,18 @@ module _ {S A K T B : Type 0} (m : Algebra S A K T B) where
   closed c r = do
     t ← kind_closed c.kind r
     continued c.item (record t { text = c.text })
+
+  -- ---- what the walk is given, as names that don't unfold
+
+  unfoldable pub walk_visits : Visits RenderNode (State m)
+  walk_visits = layout_of m
+
+  unfoldable pub walk_below : OpenNode S T B → Places (State m)
+  walk_below = below
+
+  unfoldable pub walk_opened : (parent : Option (OpenNode S T B)) → (number : ℕ) → RenderNode → Forest RenderNode → State m →
+      Option (Way (State m) (OpenNode S T B))
+  walk_opened = opened
+
+  unfoldable pub walk_closed : OpenNode S T B → State m → Option (State m)
+  walk_closed = closed

@@ -9,12 +9,13 @@ ghost use Rattle.html_render_layout_blocks.specs.Block.{empty_block};
 ghost use Rattle.html_render_layout_blocks.specs.Machine as machine;
 ghost use Rattle.html_render_layout_blocks.specs.Machine.{machine};
 ghost use Rattle.html_render_layout_nodes.specs.Counts.{CountsNodes};
+ghost use Rattle.html_render_layout_nodes.specs.Visitor.{run};
 ghost use Rattle.html_render_layout_estimates.specs.Passes.{with_needed_sizes};
 ghost use Rattle.html_render_layout.specs.Layout.{layout_of, begin_with, shown_after, defined, empty_state};
 ghost use Rattle.html_render_layout.specs.Layout.{estimated, layout_lines, mark_names, unannotated};
 ghost use Rattle.html_render_layout.specs.Promises.{AreLines, Lines, HasLines, LeavesTexts};
-ghost use Rattle.html_render_layout.specs.Opening.{below, opened, closed};
-ghost use Rattle.html_render_layout.specs.laws.Opening.{layout-opened};
+ghost use Rattle.html_render_layout.specs.Opening.{walk_visits, walk_below, walk_opened, walk_closed};
+ghost use Rattle.html_render_layout.specs.laws.Opening.{walk-told};
 ghost use Rattle.html_render_layout.specs.Working.{padding, by_tags, tabled, work_lines, work_names, untagged_work};
 ghost use Rattle.html_render_layout_tagged.specs.LaidOut.{laid_out};
 
@@ -60,17 +61,18 @@ impl<D: TextDecorator, G: Tagging<D::Annotation>> Visitor for Layout<D, G> {
 
     type Kept = Kept<D, G>;
 
-    ghost visits = { layout_of (by_tags D.decoration G.annotated) };
+    ghost visits = { walk_visits (by_tags D.decoration G.annotated) };
 
-    ghost below = { below (by_tags D.decoration G.annotated) };
+    ghost below = { walk_below (by_tags D.decoration G.annotated) };
 
-    ghost opened = { opened (by_tags D.decoration G.annotated) };
+    ghost opened = { walk_opened (by_tags D.decoration G.annotated) };
 
-    ghost closed = { closed (by_tags D.decoration G.annotated) };
+    ghost closed = { walk_closed (by_tags D.decoration G.annotated) };
 
-    ghost told = { layout-opened (by_tags D.decoration G.annotated) };
+    ghost told = { walk-told (by_tags D.decoration G.annotated) };
 
     /// Opens a node by its kind and its style.
+    #[tactic(auto, unfolding(crate::specs::Opening::walk_opened))]
     fn open(
         alloc: Global,
         node: &RenderNode,
@@ -83,6 +85,7 @@ impl<D: TextDecorator, G: Tagging<D::Annotation>> Visitor for Layout<D, G> {
     }
 
     /// Closes a node.
+    #[tactic(auto, unfolding(crate::specs::Opening::walk_closed))]
     fn close(alloc: Global, kept: Kept<D, G>, state: &mut State<D, G>) -> Result<(), Error> {
         steps::close(alloc, kept, state)
     }
@@ -117,8 +120,22 @@ fn begin_with<D: TextDecorator, G: Tagging<D::Annotation>>(
     }
 }
 
+/// Lays out a tree from a state.
+fn walk_tree<D: TextDecorator, G: Tagging<D::Annotation>>(
+    alloc: Global,
+    tree: &PreorderForest<RenderNode>,
+    state: &mut State<D, G>,
+    meter: &mut Meter,
+) -> Result<(), Error>
+    ensures ok { OnOk result (run (walk_visits (by_tags D.decoration G.annotated)) tree.now state.old ≡ Some state.new) }
+    ensures err { IfErr result (λ e. Refuses e (run (walk_visits (by_tags D.decoration G.annotated)) tree.now state.old)) }
+    ensures counts { CountsNodes result (walk_visits (by_tags D.decoration G.annotated)) tree.now state.old meter.old meter.new }
+{
+    walk::<Layout<D, G>>(alloc, tree, state, meter)
+}
+
 /// Lays out a tree, and closes the document under the tag of its first texts.
-#[tactic(auto, using(html_render_dom_values::specs::laws::Outcome::refusals))]
+#[tactic(auto, using(html_render_dom_values::specs::laws::Outcome::refusals), unfolding(crate::specs::Opening::walk_visits))]
 fn lay_out_into<D: TextDecorator, G: Tagging<D::Annotation>>(
     alloc: Global,
     tree: &PreorderForest<RenderNode>,
@@ -134,7 +151,7 @@ fn lay_out_into<D: TextDecorator, G: Tagging<D::Annotation>>(
     let tag = state.text.tag;
     let link_footnotes = state.settings.link_footnotes;
     let wrap_links = state.settings.wrap_links;
-    walk::<Layout<D, G>>(alloc, tree, state, meter)?;
+    walk_tree(alloc, tree, state, meter)?;
     ending::end(alloc, link_footnotes, wrap_links, tag, state)
 }
 

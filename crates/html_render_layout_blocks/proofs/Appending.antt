@@ -8,7 +8,7 @@ use Rattle.html_render_dom_values.specs.declared.errors.Error.{Error}
 use Rattle.html_render_dom_values.specs.declared.errors.Error.TheVariants.{TooNarrow, Fail, OutOfMemory}
 use Rattle.html_render_dom_values.specs.Outcome.{Refuses}
 use Rattle.html_render_dom_values.specs.laws.Outcome.{Refuses-then}
-use Rattle.html_render_layout_lines.specs.Line.{Line, columns, marks_line}
+use Rattle.html_render_layout_lines.specs.Line.{Line, columns, marks_line, is_empty}
 use Rattle.html_render_layout_lines.specs.TaggedText.{under}
 use Rattle.html_render_layout_lines.specs.laws.Columns.{columns-append, columns-marks}
 use Rattle.html_render_layout_lines.specs.laws.Tags.{if_with}
@@ -28,6 +28,11 @@ pub refused-mapped : {X Y : Type 0} (e : Error) (f : X → Y) (o : Option X) (p 
 refused-mapped TooNarrow f o p same h = same ∙ ap (option_map f) h
 refused-mapped Fail f o p same h = h
 refused-mapped OutOfMemory f o p same h = tt
+
+-- A list that isn't empty by a test has an element.
+pub some_lines : {X : Type 0} (ls : List X) (b : Bool) → b ≡ is_empty ls → b ≡ false → 0 < length ls
+some_lines [] b is other = cc
+some_lines (l ∷ ls) b is other = omega arith
 
 module _ {T M : Type 0} where
   behind-marked : (q : Line T M) (ms : List M) (ls : List (Line T M)) → map (◌++◌ q) (marked_behind ms ls) ≡ marked_behind ms (map (◌++◌ q) ls)

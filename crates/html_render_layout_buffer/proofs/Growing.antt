@@ -2,7 +2,7 @@
 use Rattle.std.proofs.Common.{◌≡◌, ℕ, zero, suc, ◌+◌, ◌-◌, ◌<◌, ◌≤◌, List, [], ◌∷◌, ◌++◌, map, take, drop, length, get_or, refl, sym, ap, ◌∙◌, arith, append_assoc, append-nil}
 use Rattle.std.specs.Prelude.{replicate}
 use Rattle.std.specs.Str.{chars, IsUtf8, IsCharBoundary, IsAscii}
-use Rattle.std.proofs.lemmas.List.{take-map, map_more, map-append, take_more, take-replicate, replicate-append-replicate, length-replicate, nil_from_length}
+use Rattle.std.proofs.lemmas.List.{take-map, map_more, map-append, take_more, drop-append-le, length-take-le, take-replicate, replicate-append-replicate, length-replicate, nil_from_length}
 use Rattle.std.proofs.lemmas.List.Sums.{sum_by-cons}
 use Rattle.std.proofs.lemmas.Str.{chars-IsAscii, chars_past_char, IsUtf8-past_char, IsCharBoundary-from_ascii, chars-nil}
 use Rattle.html_render_layout_lines.specs.declared.line.Element.{Element}
@@ -14,6 +14,7 @@ use Rattle.html_render_layout_lines.specs.laws.Columns.{columns-cons, width-spac
 use Rattle.html_render_layout_buffer.specs.Lines.{BufferedLines, with_spaces}
 use Rattle.html_render_layout_buffer.specs.Marked.{marked_before, marked_behind}
 use Rattle.html_render_layout_buffer.specs.Padding.{repeated, filled_line}
+use Rattle.html_render_layout_buffer.specs.Pieces.{with_front}
 
 -- ---- line by line
 
@@ -29,12 +30,9 @@ one-more {T} {M} f old p0 p1 n ls e0 e1 h =
 
 pub part-more : {X : Type 0} (xs : List X) (from n : ℕ) (d : X) → from ≤ n → n < length xs →
     drop from (take (n + 1) xs) ≡ drop from (take n xs) ++ get_or xs n d ∷ []
-part-more [] from n d p h = absurd (omega arith)
-part-more (x ∷ xs) zero n d p h = take_more (x ∷ xs) n d h
-part-more (x ∷ xs) (suc from) zero d p h = absurd (omega arith)
-part-more (x ∷ xs) (suc from) (suc k) d p h =
-    let e : suc k + 1 ≡ suc (k + 1) = omega arith in
-    rw e (part-more xs from k d (omega arith) (omega arith))
+part-more xs from n d p h =
+    ap (drop from) (take_more xs n d h)
+    ∙ drop-append-le from (take n xs) (get_or xs n d ∷ []) (omega (arith, p, h, length-take-le n xs (omega (arith, h))))
 
 pub one-later : {T M : Type 0} (f : Line T M → Line T M) (old p0 p1 : BufferedLines T M) (from n : ℕ) (ls : List (Line T M)) →
     p0 ≡ record { lines = old.lines ++ map f (drop from (take n ls)); line = [] } →
@@ -46,13 +44,12 @@ one-later {T} {M} f old p0 p1 from n ls e0 e1 p h =
     rw (e1, e0, more)
     (ap (λ (y : List (Line T M)). record { lines = y; line = [] }) (append_assoc old.lines (map f (drop from (take n ls))) (f (get_or ls n []) ∷ [])))
 
-pub one-copied : {T M : Type 0} (old p0 p1 p2 : BufferedLines T M) (n : ℕ) (ls : List (Line T M)) →
+pub one-copied : {T M : Type 0} (old p0 p1 : BufferedLines T M) (n : ℕ) (ls : List (Line T M)) →
     p0 ≡ record { lines = old.lines ++ drop 1 (take n ls); line = [] } →
-    p1 ≡ record { lines = p0.lines; line = p0.line ++ get_or ls n [] } →
-    p2 ≡ record { lines = p1.lines ++ p1.line ∷ []; line = [] } → 0 < n → n < length ls →
-    p2 ≡ record { lines = old.lines ++ drop 1 (take (n + 1) ls); line = [] }
-one-copied {T} {M} old p0 p1 p2 n ls e0 e1 e2 p h =
-    rw (e2, e1, e0, part-more ls 1 n [] p h)
+    p1 ≡ record { lines = p0.lines ++ (p0.line ++ get_or ls n []) ∷ []; line = [] } → 0 < n → n < length ls →
+    p1 ≡ record { lines = old.lines ++ drop 1 (take (n + 1) ls); line = [] }
+one-copied {T} {M} old p0 p1 n ls e0 e1 p h =
+    rw (e1, e0, part-more ls 1 n [] p h)
     (ap (λ (y : List (Line T M)). record { lines = y; line = [] }) (append_assoc old.lines (drop 1 (take n ls)) (get_or ls n [] ∷ [])))
 
 pub line-filled : {T M : Type 0} (old a b c : BufferedLines T M) (l : Line T M) (tag : T) (width missing : ℕ) →
@@ -141,12 +138,14 @@ pub last-marked : {T M : Type 0} (old p1 p2 p3 : BufferedLines T M) (ms : List M
 last-marked {T} {M} old p1 p2 p3 ms e0 e1 e2 =
     rw (e2, e1, e0) (ap (λ (y : List (Line T M)). record { lines = y; line = [] }) (sym (marked-last ms p1.lines p1.line)))
 
-pub first-marked : {T M : Type 0} (p1 p2 p3 p4 : BufferedLines T M) (ms : List M) (ls : List (Line T M)) → 0 < length ls →
-    p1 ≡ record { lines = []; line = marks_line ms } → p2 ≡ record { lines = p1.lines; line = p1.line ++ get_or ls 0 [] } →
-    p3 ≡ record { lines = p2.lines ++ p2.line ∷ []; line = [] } → p4 ≡ record { lines = p3.lines ++ drop 1 ls; line = [] } →
-    p4 ≡ record { lines = marked_before ms ls; line = [] }
-first-marked p1 p2 p3 p4 ms [] h e1 e2 e3 e4 = absurd (omega arith)
-first-marked p1 p2 p3 p4 ms (x ∷ ls) h e1 e2 e3 e4 = rw (e4, e3, e2, e1) refl
+-- a line whose front is on the open line, and the later lines
+pub front-copied : {T M : Type 0} (old p1 p2 p3 : BufferedLines T M) (f : Line T M) (ls : List (Line T M)) → 0 < length ls →
+    p1 ≡ record { lines = old.lines; line = old.line ++ f } → old.line ≡ [] →
+    p2 ≡ record { lines = p1.lines ++ (p1.line ++ get_or ls 0 []) ∷ []; line = [] } → p3 ≡ record { lines = p2.lines ++ drop 1 ls; line = [] } →
+    p3 ≡ record { lines = old.lines ++ with_front f ls; line = [] }
+front-copied old p1 p2 p3 f [] h e1 n e2 e3 = absurd (omega arith)
+front-copied {T} {M} old p1 p2 p3 f (x ∷ ls) h e1 n e2 e3 =
+    rw (e3, e2, e1, n) (ap (λ (y : List (Line T M)). record { lines = y; line = [] }) (append_assoc old.lines ((f ++ x) ∷ []) ls))
 
 pub no-marks : {T M : Type 0} (b : BufferedLines T M) (ms : List M) → length b.lines ≡ 0 → b.line ≡ [] → b ≡ record { lines = marked_behind ms b.lines; line = [] }
 no-marks {T} {M} b ms e f =

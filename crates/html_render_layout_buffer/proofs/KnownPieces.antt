@@ -1,6 +1,6 @@
 -- What is known of pieces that are put together, and pieces that are filled in turn.
-use Rattle.std.proofs.Common.{◌≡◌, ℕ, suc, ◌+◌, ◌-◌, ◌<◌, ◌≤◌, List, [], ◌∷◌, ◌++◌, Option, Some, map, take, drop, length, get_or, refl, sym, ap, ◌∙◌, subst, arith, append_assoc, append-nil, length-append}
-use Rattle.std.proofs.Math.Seq.{take-append_seam, drop-append_seam, take-append-add, drop-append-add}
+use Rattle.std.proofs.Common.{◌≡◌, ℕ, zero, suc, ◌+◌, ◌-◌, ◌<◌, ◌≤◌, List, [], ◌∷◌, ◌++◌, Option, Some, map, take, drop, length, get_or, refl, sym, ap, ◌∙◌, subst, arith, append_assoc, append-nil, length-append}
+use Rattle.std.proofs.Math.Seq.{take-append_seam, drop-append_seam}
 use Rattle.std.proofs.lemmas.List.{map-append, take_more, drop_more, take-append-drop, length-map, length-take-le, length-drop, nil_from_length}
 use Rattle.std.proofs.lemmas.List.Elements.{All-nil, All-cons, All-head, All-tail}
 use Rattle.html_render_layout_lines.specs.Line.{Line, columns, marks_line}
@@ -9,7 +9,7 @@ use Rattle.html_render_layout_buffer.specs.declared.finished.pieces.Known.{Known
 use Rattle.html_render_layout_buffer.specs.Marked.{marked_before, marked_behind}
 use Rattle.html_render_layout_buffer.specs.Padding.{filled_line, filled}
 use Rattle.html_render_layout_buffer.specs.Pieces.{lines_of, between, AllAtLeast, IsCount, ArePieces}
-use Rattle.html_render_layout_buffer.proofs.PieceLines.{least-both, least-left, least-right, least-front, least-filled, wide_filled, front-marks, lines_of-append, lines_of-end}
+use Rattle.html_render_layout_buffer.proofs.PieceLines.{least-both, least-left, least-right, least-front, least-filled, wide_filled, front-marks, lines_of-append}
 
 -- ---- lists that are turned
 
@@ -46,21 +46,6 @@ outer-changed f xs ys zs all turn end first last count more m n e a b t u =
     ∙ ap (λ l. ys ++ map f l) (take-append_seam (zs ++ xs) ys)
     ∙ ap (λ l. ys ++ l) (map-append f zs xs) ∙ sym (append_assoc ys (map f zs) (map f xs)) in
     ap (λ k. drop (k - first) end ++ take (k - first) end) n ∙ turned (ys ++ map f zs) (map f xs) end first end_is (a ∙ sym (length-map xs f))
-
--- the last element of a list is that of its last part
-pub last-of : {X : Type 0} (xs ys rs : List X) (p : X) → rs ++ p ∷ [] ≡ xs ++ ys → 0 < length ys →
-    ys ≡ take (length ys - 1) ys ++ p ∷ []
-last-of xs ys rs p e h =
-    let k = length ys - 1 in
-    let size : length rs ≡ length xs + k = omega (arith, h, ap length e, length-append rs (p ∷ []), length-append xs ys) in
-    let end : drop k ys ≡ p ∷ [] = sym (drop-append-add xs ys k) ∙ ap (λ n. drop n (xs ++ ys)) (sym size) ∙ ap (drop (length rs)) (sym e) ∙ drop-append_seam rs (p ∷ []) in
-    sym (take-append-drop k ys) ∙ ap (λ l. take k ys ++ l) end
-
-pub before-last : {X : Type 0} (xs ys rs : List X) (p : X) → rs ++ p ∷ [] ≡ xs ++ ys → 0 < length ys → rs ≡ xs ++ take (length ys - 1) ys
-before-last xs ys rs p e h =
-    let k = length ys - 1 in
-    let size : length rs ≡ length xs + k = omega (arith, h, ap length e, length-append rs (p ∷ []), length-append xs ys) in
-    sym (take-append_seam rs (p ∷ [])) ∙ ap (take (length rs)) e ∙ ap (λ n. take n (xs ++ ys)) size ∙ take-append-add xs ys k
 
 module _ {T M : Type 0} where
   -- first and last pieces whose widths aren't known, and pieces of wide lines between them
@@ -107,10 +92,10 @@ module _ {T M : Type 0} where
         counts = a.counts;
       }
 
-  -- ---- what is known of pieces that are parted
+  -- ---- what is known of pieces
 
-  parted-none : (ps : List (List (Line T M))) → ps ≡ [] → AreParted (record { front = 0; back = 0; least = 18446744073709551615; count = Some 0 }) ps
-  parted-none ps e = record {
+  pub known-none : (ps : List (List (Line T M))) → ps ≡ [] → ArePieces (record { front = 0; back = 0; least = 18446744073709551615; count = Some 0 }) ps
+  known-none ps e = joined _ ps (record {
     first = [];
     between = [];
     last = [];
@@ -119,46 +104,59 @@ module _ {T M : Type 0} where
     back = refl;
     least = All-nil (λ (l : Line T M). 18446744073709551615 ≤ columns l);
     counts = sym (ap (λ (y : List (List (Line T M))). length (lines_of y)) e);
-  }
+  })
 
-  parted-pushed : (k : Known) (ps qs : List (List (Line T M))) (p : List (Line T M)) (back : ℕ) (count : Option ℕ) → AreParted k ps → qs ≡ ps ++ p ∷ [] →
-      back ≡ k.back + 1 → IsCount count (length (lines_of qs)) → AreParted (record { front = k.front; back = back; least = k.least; count = count }) qs
-  parted-pushed k ps qs p back count a e h c = record {
-    first = a.first;
-    between = a.between;
-    last = a.last ++ p ∷ [];
-    all = e ∙ ap (λ y. y ++ p ∷ []) a.all ∙ append_assoc a.first (a.between ++ a.last) (p ∷ []) ∙ ap (λ y. a.first ++ y) (append_assoc a.between a.last (p ∷ []));
-    front = a.front;
-    back = omega (arith, h, a.back, length-append a.last (p ∷ []));
-    least = a.least;
-    counts = c;
-  }
+  pub known-pushed : (k : Known) (ps qs : List (List (Line T M))) (p : List (Line T M)) (back : ℕ) (count : Option ℕ) → ArePieces k ps → qs ≡ ps ++ p ∷ [] →
+      back ≡ k.back + 1 → IsCount count (length (lines_of qs)) → ArePieces (record { front = k.front; back = back; least = k.least; count = count }) qs
+  known-pushed k ps qs p back count is e h c =
+      let a = parted k ps is in
+      joined _ qs (record {
+        first = a.first;
+        between = a.between;
+        last = a.last ++ p ∷ [];
+        all = e ∙ ap (λ y. y ++ p ∷ []) a.all ∙ append_assoc a.first (a.between ++ a.last) (p ∷ []) ∙ ap (λ y. a.first ++ y) (append_assoc a.between a.last (p ∷ []));
+        front = a.front;
+        back = omega (arith, h, a.back, length-append a.last (p ∷ []));
+        least = a.least;
+        counts = c;
+      })
 
-  parted-behind : (k j : Known) (ps qs : List (List (Line T M))) (front : ℕ) (count : Option ℕ) → AreParted k ps → AreParted j qs → front ≡ length ps + j.front →
-      IsCount count (length (lines_of ps) + length (lines_of qs)) → AreParted (record { front = front; back = j.back; least = j.least; count = count }) (ps ++ qs)
-  parted-behind k j ps qs front count a b h c = record {
-    first = ps ++ b.first;
-    between = b.between;
-    last = b.last;
-    all = ap (λ y. ps ++ y) b.all ∙ sym (append_assoc ps b.first (b.between ++ b.last));
-    front = omega (arith, h, b.front, length-append ps b.first);
-    back = b.back;
-    least = b.least;
-    counts = subst (λ n. IsCount count n) (sym (ap length (lines_of-append ps qs) ∙ length-append (lines_of ps) (lines_of qs))) c;
-  }
+  counts-joined : (ps qs : List (List (Line T M))) (count : Option ℕ) → IsCount count (length (lines_of ps) + length (lines_of qs)) →
+      IsCount count (length (lines_of (ps ++ qs)))
+  counts-joined ps qs count c =
+      subst (λ n. IsCount count n) (sym (ap length (lines_of-append ps qs) ∙ length-append (lines_of ps) (lines_of qs))) c
 
-  parted-before : (k j : Known) (ps qs : List (List (Line T M))) (back : ℕ) (count : Option ℕ) → AreParted k ps → AreParted j qs → back ≡ k.back + length qs →
-      IsCount count (length (lines_of ps) + length (lines_of qs)) → AreParted (record { front = k.front; back = back; least = k.least; count = count }) (ps ++ qs)
-  parted-before k j ps qs back count a b h c = record {
-    first = a.first;
-    between = a.between;
-    last = a.last ++ qs;
-    all = ap (λ y. y ++ qs) a.all ∙ append_assoc a.first (a.between ++ a.last) qs ∙ ap (λ y. a.first ++ y) (append_assoc a.between a.last qs);
-    front = a.front;
-    back = omega (arith, h, a.back, length-append a.last qs);
-    least = a.least;
-    counts = subst (λ n. IsCount count n) (sym (ap length (lines_of-append ps qs) ∙ length-append (lines_of ps) (lines_of qs))) c;
-  }
+  pub known-behind : (k j : Known) (ps qs : List (List (Line T M))) (front : ℕ) (count : Option ℕ) → ArePieces k ps → ArePieces j qs →
+      front ≡ length ps + j.front → IsCount count (length (lines_of ps) + length (lines_of qs)) →
+      ArePieces (record { front = front; back = j.back; least = j.least; count = count }) (ps ++ qs)
+  known-behind k j ps qs front count own other h c =
+      let b = parted j qs other in
+      joined _ (ps ++ qs) (record {
+        first = ps ++ b.first;
+        between = b.between;
+        last = b.last;
+        all = ap (λ y. ps ++ y) b.all ∙ sym (append_assoc ps b.first (b.between ++ b.last));
+        front = omega (arith, h, b.front, length-append ps b.first);
+        back = b.back;
+        least = b.least;
+        counts = counts-joined ps qs count c;
+      })
+
+  pub known-before : (k j : Known) (ps qs : List (List (Line T M))) (back : ℕ) (count : Option ℕ) → ArePieces k ps → ArePieces j qs →
+      back ≡ k.back + length qs → IsCount count (length (lines_of ps) + length (lines_of qs)) →
+      ArePieces (record { front = k.front; back = back; least = k.least; count = count }) (ps ++ qs)
+  known-before k j ps qs back count own other h c =
+      let a = parted k ps own in
+      joined _ (ps ++ qs) (record {
+        first = a.first;
+        between = a.between;
+        last = a.last ++ qs;
+        all = ap (λ y. y ++ qs) a.all ∙ append_assoc a.first (a.between ++ a.last) qs ∙ ap (λ y. a.first ++ y) (append_assoc a.between a.last qs);
+        front = a.front;
+        back = omega (arith, h, a.back, length-append a.last qs);
+        least = a.least;
+        counts = counts-joined ps qs count c;
+      })
 
   -- ---- a first or last piece that is changed
 
@@ -174,49 +172,6 @@ module _ {T M : Type 0} where
       same ms [] = refl
       same ms (l ∷ ls) = refl
 
-  known-first : (k : Known) (xs ys zs rs : List (List (Line T M))) (p q : List (Line T M)) → p ∷ rs ≡ xs ++ (ys ++ zs) → k.front ≡ length xs → k.back ≡ length zs →
-      AllAtLeast k.least (lines_of ys) → IsAsWide p q → IsCount k.count (length (lines_of (q ∷ rs))) → AreParted k (q ∷ rs)
-  known-first k (x ∷ xs) ys zs rs p q e a b c w d = record {
-    first = q ∷ xs;
-    between = ys;
-    last = zs;
-    all = ap (λ y. q ∷ y) (ap (drop 1) e);
-    front = a;
-    back = b;
-    least = c;
-    counts = d;
-  }
-  known-first k [] (y ∷ ys) zs rs p q e a b c w d =
-      let same : p ≡ y = ap (λ l. get_or l 0 p) e in
-      record {
-        first = [];
-        between = q ∷ ys;
-        last = zs;
-        all = ap (λ l. q ∷ l) (ap (drop 1) e);
-        front = a;
-        back = b;
-        least = least-both k.least k.least k.least q (lines_of ys) (w.wide k.least (subst (λ l. AllAtLeast k.least l) (sym same) (least-left k.least y (lines_of ys) c)))
-            (least-right k.least y (lines_of ys) c) (omega arith) (omega arith);
-        counts = d;
-      }
-  known-first k [] [] (z ∷ zs) rs p q e a b c w d = record {
-    first = [];
-    between = [];
-    last = q ∷ zs;
-    all = ap (λ l. q ∷ l) (ap (drop 1) e);
-    front = a;
-    back = b;
-    least = c;
-    counts = d;
-  }
-  known-first k [] [] [] rs p q e a b c w d = absurd (omega (arith, ap length e))
-
-  parted-first-changed : (k : Known) (ps rs : List (List (Line T M))) (p q : List (Line T M)) → AreParted k ps → ps ≡ p ∷ rs → IsAsWide p q → AreParted k (q ∷ rs)
-  parted-first-changed k ps rs p q a e w =
-      let count : length (lines_of ps) ≡ length (lines_of (q ∷ rs)) =
-      omega (arith, ap (λ (y : List (List (Line T M))). length (lines_of y)) e, length-append p (lines_of rs), length-append q (lines_of rs), w.same) in
-      known-first k a.first a.between a.last rs p q (sym e ∙ a.all) a.front a.back a.least w (subst (λ n. IsCount k.count n) count a.counts)
-
   wider-behind : (ms : List M) (n : ℕ) (p : List (Line T M)) → AllAtLeast n p → AllAtLeast n (marked_behind ms p)
   wider-behind ms n [] all = all
   wider-behind ms n (l ∷ []) all =
@@ -227,7 +182,7 @@ module _ {T M : Type 0} where
       All-cons (λ (l : Line T M). n ≤ columns l) l (marked_behind ms (j ∷ ls)) (All-head (λ (l : Line T M). n ≤ columns l) l (j ∷ ls) all)
       (wider-behind ms n (j ∷ ls) (All-tail (λ (l : Line T M). n ≤ columns l) l (j ∷ ls) all))
 
-  length-behind : (ms : List M) (p : List (Line T M)) → length (marked_behind ms p) ≡ length p
+  pub length-behind : (ms : List M) (p : List (Line T M)) → length (marked_behind ms p) ≡ length p
   length-behind ms [] = refl
   length-behind ms (l ∷ []) = refl
   length-behind ms (l ∷ j ∷ ls) = ap suc (length-behind ms (j ∷ ls))
@@ -236,76 +191,69 @@ module _ {T M : Type 0} where
   wide-behind ms p q e =
       record { same = ap length e ∙ length-behind ms p; wide = λ n all. subst (λ y. AllAtLeast n y) (sym e) (wider-behind ms n p all) }
 
-  as-long : (ys : List (List (Line T M))) (p q : List (Line T M)) → ys ≡ take (length ys - 1) ys ++ p ∷ [] → length (take (length ys - 1) ys ++ q ∷ []) ≡ length ys
-  as-long ys p q e =
-      let front = take (length ys - 1) ys in
-      omega (arith, ap length e, length-append front (p ∷ []), length-append front (q ∷ []))
+  -- pieces beside others, each as wide
+  abbrev AreAsWide : List (List (Line T M)) → List (List (Line T M)) → Type 0
+  AreAsWide [] [] = Unit {0}
+  AreAsWide (p ∷ ps) (q ∷ qs) = IsAsWide p q × AreAsWide ps qs
+  AreAsWide ps qs = ⊥
 
-  known-last : (k : Known) (xs ys zs rs : List (List (Line T M))) (p q : List (Line T M)) → rs ++ p ∷ [] ≡ xs ++ (ys ++ zs) → k.front ≡ length xs → k.back ≡ length zs →
-      AllAtLeast k.least (lines_of ys) → IsAsWide p q → IsCount k.count (length (lines_of (rs ++ q ∷ []))) → AreParted k (rs ++ q ∷ [])
-  known-last k xs ys (z ∷ zs) rs p q e a b c w d =
-      let front : List (List (Line T M)) = take (length (z ∷ zs) - 1) (z ∷ zs) in
-      let whole : rs ++ p ∷ [] ≡ (xs ++ ys) ++ z ∷ zs = e ∙ sym (append_assoc xs ys (z ∷ zs)) in
-      let ends : z ∷ zs ≡ front ++ p ∷ [] = last-of (xs ++ ys) (z ∷ zs) rs p whole (omega arith) in
-      record {
-        first = xs;
-        between = ys;
-        last = front ++ q ∷ [];
-        all = ap (λ l. l ++ q ∷ []) (before-last (xs ++ ys) (z ∷ zs) rs p whole (omega arith)) ∙ append_assoc (xs ++ ys) front (q ∷ [])
-            ∙ append_assoc xs ys (front ++ q ∷ []);
-        front = a;
-        back = b ∙ sym (as-long (z ∷ zs) p q ends);
-        least = c;
-        counts = d;
-      }
-  known-last k xs (y ∷ ys) [] rs p q e a b c w d =
-      let front : List (List (Line T M)) = take (length (y ∷ ys) - 1) (y ∷ ys) in
-      let whole : rs ++ p ∷ [] ≡ xs ++ y ∷ ys = e ∙ ap (λ l. xs ++ l) (append-nil (y ∷ ys)) in
-      let ends : y ∷ ys ≡ front ++ p ∷ [] = last-of xs (y ∷ ys) rs p whole (omega arith) in
-      let wide : AllAtLeast k.least (lines_of front ++ p) = subst (λ l. AllAtLeast k.least l) (ap (λ (l : List (List (Line T M))). lines_of l) ends ∙ lines_of-end front p) c in
-      record {
-        first = xs;
-        between = front ++ q ∷ [];
-        last = [];
-        all = ap (λ l. l ++ q ∷ []) (before-last xs (y ∷ ys) rs p whole (omega arith)) ∙ append_assoc xs front (q ∷ [])
-            ∙ ap (λ l. xs ++ l) (sym (append-nil (front ++ q ∷ [])));
-        front = a;
-        back = b;
-        least = subst (λ l. AllAtLeast k.least l) (sym (lines_of-end front q))
-            (least-both k.least k.least k.least (lines_of front) q (least-left k.least (lines_of front) p wide)
-            (w.wide k.least (least-right k.least (lines_of front) p wide)) (omega arith) (omega arith));
-        counts = d;
-      }
-  known-last k (x ∷ xs) [] [] rs p q e a b c w d =
-      let front : List (List (Line T M)) = take (length (x ∷ xs) - 1) (x ∷ xs) in
-      let whole : rs ++ p ∷ [] ≡ [] ++ x ∷ xs = e ∙ append-nil (x ∷ xs) in
-      let ends : x ∷ xs ≡ front ++ p ∷ [] = last-of [] (x ∷ xs) rs p whole (omega arith) in
-      record {
-        first = front ++ q ∷ [];
-        between = [];
-        last = [];
-        all = ap (λ l. l ++ q ∷ []) (before-last [] (x ∷ xs) rs p whole (omega arith)) ∙ sym (append-nil (front ++ q ∷ []));
-        front = a ∙ sym (as-long (x ∷ xs) p q ends);
-        back = b;
-        least = c;
-        counts = d;
-      }
-  known-last k [] [] [] rs p q e a b c w d = absurd (omega (arith, ap length e, length-append rs (p ∷ [])))
+  wide-same : (ps : List (List (Line T M))) → AreAsWide ps ps
+  wide-same [] = tt
+  wide-same (p ∷ ps) = (record { same = refl; wide = λ n all. all }, wide-same ps)
 
-  parted-last-changed : (k : Known) (ps rs : List (List (Line T M))) (p q : List (Line T M)) → AreParted k ps → ps ≡ rs ++ p ∷ [] → IsAsWide p q →
-      AreParted k (rs ++ q ∷ [])
-  parted-last-changed k ps rs p q a e w =
-      let count : length (lines_of ps) ≡ length (lines_of (rs ++ q ∷ [])) =
-      omega (
-        arith,
-        ap (λ (y : List (List (Line T M))). length (lines_of y)) e,
-        ap length (lines_of-end rs p),
-        ap length (lines_of-end rs q),
-        length-append (lines_of rs) p,
-        length-append (lines_of rs) q,
-        w.same,
-      ) in
-      known-last k a.first a.between a.last rs p q (sym e ∙ a.all) a.front a.back a.least w (subst (λ n. IsCount k.count n) count a.counts)
+  wide-end : (ps : List (List (Line T M))) (p q : List (Line T M)) → IsAsWide p q → AreAsWide (ps ++ p ∷ []) (ps ++ q ∷ [])
+  wide-end [] p q w = (w, tt)
+  wide-end (r ∷ ps) p q w = (record { same = refl; wide = λ n all. all }, wide-end ps p q w)
+
+  wide-take : (n : ℕ) (ps qs : List (List (Line T M))) → AreAsWide ps qs → AreAsWide (take n ps) (take n qs)
+  wide-take zero ps qs w = tt
+  wide-take (suc n) [] [] w = tt
+  wide-take (suc n) (p ∷ ps) (q ∷ qs) w = (w.0, wide-take n ps qs w.1)
+  wide-take (suc n) [] (q ∷ qs) w = absurd w
+  wide-take (suc n) (p ∷ ps) [] w = absurd w
+
+  wide-drop : (n : ℕ) (ps qs : List (List (Line T M))) → AreAsWide ps qs → AreAsWide (drop n ps) (drop n qs)
+  wide-drop zero ps qs w = w
+  wide-drop (suc n) [] [] w = tt
+  wide-drop (suc n) (p ∷ ps) (q ∷ qs) w = wide-drop n ps qs w.1
+  wide-drop (suc n) [] (q ∷ qs) w = absurd w
+  wide-drop (suc n) (p ∷ ps) [] w = absurd w
+
+  wide-lines : (n : ℕ) (ps qs : List (List (Line T M))) → AreAsWide ps qs → AllAtLeast n (lines_of ps) → AllAtLeast n (lines_of qs)
+  wide-lines n [] [] w all = all
+  wide-lines n (p ∷ ps) (q ∷ qs) w all =
+      least-both n n n q (lines_of qs) (w.0.wide n (least-left n p (lines_of ps) all)) (wide-lines n ps qs w.1 (least-right n p (lines_of ps) all))
+      (omega arith) (omega arith)
+  wide-lines n [] (q ∷ qs) w all = absurd w
+  wide-lines n (p ∷ ps) [] w all = absurd w
+
+  wide-counts : (ps qs : List (List (Line T M))) → AreAsWide ps qs → (length qs ≡ length ps) × (length (lines_of ps) ≡ length (lines_of qs))
+  wide-counts [] [] w = (refl, refl)
+  wide-counts (p ∷ ps) (q ∷ qs) w =
+      let rest = wide-counts ps qs w.1 in
+      (ap suc rest.0, omega (arith, w.0.same, rest.1, length-append p (lines_of ps), length-append q (lines_of qs)))
+  wide-counts [] (q ∷ qs) w = absurd w
+  wide-counts (p ∷ ps) [] w = absurd w
+
+  known-changed : (k : Known) (ps qs : List (List (Line T M))) → ArePieces k ps → AreAsWide ps qs → ArePieces k qs
+  known-changed k ps qs a w =
+      let counts = wide-counts ps qs w in
+      let n = length ps - k.back in
+      let inner : AreAsWide (take n ps) (take (length qs - k.back) qs) =
+      subst (λ m. AreAsWide (take n ps) (take (m - k.back) qs)) (sym counts.0) (wide-take n ps qs w) in
+      record {
+        outer = omega (arith, counts.0, a.outer);
+        least = wide-lines k.least (between k.front k.back ps) (between k.front k.back qs) (wide-drop k.front _ _ inner) a.least;
+        counts = subst (λ m. IsCount k.count m) counts.1 a.counts;
+      }
+
+  pub known-first-changed : (k : Known) (ps rs : List (List (Line T M))) (p q : List (Line T M)) → ArePieces k ps → ps ≡ p ∷ rs → IsAsWide p q →
+      ArePieces k (q ∷ rs)
+  known-first-changed k ps rs p q a e w = known-changed k (p ∷ rs) (q ∷ rs) (subst (ArePieces k) e a) (w, wide-same rs)
+
+  pub known-last-changed : (k : Known) (ps rs : List (List (Line T M))) (p q : List (Line T M)) → ArePieces k ps → ps ≡ rs ++ p ∷ [] → IsAsWide p q →
+      ArePieces k (rs ++ q ∷ [])
+  known-last-changed k ps rs p q a e w = known-changed k (rs ++ p ∷ []) (rs ++ q ∷ []) (subst (ArePieces k) e a) (wide-end rs p q w)
 
   -- ---- pieces that are filled
 
@@ -331,9 +279,10 @@ module _ {T M : Type 0} where
       ∙ ap (λ l. fill (lines_of xs) ++ (fill (lines_of ys) ++ l)) (lines-filled tag w zs)
       ∙ sym own ∙ ap (λ (l : List (List (Line T M))). fill (lines_of l)) (sym e)
 
-  parted-wide : (tag : T) (w : ℕ) (k : Known) (ps : List (List (Line T M))) → AreParted k ps → k.front ≡ 0 → k.back ≡ 0 → w ≤ k.least →
+  pub known-wide : (tag : T) (w : ℕ) (k : Known) (ps : List (List (Line T M))) → ArePieces k ps → k.front ≡ 0 → k.back ≡ 0 → w ≤ k.least →
       filled (Some tag) w (lines_of ps) ≡ lines_of ps
-  parted-wide tag w k ps a e f h =
+  known-wide tag w k ps is e f h =
+      let a = parted k ps is in
       let none : a.first ≡ [] = nil_from_length a.first (sym a.front ∙ e) in
       let end : a.last ≡ [] = nil_from_length a.last (sym a.back ∙ f) in
       let whole : ps ≡ a.between = a.all ∙ ap (λ y. y ++ (a.between ++ a.last)) none ∙ ap (λ y. a.between ++ y) end ∙ append-nil a.between in
@@ -344,22 +293,24 @@ module _ {T M : Type 0} where
     pub outer : (xs ys zs : List (List (Line T M))) → ps ≡ xs ++ (ys ++ zs) → first ≡ length xs → last ≡ length zs →
         qs ≡ map (filled (Some tag) w) xs ++ (ys ++ map (filled (Some tag) w) zs)
 
-  parted-filled-outside : (tag : T) (w first : ℕ) (k : Known) (ps qs : List (List (Line T M))) → AreParted k ps → AreFilled tag w first k.back ps qs →
+  pub filled-outside : (tag : T) (w first : ℕ) (k : Known) (ps qs : List (List (Line T M))) → ArePieces k ps → AreFilled tag w first k.back ps qs →
       first ≡ k.front → w ≤ k.least → lines_of qs ≡ filled (Some tag) w (lines_of ps)
-  parted-filled-outside tag w first k ps qs a f e h =
+  filled-outside tag w first k ps qs is f e h =
+      let a = parted k ps is in
       outer-filled tag w k.least a.first a.between a.last ps qs a.least h a.all (f.outer a.first a.between a.last a.all (e ∙ a.front) a.back)
 
-  parted-filled-all : (tag : T) (w first : ℕ) (k : Known) (ps qs : List (List (Line T M))) → AreParted k ps → AreFilled tag w first k.back ps qs →
+  pub filled-all : (tag : T) (w first : ℕ) (k : Known) (ps qs : List (List (Line T M))) → ArePieces k ps → AreFilled tag w first k.back ps qs →
       first ≡ length ps - k.back → lines_of qs ≡ filled (Some tag) w (lines_of ps)
-  parted-filled-all tag w first k ps qs a f e =
+  filled-all tag w first k ps qs is f e =
+      let a = parted k ps is in
       let front : List (List (Line T M)) = a.first ++ a.between in
       let all : ps ≡ front ++ ([] ++ a.last) = a.all ∙ sym (append_assoc a.first a.between a.last) in
       let count : first ≡ length front = omega (arith, e, a.back, ap length all, length-append front a.last) in
       outer-filled tag w w front [] a.last ps qs (All-nil (λ (l : Line T M). w ≤ columns l)) (omega arith) all (f.outer front [] a.last all count a.back)
 
-  parted-filled : (tag : T) (w : ℕ) (k : Known) (ps qs : List (List (Line T M))) → AreParted k ps → lines_of qs ≡ filled (Some tag) w (lines_of ps) →
-      AreParted (record { front = 0; back = 0; least = w; count = k.count }) qs
-  parted-filled tag w k ps qs a e = record {
+  pub known-filled : (tag : T) (w : ℕ) (k : Known) (ps qs : List (List (Line T M))) → ArePieces k ps → lines_of qs ≡ filled (Some tag) w (lines_of ps) →
+      ArePieces (record { front = 0; back = 0; least = w; count = k.count }) qs
+  known-filled tag w k ps qs is e = joined _ qs (record {
     first = [];
     between = qs;
     last = [];
@@ -367,48 +318,5 @@ module _ {T M : Type 0} where
     front = refl;
     back = refl;
     least = least-filled tag w (lines_of ps) (lines_of qs) e;
-    counts = subst (λ n. IsCount k.count n) (sym (ap length e ∙ length-map (lines_of ps) (filled_line tag w))) a.counts;
-  }
-
-  -- ---- the same of what is known
-
-  pub known-none : (ps : List (List (Line T M))) → ps ≡ [] → ArePieces (record { front = 0; back = 0; least = 18446744073709551615; count = Some 0 }) ps
-  known-none ps e = joined _ ps (parted-none ps e)
-
-  pub known-pushed : (k : Known) (ps qs : List (List (Line T M))) (p : List (Line T M)) (back : ℕ) (count : Option ℕ) → ArePieces k ps → qs ≡ ps ++ p ∷ [] →
-      back ≡ k.back + 1 → IsCount count (length (lines_of qs)) → ArePieces (record { front = k.front; back = back; least = k.least; count = count }) qs
-  known-pushed k ps qs p back count a e h c = joined _ qs (parted-pushed k ps qs p back count (parted k ps a) e h c)
-
-  pub known-behind : (k j : Known) (ps qs : List (List (Line T M))) (front : ℕ) (count : Option ℕ) → ArePieces k ps → ArePieces j qs →
-      front ≡ length ps + j.front → IsCount count (length (lines_of ps) + length (lines_of qs)) →
-      ArePieces (record { front = front; back = j.back; least = j.least; count = count }) (ps ++ qs)
-  known-behind k j ps qs front count a b h c = joined _ (ps ++ qs) (parted-behind k j ps qs front count (parted k ps a) (parted j qs b) h c)
-
-  pub known-before : (k j : Known) (ps qs : List (List (Line T M))) (back : ℕ) (count : Option ℕ) → ArePieces k ps → ArePieces j qs →
-      back ≡ k.back + length qs → IsCount count (length (lines_of ps) + length (lines_of qs)) →
-      ArePieces (record { front = k.front; back = back; least = k.least; count = count }) (ps ++ qs)
-  known-before k j ps qs back count a b h c = joined _ (ps ++ qs) (parted-before k j ps qs back count (parted k ps a) (parted j qs b) h c)
-
-  pub known-first-changed : (k : Known) (ps rs : List (List (Line T M))) (p q : List (Line T M)) → ArePieces k ps → ps ≡ p ∷ rs → IsAsWide p q →
-      ArePieces k (q ∷ rs)
-  known-first-changed k ps rs p q a e w = joined k (q ∷ rs) (parted-first-changed k ps rs p q (parted k ps a) e w)
-
-  pub known-last-changed : (k : Known) (ps rs : List (List (Line T M))) (p q : List (Line T M)) → ArePieces k ps → ps ≡ rs ++ p ∷ [] → IsAsWide p q →
-      ArePieces k (rs ++ q ∷ [])
-  known-last-changed k ps rs p q a e w = joined k (rs ++ q ∷ []) (parted-last-changed k ps rs p q (parted k ps a) e w)
-
-  pub known-wide : (tag : T) (w : ℕ) (k : Known) (ps : List (List (Line T M))) → ArePieces k ps → k.front ≡ 0 → k.back ≡ 0 → w ≤ k.least →
-      filled (Some tag) w (lines_of ps) ≡ lines_of ps
-  known-wide tag w k ps a e f h = parted-wide tag w k ps (parted k ps a) e f h
-
-  pub filled-outside : (tag : T) (w first : ℕ) (k : Known) (ps qs : List (List (Line T M))) → ArePieces k ps → AreFilled tag w first k.back ps qs →
-      first ≡ k.front → w ≤ k.least → lines_of qs ≡ filled (Some tag) w (lines_of ps)
-  filled-outside tag w first k ps qs a f e h = parted-filled-outside tag w first k ps qs (parted k ps a) f e h
-
-  pub filled-all : (tag : T) (w first : ℕ) (k : Known) (ps qs : List (List (Line T M))) → ArePieces k ps → AreFilled tag w first k.back ps qs →
-      first ≡ length ps - k.back → lines_of qs ≡ filled (Some tag) w (lines_of ps)
-  filled-all tag w first k ps qs a f e = parted-filled-all tag w first k ps qs (parted k ps a) f e
-
-  pub known-filled : (tag : T) (w : ℕ) (k : Known) (ps qs : List (List (Line T M))) → ArePieces k ps → lines_of qs ≡ filled (Some tag) w (lines_of ps) →
-      ArePieces (record { front = 0; back = 0; least = w; count = k.count }) qs
-  known-filled tag w k ps qs a e = joined _ qs (parted-filled tag w k ps qs (parted k ps a) e)
+    counts = subst (λ n. IsCount k.count n) (sym (ap length e ∙ length-map (lines_of ps) (filled_line tag w))) is.counts;
+  })

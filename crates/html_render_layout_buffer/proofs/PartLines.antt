@@ -3,7 +3,8 @@ use Rattle.std.proofs.Common.{◌≡◌, ℕ, zero, suc, ◌+◌, ◌-◌, ◌<�
 use Rattle.std.specs.Prelude.{replicate, encode_utf8}
 use Rattle.std.specs.Str.{chars, IsUtf8}
 use Rattle.std.specs.Prelude.{min}
-use Rattle.std.proofs.lemmas.List.{drop_at, drop-drop, drop-take, take-take, take-replicate, length-take-le, length-drop, length-replicate, nil_from_length}
+use Rattle.std.proofs.Math.Seq.{take-append-add, drop-append-add}
+use Rattle.std.proofs.lemmas.List.{drop-drop, drop-take, take-take, take-replicate, length-take-le, length-drop, length-replicate, nil_from_length}
 use Rattle.std.proofs.lemmas.Str.{chars_past_char, IsUtf8-past_char, chars-nil, length-encode, len_utf8_bounds}
 use Rattle.html_render_layout_lines.specs.declared.line.Element.TheVariants as element
 use Rattle.html_render_layout_lines.specs.Line.{Line, text_bytes}
@@ -11,7 +12,8 @@ use Rattle.html_render_layout_lines.specs.TaggedText.{under}
 use Rattle.html_render_layout_buffer.specs.declared.slot.Slot.{Slot}
 use Rattle.html_render_layout_buffer.specs.declared.slot.Slot.TheVariants as slot
 use Rattle.html_render_layout_buffer.specs.Fields.{line_slots, elements_read}
-use Rattle.html_render_layout_buffer.specs.Parts.{elements_left, IsLeft, reach}
+use Rattle.html_render_layout_buffer.specs.declared.runs.TagRun.{TagRun}
+use Rattle.html_render_layout_buffer.specs.Parts.{elements_left, IsLeft, IsTagged, reach}
 use Rattle.html_render_layout_buffer.proofs.Stored.{line-read}
 
 -- ---- what is left of a line
@@ -43,10 +45,12 @@ part-of-run xs x from to end limit h k e =
     ∙ drop-take from limit (take end xs) ∙ ap (λ y. take limit y) e
     ∙ take-replicate limit (end - from) x (omega (arith, k))
 
-pub tagged-left : {T M : Type 0} (bs : List ℕ) (ss : List (Slot T M)) (s : Slot T M) (from to end limit : ℕ) → IsLeft bs ss from to → limit ≡ min end to - from →
-    from < to → from < end → drop from (take end ss) ≡ replicate (end - from) s → take limit (line_slots (elements_left bs ss from to)) ≡ replicate limit s
-tagged-left {T} {M} bs ss s from to end limit is e h k f =
-    ap (λ (y : List (Slot T M)). take limit y) (sym is.slots) ∙ part-of-run ss s from to end limit (omega (arith, e, h, k)) (omega (arith, e, h, k)) f
+pub tagged-left : {T M : Type 0} (bs : List ℕ) (ss : List (Slot T M)) (run : TagRun (Slot T M)) (tag : T) (from to limit : ℕ) (l : Line T M) →
+    IsLeft bs ss from to → elements_left bs ss from to ≡ l → limit ≡ min run.end to - from → from < to → from < run.end →
+    drop from (take run.end ss) ≡ replicate (run.end - from) run.tag → run.tag ≡ slot.Byte tag → IsTagged l tag limit
+tagged-left {T} {M} bs ss run tag from to limit l is o e h k f s =
+    ap (λ (y : Line T M). take limit (line_slots y)) (sym o) ∙ ap (λ (y : List (Slot T M)). take limit y) (sym is.slots)
+    ∙ part-of-run ss run.tag from to run.end limit (omega (arith, e, h, k)) (omega (arith, e, h, k)) f ∙ ap (λ y. replicate limit y) s
 
 -- ---- a mark
 
@@ -64,19 +68,22 @@ marked {T} {M} (element.Character c tag ∷ l) m e = by (length (encode_utf8 c))
         ap (λ k. take 1 (replicate k (slot.Byte tag) ++ line_slots l)) (sym f) ∙ e in
         cc
 
-pub mark-left : {T M : Type 0} (bs : List ℕ) (ss : List (Slot T M)) (m : M) (from to end : ℕ) → IsLeft bs ss from to → from < to → from < end →
-    drop from (take end ss) ≡ replicate (end - from) (slot.Mark m) →
-    (elements_left bs ss from to ≡ element.Mark m ∷ drop 1 (elements_left bs ss from to)) × (bs ≡ text_bytes (drop 1 (elements_left bs ss from to)))
-    × (drop (from + 1) (take to ss) ≡ line_slots (drop 1 (elements_left bs ss from to)))
-mark-left {T} {M} bs ss m from to end is h k f =
-    let l : Line T M = elements_left bs ss from to in
+pub mark-left : {T M : Type 0} (bs : List ℕ) (ss : List (Slot T M)) (run : TagRun (Slot T M)) (m : M) (from to : ℕ) (l : Line T M) →
+    IsLeft bs ss from to → elements_left bs ss from to ≡ l → from < to → from < run.end →
+    drop from (take run.end ss) ≡ replicate (run.end - from) run.tag → run.tag ≡ slot.Mark m →
+    IsLeft bs ss (from + 1) to × (l ≡ element.Mark m ∷ elements_left bs ss (from + 1) to)
+mark-left {T} {M} bs ss run m from to l is o h k f s =
+    let own : drop from (take to ss) ≡ line_slots l = is.slots ∙ ap (λ (y : Line T M). line_slots y) o in
     let first : take 1 (line_slots l) ≡ slot.Mark m ∷ [] =
-    ap (λ (y : List (Slot T M)). take 1 y) (sym is.slots) ∙ part-of-run ss (slot.Mark m) from to end 1 (omega (arith, h)) (omega (arith, k)) f in
+    ap (λ (y : List (Slot T M)). take 1 y) (sym own) ∙ part-of-run ss run.tag from to run.end 1 (omega (arith, h)) (omega (arith, k)) f
+    ∙ ap (λ y. y ∷ []) s in
     let whole : l ≡ element.Mark m ∷ drop 1 l = marked l m first in
-    let text : bs ≡ text_bytes (drop 1 l) = is.text ∙ ap (λ (y : Line T M). text_bytes y) whole in
+    let text : bs ≡ text_bytes (drop 1 l) = is.text ∙ ap (λ (y : Line T M). text_bytes y) (o ∙ whole) in
     let slots : drop (from + 1) (take to ss) ≡ line_slots (drop 1 l) =
-    sym (drop-drop 1 from (take to ss)) ∙ ap (λ (y : List (Slot T M)). drop 1 y) (is.slots ∙ ap (λ (y : Line T M). line_slots y) whole) in
-    (whole, text, slots)
+    sym (drop-drop 1 from (take to ss)) ∙ ap (λ (y : List (Slot T M)). drop 1 y) (own ∙ ap (λ (y : Line T M). line_slots y) whole) in (
+      left-made bs ss (from + 1) to (drop 1 l) text slots is.utf8 (omega (arith, h)) is.within,
+      whole ∙ ap (λ (y : Line T M). element.Mark m ∷ y) (sym (left-is bs ss (from + 1) to (drop 1 l) text slots is.utf8)),
+    )
 
 -- ---- characters
 
@@ -97,22 +104,11 @@ reach-nil limit bs e = ap (λ y. reach limit (chars y)) (nil_from_length bs e) �
     by zero = refl
     by (suc k) = refl
 
-take-past : {X : Type 0} (xs ys : List X) (n : ℕ) → take (length xs + n) (xs ++ ys) ≡ xs ++ take n ys
-take-past [] ys n =
-    let e : 0 + n ≡ n = omega arith in
-    ap (λ k. take k ys) e
-take-past (x ∷ xs) ys n =
-    let e : length (x ∷ xs) + n ≡ suc (length xs + n) = omega arith in
-    ap (λ k. take k (x ∷ (xs ++ ys))) e ∙ ap (λ zs. x ∷ zs) (take-past xs ys n)
-
-drop-past : {X : Type 0} (xs ys : List X) (n : ℕ) → drop (length xs + n) (xs ++ ys) ≡ drop n ys
-drop-past xs ys n = sym (drop-drop n (length xs) (xs ++ ys)) ∙ ap (λ zs. drop n zs) (drop_at xs ys (length xs) refl)
-
 drop-past-replicate : {X : Type 0} (size : ℕ) (x : X) (ys : List X) (n : ℕ) → drop (size + n) (replicate size x ++ ys) ≡ drop n ys
 drop-past-replicate size x ys n =
-    ap (λ k. drop (k + n) (replicate size x ++ ys)) (sym (length-replicate size x)) ∙ drop-past (replicate size x) ys n
+    ap (λ k. drop (k + n) (replicate size x ++ ys)) (sym (length-replicate size x)) ∙ drop-append-add (replicate size x) ys n
 
-abbrev pub rest_after : {T M : Type 0} → ℕ → Line T M → Line T M
+abbrev rest_after : {T M : Type 0} → ℕ → Line T M → Line T M
 rest_after zero l = l
 rest_after (suc k) [] = []
 rest_after (suc k) (element.Mark m ∷ l) = element.Mark m ∷ l
@@ -166,7 +162,7 @@ split {T} {M} (suc k) (element.Character c own ∷ l) tag n e utf8 front tagged 
         let rest_utf8 : IsUtf8 B = IsUtf8-past_char (encode_utf8 c ++ B) B c utf8 refl in
         let sum : n ≡ size + reach (suc k - size) (chars B) = e ∙ ap (λ cs. reach (suc k) cs) (chars_past_char (encode_utf8 c ++ B) B c utf8 refl) in
         let next : ℕ = reach (suc k - size) (chars B) in
-        let taken : take n (encode_utf8 c ++ B) ≡ encode_utf8 c ++ take next B = ap (λ i. take i (encode_utf8 c ++ B)) sum ∙ take-past (encode_utf8 c) B next in
+        let taken : take n (encode_utf8 c ++ B) ≡ encode_utf8 c ++ take next B = ap (λ i. take i (encode_utf8 c ++ B)) sum ∙ take-append-add (encode_utf8 c) B next in
         let front_here : IsUtf8 (encode_utf8 c ++ take next B) = subst IsUtf8 taken front in
         let front_rest : IsUtf8 (take next B) = IsUtf8-past_char (encode_utf8 c ++ take next B) (take next B) c front_here refl in
         let tagged_rest : take (suc k - size) S ≡ replicate (suc k - size) (slot.Byte tag) = rest-tagged (slot.Byte own) (slot.Byte tag) size (suc k) S tagged in
@@ -177,27 +173,10 @@ split {T} {M} (suc k) (element.Character c own ∷ l) tag n e utf8 front tagged 
           whole = ap (λ (t : T). element.Character c t ∷ l) same
               ∙ ap (λ (y : Line T M). element.Character c tag ∷ y) rest.whole
               ∙ ap (λ (cs : List ℕ). under tag cs ++ rest_after (suc k - size) l) (sym characters);
-          text = ap (λ i. drop i (encode_utf8 c ++ B)) sum ∙ drop-past (encode_utf8 c) B next ∙ rest.text;
+          text = ap (λ i. drop i (encode_utf8 c ++ B)) sum ∙ drop-append-add (encode_utf8 c) B next ∙ rest.text;
           slots = ap (λ i. drop i (replicate size (slot.Byte own) ++ S)) sum ∙ drop-past-replicate size (slot.Byte own) S next ∙ rest.slots;
           within = omega (arith, sum, rest.within, length-append (replicate size (slot.Byte own)) S, length-replicate {A = Slot T M} size (slot.Byte own));
         }
-
-pub characters-left : {T M : Type 0} (bs : List ℕ) (ss : List (Slot T M)) (from to limit n : ℕ) (tag : T) (l : Line T M) → IsLeft bs ss from to →
-    elements_left bs ss from to ≡ l → n ≡ reach limit (chars bs) → IsUtf8 (take n bs) → take limit (line_slots l) ≡ replicate limit (slot.Byte tag) →
-    (l ≡ under tag (chars (take n bs)) ++ rest_after limit l) × (drop n bs ≡ text_bytes (rest_after limit l))
-    × (drop (from + n) (take to ss) ≡ line_slots (rest_after limit l)) × (from + n ≤ to)
-characters-left {T} {M} bs ss from to limit n tag l is e r front tagged =
-    let text : bs ≡ text_bytes l = is.text ∙ ap (λ (y : Line T M). text_bytes y) e in
-    let slots : drop from (take to ss) ≡ line_slots l = is.slots ∙ ap (λ (y : Line T M). line_slots y) e in
-    let parts = split limit l tag n (r ∙ ap (λ y. reach limit (chars y)) text) (subst IsUtf8 text is.utf8)
-    (subst (λ y. IsUtf8 (take n y)) text front) tagged in
-    let count : length (line_slots l) ≡ to - from =
-    omega (arith, ap length slots, length-drop from (take to ss), length-take-le to ss is.within) in (
-      parts.whole ∙ ap (λ y. under tag (chars (take n y)) ++ rest_after limit l) (sym text),
-      ap (λ y. drop n y) text ∙ parts.text,
-      sym (drop-drop n from (take to ss)) ∙ ap (λ (y : List (Slot T M)). drop n y) slots ∙ parts.slots,
-      omega (arith, count, parts.within, is.ordered),
-    )
 
 -- ---- characters are fewer afterwards
 
@@ -207,9 +186,38 @@ rest-le (suc k) [] = omega arith
 rest-le (suc k) (element.Mark m ∷ l) = omega arith
 rest-le (suc k) (element.Character c tag ∷ l) = omega (arith, rest-le (suc k - length (encode_utf8 c)) l)
 
-pub rest-shorter : {T M : Type 0} (limit : ℕ) (l : Line T M) (tag : T) → 0 < limit → take limit (line_slots l) ≡ replicate limit (slot.Byte tag) →
+rest-shorter : {T M : Type 0} (limit : ℕ) (l : Line T M) (tag : T) → 0 < limit → take limit (line_slots l) ≡ replicate limit (slot.Byte tag) →
     length (rest_after limit l) < length l
 rest-shorter zero l tag h e = absurd (omega (arith, h))
 rest-shorter (suc k) [] tag h e = cc
 rest-shorter (suc k) (element.Mark m ∷ l) tag h e = cc
 rest-shorter (suc k) (element.Character c own ∷ l) tag h e = omega (arith, rest-le (suc k - length (encode_utf8 c)) l)
+
+-- a line's characters of `n` bytes under a tag, and what is left behind them
+pub record AreTaken {T M : Type 0} (l : Line T M) (tag : T) (cs : List ℕ) (rest : List ℕ) (ss : List (Slot T M)) (from to : ℕ) : Type 0 where
+  pub left : IsLeft rest ss from to
+  pub whole : l ≡ under tag cs ++ elements_left rest ss from to
+  pub shorter : length (elements_left rest ss from to) < length l
+
+pub characters-left : {T M : Type 0} (bs own rest : List ℕ) (ss : List (Slot T M)) (from to limit n : ℕ) (tag : T) (l : Line T M) → IsLeft bs ss from to →
+    elements_left bs ss from to ≡ l → n ≡ reach limit (chars bs) → IsUtf8 (take n bs) → IsTagged l tag limit → 0 < limit →
+    own ≡ take (n - 0) bs → rest ≡ drop n bs → IsUtf8 rest → AreTaken l tag (chars own) rest ss (from + n) to
+characters-left {T} {M} bs own rest ss from to limit n tag l is o r front tagged some a behind utf8 =
+    let all : n - 0 ≡ n = omega arith in
+    let taken : take n (text_bytes l) ≡ own = sym (a ∙ ap (λ k. take k bs) all ∙ ap (λ y. take n y) (is.text ∙ ap (λ (y : Line T M). text_bytes y) o)) in
+    let text : bs ≡ text_bytes l = is.text ∙ ap (λ (y : Line T M). text_bytes y) o in
+    let slots : drop from (take to ss) ≡ line_slots l = is.slots ∙ ap (λ (y : Line T M). line_slots y) o in
+    let parts = split limit l tag n (r ∙ ap (λ y. reach limit (chars y)) text) (subst IsUtf8 text is.utf8)
+    (subst (λ y. IsUtf8 (take n y)) text front) tagged in
+    let count : length (line_slots l) ≡ to - from =
+    omega (arith, ap length slots, length-drop from (take to ss), length-take-le to ss is.within) in
+    let after : Line T M = rest_after limit l in
+    let text_after : rest ≡ text_bytes after = behind ∙ ap (λ y. drop n y) text ∙ parts.text in
+    let slots_after : drop (from + n) (take to ss) ≡ line_slots after =
+    sym (drop-drop n from (take to ss)) ∙ ap (λ (y : List (Slot T M)). drop n y) slots ∙ parts.slots in
+    let same : elements_left rest ss (from + n) to ≡ after = left-is rest ss (from + n) to after text_after slots_after utf8 in
+    record {
+      left = left-made rest ss (from + n) to after text_after slots_after utf8 (omega (arith, count, parts.within, is.ordered)) is.within;
+      whole = parts.whole ∙ ap (λ y. under tag (chars y) ++ after) taken ∙ ap (λ (y : Line T M). under tag (chars own) ++ y) (sym same);
+      shorter = omega (arith, ap length same, rest-shorter limit l tag some tagged);
+    }

@@ -1,9 +1,10 @@
 -- Lines in pieces: how wide they are, and what stands at their ends.
 use Rattle.std.proofs.Common.{◌≡◌, ℕ, zero, suc, ◌+◌, ◌-◌, ◌<◌, ◌≤◌, Bool, true, false, ◌&&◌, nat_le, List, [], ◌∷◌, ◌++◌, Some, map, take, drop, length, get_or, reverse, refl, sym, ap, ◌∙◌, subst, arith, append_assoc, append-nil, length-append}
 use Rattle.std.specs.List.{list_all}
-use Rattle.std.proofs.lemmas.List.{take_more, map-append, reverse-append}
+use Rattle.std.proofs.Math.Bool.{and-false}
+use Rattle.std.proofs.lemmas.List.{map-append, reverse-append, reverse-reverse, nil_from_length}
 use Rattle.std.proofs.lemmas.List.Concat.{flat_map-append}
-use Rattle.std.proofs.lemmas.List.Elements.{All-nil, All-cons, All-append, All-head, All-tail, All-map}
+use Rattle.std.proofs.lemmas.List.Elements.{All-nil, All-cons, All-append, All-head, All-tail, All-map, All-more}
 use Rattle.std.proofs.lemmas.List.Folds.{map_fixed, list_all-append}
 use Rattle.html_render_layout_lines.specs.declared.line.Element.TheVariants as element
 use Rattle.html_render_layout_lines.specs.Line.{Line, columns, marks_line}
@@ -27,10 +28,6 @@ pub fails-at : {X : Type 0} (p : X → Bool) (xs : List X) (from n : ℕ) (d : X
 fails-at p [] from n d h k e = absurd (omega arith)
 fails-at p (x ∷ xs) zero zero d h k e = ap (λ b. b && list_all p xs) e
 fails-at p (x ∷ xs) zero (suc n) d h k e = ap (λ b. p x && b) (fails-at p xs zero n d (omega arith) (omega arith) e) ∙ and-false (p x)
-  where
-    and-false : (b : Bool) → (b && false) ≡ false
-    and-false true = refl
-    and-false false = refl
 fails-at p (x ∷ xs) (suc from) zero d h k e = absurd (omega arith)
 fails-at p (x ∷ xs) (suc from) (suc n) d h k e = fails-at p xs from n d (omega arith) (omega arith) e
 
@@ -39,19 +36,12 @@ repeated-spaces M tag zero = refl
 repeated-spaces M tag (suc n) =
     omega (arith, columns-cons {M = M} (element.Character 32 tag) (repeated tag 32 n), width-space, repeated-spaces M tag n)
 
-and-false : (x : Bool) → (x && false) ≡ false
-and-false true = refl
-and-false false = refl
-
 module _ {T M : Type 0} where
   -- ---- how wide lines are
 
   pub least-more : (ls : List (Line T M)) (n a b : ℕ) → n < length ls → AllAtLeast a (take n ls) → b ≤ a → b ≤ columns (get_or ls n []) →
       AllAtLeast b (take (n + 1) ls)
-  least-more ls n a b h all k c =
-      subst (λ (y : List (Line T M)). AllAtLeast b y) (sym (take_more ls n [] h))
-      (All-append (λ (l : Line T M). b ≤ columns l) (take n ls) (get_or ls n [] ∷ []) (λ i d l. omega (arith, k, all i d l))
-      (All-cons (λ (l : Line T M). b ≤ columns l) (get_or ls n []) [] c (All-nil (λ (l : Line T M). b ≤ columns l))))
+  least-more ls n a b h all k c = All-more (λ (l : Line T M). b ≤ columns l) ls n [] h (λ i d l. omega (arith, k, all i d l)) c
 
   least-fewer : (a b : ℕ) (ls : List (Line T M)) → AllAtLeast a ls → b ≤ a → AllAtLeast b ls
   least-fewer a b ls all h = λ k d l. omega (arith, h, all k d l)
@@ -99,6 +89,14 @@ module _ {T M : Type 0} where
   front-append f g [] = refl
   front-append f g (l ∷ ls) = ap (λ x. x ∷ ls) (append_assoc f g l)
 
+  -- without a front
+  pub front-none : (xs : Line T M) (ls : List (Line T M)) → length xs ≡ 0 → with_front (reverse xs) ls ≡ ls
+  front-none xs ls e = ap (λ (y : Line T M). with_front (reverse y) ls) (nil_from_length xs e) ∙ by ls
+    where
+      by : (ls : List (Line T M)) → with_front [] ls ≡ ls
+      by [] = refl
+      by (l ∷ ls) = refl
+
   pub front-length : (f : Line T M) (ls : List (Line T M)) → length (with_front f ls) ≡ length ls
   front-length f [] = refl
   front-length f (l ∷ ls) = refl
@@ -141,12 +139,7 @@ module _ {T M : Type 0} where
 
   -- elements that are stored in reverse
   pub front-put : (old new f : Line T M) → new ≡ old ++ reverse f → reverse new ≡ f ++ reverse old
-  front-put old new f e = ap reverse e ∙ reverse-append old (reverse f) ∙ ap (λ r. r ++ reverse old) (reverse-reverse-is f)
-    where
-      reverse-reverse-is : (f : Line T M) → reverse (reverse f) ≡ f
-      reverse-reverse-is [] = refl
-      reverse-reverse-is (x ∷ xs) =
-          ap reverse (reverse-append (x ∷ []) xs) ∙ reverse-append (reverse xs) (x ∷ []) ∙ ap (λ r. x ∷ r) (reverse-reverse-is xs)
+  front-put old new f e = ap reverse e ∙ reverse-append old (reverse f) ∙ ap (λ r. r ++ reverse old) (reverse-reverse f)
 
   pub marks-put : (old new : Line T M) (ms : List M) → new ≡ old ++ marks_line (reverse ms) → reverse new ≡ marks_line ms ++ reverse old
   marks-put old new ms e = front-put old new (marks_line ms) (e ∙ ap (λ l. old ++ l) (sym (reversed-marks ms)))
@@ -223,6 +216,20 @@ module _ {T M : Type 0} where
       prefixed f l (xs ++ ys) ≡ prefixed f l xs ++ map (λ (k : Line T M). l ++ k) ys
   prefixed-parts f l [] ys h = absurd (omega (arith, h))
   prefixed-parts f l (x ∷ xs) ys h = ap (λ r. (f ++ x) ∷ r) (map-append (λ (k : Line T M). l ++ k) xs ys)
+
+  -- marks and a first prefix before the lines of a first piece, and another prefix before those of others
+  pub appended-behind : (f l : Line T M) (a b c d piece others ls whole : List (Line T M)) → 0 < length piece → b ≡ a ++ prefixed f l piece →
+      c ≡ b ++ map (λ k. l ++ k) others → d ≡ c ++ map (λ k. l ++ k) ls → whole ≡ (piece ++ others) ++ ls → d ≡ a ++ prefixed f l whole
+  appended-behind f l a b c d piece others ls whole h e1 e2 e3 w =
+      rw (e3, e2, e1, w, append_assoc piece others ls, prefixed-parts f l piece (others ++ ls) h, map-append (λ (k : Line T M). l ++ k) others ls)
+      (simp append_assoc)
+
+  -- the lines of a first piece are moved, changed one by one
+  pub moved-next : (f : Line T M → Line T M) (a b piece w : List (Line T M)) (ps rest : List (List (Line T M))) → b ≡ a ++ map f piece → ps ≡ piece ∷ rest →
+      a ++ map f (lines_of ps) ≡ w → b ++ map f (lines_of rest) ≡ w
+  moved-next f a b piece w ps rest e h g =
+      ap (λ y. y ++ map f (lines_of rest)) e ∙ append_assoc a (map f piece) (map f (lines_of rest))
+      ∙ ap (λ y. a ++ y) (sym (map-append f piece (lines_of rest))) ∙ ap (λ y. a ++ map f (lines_of y)) (sym h) ∙ g
 
   -- an only line
   pub only-behind : (f : Line T M) (xs : List (Line T M)) → length xs ≡ 1 → with_front f xs ≡ map (λ (k : Line T M). f ++ k) xs

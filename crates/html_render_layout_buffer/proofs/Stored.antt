@@ -95,6 +95,10 @@ is-stored {T} {M} f ls l is = subst (λ (b : BufferedLines T M). IsStored f b.li
 pub opened : {T M : Type 0} (f : Fields T M) (b : BufferedLines T M) → HoldLines f → buffered f ≡ b → IsStored f b.lines b.line
 opened {T} {M} f b is e = subst (λ (b : BufferedLines T M). IsStored f b.lines b.line) e is
 
+-- the same where the open line is empty
+pub closed : {T M : Type 0} (f : Fields T M) (b : BufferedLines T M) → HoldLines f → buffered f ≡ b → b.line ≡ [] → IsStored f b.lines []
+closed {T} {M} f b e is none = subst (λ (l : Line T M). IsStored f b.lines l) none (opened f b e is)
+
 -- ---- parts that are put together
 
 pub bytes-append : {T M : Type 0} (l m : Line T M) → text_bytes (l ++ m) ≡ text_bytes l ++ text_bytes m
@@ -283,6 +287,11 @@ length-ends (x ∷ ls) at from = ap suc (length-ends ls (at + length (text_bytes
 
 pub count-is : {T M : Type 0} (f : Fields T M) (ls : List (Line T M)) (l : Line T M) → IsStored f ls l → length f.ends ≡ length ls
 count-is f ls l is = ap length is.ends ∙ length-ends ls 0 0
+
+-- an ended line has an end
+pub has-end : {T M : Type 0} (f : Fields T M) (ls : List (Line T M)) (l : Line T M) (es : List LineEnd) (n : ℕ) → IsStored f ls l → es ≡ f.ends →
+    n < length ls → n < length es
+has-end f ls l es n is e h = omega (arith, h, ap length e, count-is f ls l is)
 
 -- ---- the place of an ended line
 

@@ -1,7 +1,8 @@
 -- Tags in runs.
 use Rattle.std.proofs.Common.{◌≡◌, ℕ, zero, suc, inl, inr, ◌+◌, ◌-◌, ◌<◌, ◌≤◌, List, [], ◌∷◌, ◌++◌, Option, Some, None, take, drop, length, get_or, refl, sym, ap, ◌∙◌, subst, arith, append_assoc, append-nil, length-append}
 use Rattle.std.specs.Prelude.{min, max, replicate}
-use Rattle.std.proofs.lemmas.List.{take-append-le, length-replicate, replicate-append-replicate, take-replicate, drop-replicate, take_all, drop_all, take_rest, at_drop_more}
+use Rattle.std.proofs.Math.Seq.{take-append-add, drop-append-add}
+use Rattle.std.proofs.lemmas.List.{take-append-le, drop-append-le, length-replicate, replicate-append-replicate, take-replicate, drop-replicate, take_all, drop_all, take_rest, at_drop_more}
 use Rattle.std.proofs.lemmas.Bool.{cases_lt}
 use Rattle.std.specs.List.{AllWithin}
 use Rattle.std.specs.List.Sorted.{IsNonDecreasingBy}
@@ -16,41 +17,35 @@ length-tags (r ∷ rs) tag s n is =
     omega (arith, is.0, length-tags rs tag r.end n is.1, length-append (replicate (r.end - s) r.tag) (tags_from r.end rs tag n), length-replicate (r.end - s) r.tag)
 
 -- more under the open tag
-pub longer : {T : Type 0} (rs : List (TagRun T)) (own : Option T) (tag : T) (s n k : ℕ) → AreRuns s rs own n → own ≡ Some tag →
-    tags_from s rs own (n + k) ≡ tags_from s rs own n ++ replicate k tag
-longer rs None tag s n k is e = cc
-longer [] (Some own) tag s n k is e =
+pub longer : {T : Type 0} (rs : List (TagRun T)) (own : Option T) (tag : T) (s n k m : ℕ) → AreRuns s rs own n → own ≡ Some tag → m ≡ n + k →
+    AreRuns s rs own m × (tags_from s rs own m ≡ tags_from s rs own n ++ replicate k tag)
+longer rs None tag s n k m is e f = cc
+longer [] (Some own) tag s n k m is e f =
     let same : own ≡ tag = cc in
-    let sum : n + k - s ≡ n - s + k = omega (arith, is) in
-    rw (same, sum) (sym (replicate-append-replicate (n - s) k tag))
-longer (r ∷ rs) (Some own) tag s n k is e =
-    ap (λ ts. replicate (r.end - s) r.tag ++ ts) (longer rs (Some own) tag r.end n k is.1 e)
-    ∙ sym (append_assoc (replicate (r.end - s) r.tag) (tags_from r.end rs (Some own) n) (replicate k tag))
-
-pub is-longer : {T : Type 0} (rs : List (TagRun T)) (own : Option T) (tag : T) (s n k : ℕ) → AreRuns s rs own n → own ≡ Some tag →
-    AreRuns s rs own (n + k)
-is-longer rs None tag s n k is e = cc
-is-longer [] (Some own) tag s n k is e = omega (arith, is)
-is-longer (r ∷ rs) (Some own) tag s n k is e = (is.0, is-longer rs (Some own) tag r.end n k is.1 e)
+    let sum : m - s ≡ n - s + k = omega (arith, is, f) in
+    (omega (arith, is, f), rw (same, sum) (sym (replicate-append-replicate (n - s) k tag)))
+longer (r ∷ rs) (Some own) tag s n k m is e f =
+    let rest = longer rs (Some own) tag r.end n k m is.1 e f in (
+      (is.0, rest.0),
+      ap (λ ts. replicate (r.end - s) r.tag ++ ts) rest.1
+          ∙ sym (append_assoc (replicate (r.end - s) r.tag) (tags_from r.end rs (Some own) n) (replicate k tag)),
+    )
 
 -- more under another tag
-pub switched : {T : Type 0} (rs : List (TagRun T)) (own : Option T) (tag : T) (s n k : ℕ) → AreRuns s rs own n →
-    tags_from s (rs ++ last_as_closed own n) (Some tag) (n + k) ≡ tags_from s rs own n ++ replicate k tag
-switched [] None tag s n k is =
-    let sum : n + k - s ≡ k = omega (arith, is) in
-    rw sum refl
-switched [] (Some own) tag s n k is =
-    let sum : n + k - n ≡ k = omega arith in
-    rw sum refl
-switched (r ∷ rs) own tag s n k is =
-    ap (λ ts. replicate (r.end - s) r.tag ++ ts) (switched rs own tag r.end n k is.1)
-    ∙ sym (append_assoc (replicate (r.end - s) r.tag) (tags_from r.end rs own n) (replicate k tag))
-
-pub is-switched : {T : Type 0} (rs : List (TagRun T)) (own : Option T) (tag : T) (s n k : ℕ) → AreRuns s rs own n →
-    AreRuns s (rs ++ last_as_closed own n) (Some tag) (n + k)
-is-switched [] None tag s n k is = omega (arith, is)
-is-switched [] (Some own) tag s n k is = (is, omega arith)
-is-switched (r ∷ rs) own tag s n k is = (is.0, is-switched rs own tag r.end n k is.1)
+pub switched : {T : Type 0} (rs : List (TagRun T)) (own : Option T) (tag : T) (s n k m : ℕ) → AreRuns s rs own n → m ≡ n + k →
+    AreRuns s (rs ++ last_as_closed own n) (Some tag) m × (tags_from s (rs ++ last_as_closed own n) (Some tag) m ≡ tags_from s rs own n ++ replicate k tag)
+switched [] None tag s n k m is f =
+    let sum : m - s ≡ k = omega (arith, is, f) in
+    (omega (arith, is, f), rw sum refl)
+switched [] (Some own) tag s n k m is f =
+    let sum : m - n ≡ k = omega (arith, f) in
+    ((is, omega (arith, f)), rw sum refl)
+switched (r ∷ rs) own tag s n k m is f =
+    let rest = switched rs own tag r.end n k m is.1 f in (
+      (is.0, rest.0),
+      ap (λ ts. replicate (r.end - s) r.tag ++ ts) rest.1
+          ∙ sym (append_assoc (replicate (r.end - s) r.tag) (tags_from r.end rs own n) (replicate k tag)),
+    )
 
 -- ---- a part
 
@@ -65,31 +60,18 @@ between-nothing (r ∷ rs) tag to =
     rw (none, same) (between-nothing rs tag to)
 
 -- a part of a list that begins with one that ends before the part
-pub later_part : {T : Type 0} (A B : List T) (i j : ℕ) → length A ≤ i → i ≤ j → drop i (take j (A ++ B)) ≡ drop (i - length A) (take (j - length A) B)
-later_part [] B i j h k =
-    let p : i - 0 ≡ i = omega arith in
-    let q : j - 0 ≡ j = omega arith in
-    rw (p, q) refl
-later_part (a ∷ A) B zero j h k = absurd (omega arith)
-later_part (a ∷ A) B (suc i) zero h k = absurd (omega arith)
-later_part (a ∷ A) B (suc i) (suc j) h k =
-    let p : suc i - suc (length A) ≡ i - length A = omega arith in
-    let q : suc j - suc (length A) ≡ j - length A = omega arith in
-    rw (p, q) (later_part A B i j (omega arith) (omega arith))
+later_part : {T : Type 0} (A B : List T) (i j : ℕ) → length A ≤ i → i ≤ j → drop i (take j (A ++ B)) ≡ drop (i - length A) (take (j - length A) B)
+later_part A B i j h k =
+    let p : i ≡ length A + (i - length A) = omega (arith, h) in
+    let q : j ≡ length A + (j - length A) = omega (arith, h, k) in
+    ap (λ n. drop i (take n (A ++ B))) q ∙ ap (drop i) (take-append-add A B (j - length A))
+    ∙ ap (λ n. drop n (A ++ take (j - length A) B)) p ∙ drop-append-add A (take (j - length A) B) (i - length A)
 
 -- one that begins inside the first
 across : {T : Type 0} (A B : List T) (i j : ℕ) → i ≤ length A → length A ≤ j → drop i (take j (A ++ B)) ≡ drop i A ++ take (j - length A) B
-across [] B zero j h k =
-    let q : j - 0 ≡ j = omega arith in
-    rw q refl
-across [] B (suc i) j h k = absurd (omega arith)
-across (a ∷ A) B i zero h k = absurd (omega arith)
-across (a ∷ A) B zero (suc j) h k =
-    let q : suc j - suc (length A) ≡ j - length A = omega arith in
-    rw q (ap (λ ts. a ∷ ts) (across A B zero j (omega arith) (omega arith)))
-across (a ∷ A) B (suc i) (suc j) h k =
-    let q : suc j - suc (length A) ≡ j - length A = omega arith in
-    rw q (across A B i j (omega arith) (omega arith))
+across A B i j h k =
+    let q : j ≡ length A + (j - length A) = omega (arith, k) in
+    ap (λ n. drop i (take n (A ++ B))) q ∙ ap (drop i) (take-append-add A B (j - length A)) ∙ drop-append-le i A (take (j - length A) B) h
 
 between_last : {T : Type 0} (tag : T) (at to s n : ℕ) → at ≤ to → to ≤ n → s ≤ at →
     replicate (to - at) tag ≡ drop (at - s) (take (to - s) (replicate (n - s) tag))
@@ -170,24 +152,6 @@ between_is rs qs tag from to n ts is e f h k =
     let a : from - 0 ≡ from = omega arith in
     let b : to - 0 ≡ to = omega arith in
     rw (f, ← e) (between rs tag from to 0 n is h (omega (arith, length-is rs tag n ts is e)) (omega arith) ∙ rw (a, b) refl)
-
-pub longer-to : {T : Type 0} (rs : List (TagRun T)) (own : Option T) (tag : T) (n k m : ℕ) (ts : List T) → AreRuns 0 rs own n → own ≡ Some tag →
-    m ≡ n + k → tags_from 0 rs own n ≡ ts → tags_from 0 rs own m ≡ ts ++ replicate k tag
-longer-to {T} rs own tag n k m ts is e f g =
-    ap (λ i. tags_from 0 rs own i) f ∙ longer rs own tag 0 n k is e ∙ ap (λ (y : List T). y ++ replicate k tag) g
-
-pub is-longer-to : {T : Type 0} (rs : List (TagRun T)) (own : Option T) (tag : T) (n k m : ℕ) → AreRuns 0 rs own n → own ≡ Some tag →
-    m ≡ n + k → AreRuns 0 rs own m
-is-longer-to rs own tag n k m is e f = subst (λ i. AreRuns 0 rs own i) (sym f) (is-longer rs own tag 0 n k is e)
-
-pub switched-to : {T : Type 0} (rs : List (TagRun T)) (own : Option T) (tag : T) (n k m : ℕ) (ts : List T) → AreRuns 0 rs own n →
-    m ≡ n + k → tags_from 0 rs own n ≡ ts → tags_from 0 (rs ++ last_as_closed own n) (Some tag) m ≡ ts ++ replicate k tag
-switched-to {T} rs own tag n k m ts is f g =
-    ap (λ i. tags_from 0 (rs ++ last_as_closed own n) (Some tag) i) f ∙ switched rs own tag 0 n k is ∙ ap (λ (y : List T). y ++ replicate k tag) g
-
-pub is-switched-to : {T : Type 0} (rs : List (TagRun T)) (own : Option T) (tag : T) (n k m : ℕ) → AreRuns 0 rs own n →
-    m ≡ n + k → AreRuns 0 (rs ++ last_as_closed own n) (Some tag) m
-is-switched-to rs own tag n k m is f = subst (λ i. AreRuns 0 (rs ++ last_as_closed own n) (Some tag) i) (sym f) (is-switched rs own tag 0 n k is)
 
 -- ---- the runs that end before a part
 

@@ -13,9 +13,10 @@ ghost use Rattle.html_render_layout_buffer.specs.Padding.{filled};
 ghost use Rattle.html_render_layout_buffer.specs.Pieces.{fits_after};
 
 use crate::buffer::LineBuffer;
+use crate::runs::longer;
 use html_render_layout_lines::tag::Tag;
 use piece::Piece;
-use pieces::{Pieces, longer};
+use pieces::Pieces;
 use std::alloc::{AllocError, Global};
 use std::marker::Model;
 use std::mem;
@@ -106,8 +107,7 @@ impl<T: Tag, M: Copy> FinishedLines<T, M> {
         ensures { OnOk result (self.new ≡ self.old ++ marks_line marks.now ∷ []) }
     {
         self.last.push_marks(marks)?;
-        self.last.end_line()?;
-        Ok(())
+        self.last.end_line()
     }
 
     /// Appends a line with a text under a tag. Its columns are counted before; `None` if they pass a machine word.
@@ -125,8 +125,7 @@ impl<T: Tag, M: Copy> FinishedLines<T, M> {
         ensures { OnOk result (self.new ≡ self.old ++ under tag (chars text.now) ∷ []) }
     {
         self.last.push_counted(text, columns, tag)?;
-        self.last.end_line()?;
-        Ok(())
+        self.last.end_line()
     }
 
     /// Moves the last lines out. They have the memory that further lines are best written to.
@@ -154,8 +153,7 @@ impl<T: Tag, M: Copy> FinishedLines<T, M> {
         if lines.byte_count() > SMALL {
             settle(&mut self.pieces, &mut self.last)?;
         }
-        self.last.append(lines)?;
-        Ok(())
+        self.last.append(lines)
     }
 
     /// Moves other lines to the end.
@@ -189,8 +187,7 @@ impl<T: Tag, M: Copy> FinishedLines<T, M> {
         }
         self.separate()?;
         settle(&mut self.pieces, &mut self.last)?;
-        self.pieces.fill(width, tag)?;
-        Ok(())
+        self.pieces.fill(width, tag)
     }
 
     /// Puts marks in front of the first line. Does nothing without lines.

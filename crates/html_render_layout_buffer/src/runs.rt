@@ -193,7 +193,7 @@ fn first_after<T>(runs: &[TagRun<T>], place: usize) -> usize
 
 /// Returns the sum of two lengths. `AllocError` if it passes a machine word.
 #[inline]
-fn longer(len: usize, count: usize) -> Result<usize, AllocError>
+pub(crate) fn longer(len: usize, count: usize) -> Result<usize, AllocError>
     ensures { IfOk result (λ n. n ≡ len + count) }
 {
     match len.checked_add(count) {

@@ -20,7 +20,7 @@ use Rattle.html_render_layout_estimates.specs.Passes.{is_table, has_table, with_
 use Rattle.html_render_layout_estimates.specs.Words.{with_words}
 use Rattle.html_render_layout_estimates.specs.laws.Least.{tables-measured}
 use Rattle.html_render_layout_estimates.specs.laws.Words.{words-needed}
-use Rattle.html_render_layout_estimates.proofs.Measuring.{after, Found}
+use Rattle.html_render_layout_estimates.proofs.Backward.{shaped, Next}
 
 -- ---- tables among nodes
 
@@ -73,16 +73,20 @@ module _ {D A : Type 0} (decoration : Decoration D A) (decorator : D) (settings 
       ap (λ k. record n { kind = k; estimate = e }) (sym (unmeasured n.kind f plain))
       ∙ ap (λ x. record n { kind = measured_kind n.kind f; estimate = x }) is_estimate
 
-  after_sized : (t : Forest RenderNode) → after (found true) t ≡ all_sized t
+  -- the trees in which each node is measured
+  abbrev pub after : (with_sizes : Bool) → Forest RenderNode → Forest RenderNode
+  after with_sizes = shaped (found with_sizes) (found with_sizes)
+
+  after_sized : (t : Forest RenderNode) → after true t ≡ all_sized t
   after_sized none = refl
   after_sized (node n children beside) =
-      ap (λ f. node (found true n f) f (after (found true) beside)) (after_sized children)
+      ap (λ f. node (found true n f) f (after true beside)) (after_sized children)
       ∙ ap (node (found true n (all_sized children)) (all_sized children)) (after_sized beside)
 
   -- if the node to measure is a table, the trees have one
   pub found_table : (b : Bool) (t : Forest RenderNode) (now : List (Entry RenderNode)) (at : ℕ) (e : Entry RenderNode) →
-      Found (found b) t now at e → b ≡ has_table t → is_table e.node.kind ≡ true → b ≡ true
-  found_table b t now at e f is table = is ∙ table_in t at e (drop (at + 1) (flatten t)) f.entry table
+      Next (found b) (found b) t now now at e → b ≡ has_table t → is_table e.node.kind ≡ true → b ≡ true
+  found_table b t now at e f is table = is ∙ table_in t at e (drop (at + 1) (flatten t)) f.here table
 
   -- without a table, measuring without preferred widths gives the measured trees without them
   leasts-same : (t : Forest RenderNode) → greatest_least (without_sizes t) ≡ greatest_least t
@@ -103,13 +107,13 @@ module _ {D A : Type 0} (decoration : Decoration D A) (decorator : D) (settings 
   unsized-same n (FragmentStart name) t plain = refl
   unsized-same n kind t plain = cc (leasts-same t, trees-same t)
 
-  after_unsized : (t : Forest RenderNode) → has_table t ≡ false → after (found false) t ≡ without_sizes (all_sized t)
+  after_unsized : (t : Forest RenderNode) → has_table t ≡ false → after false t ≡ without_sizes (all_sized t)
   after_unsized none plain = refl
   after_unsized (node n children beside) plain =
       let front = or_parts (is_table n.kind) (has_table children || has_table beside) plain in
       let rest = or_parts (has_table children) (has_table beside) front.1 in
       let below = without_sizes (all_sized children) in
-      ap (λ f. node (found false n f) f (after (found false) beside)) (after_unsized children rest.0)
+      ap (λ f. node (found false n f) f (after false beside)) (after_unsized children rest.0)
       ∙ ap (node (found false n below) below) (after_unsized beside rest.1)
       ∙ ap (λ m. node m below (without_sizes (all_sized beside))) (unsized-same n n.kind (all_sized children) front.0)
 
@@ -119,11 +123,11 @@ module _ {D A : Type 0} (decoration : Decoration D A) (decorator : D) (settings 
   all_measured t = with_needed_sizes (all_sized t)
 
   -- measuring gives preferred widths if any node is a table, and otherwise none
-  pub after_all : (t : Forest RenderNode) → after (found (has_table t)) t ≡ all_measured t
+  pub after_all : (t : Forest RenderNode) → after (has_table t) t ≡ all_measured t
   after_all t = elim (cases_Bool (has_table t)) [
-    | inl table ↦ ap (λ b. after (found b) t) table ∙ after_sized t ∙ sym (needed true (tables-measured decoration decorator settings t ∙ table))
+    | inl table ↦ ap (λ b. after b t) table ∙ after_sized t ∙ sym (needed true (tables-measured decoration decorator settings t ∙ table))
     | inr plain ↦
-        ap (λ b. after (found b) t) plain ∙ after_unsized t plain ∙ sym (needed false (tables-measured decoration decorator settings t ∙ plain))
+        ap (λ b. after b t) plain ∙ after_unsized t plain ∙ sym (needed false (tables-measured decoration decorator settings t ∙ plain))
   ]
     where
       needed : (b : Bool) → has_table (all_sized t) ≡ b → all_measured t ≡ if b then all_sized t else without_sizes (all_sized t)

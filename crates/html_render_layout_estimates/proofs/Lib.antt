@@ -1,11 +1,10 @@
 pub mod NeedsOfCells
 pub mod WordSpans
-pub mod Wording
 pub mod Latin
 pub mod Sizes
 pub mod Blocks
 pub mod Shapes
-pub mod Measuring
+pub mod Backward
 pub mod Parting
 pub mod Again
 pub mod Onward

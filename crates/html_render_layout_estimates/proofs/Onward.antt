@@ -16,8 +16,8 @@ use Rattle.html_render_layout_nodes.specs.laws.Preorder.{flatten-followed_by, Is
 use Rattle.html_render_layout_estimates.specs.declared.settings.LayoutSettings.{LayoutSettings}
 use Rattle.html_render_layout_estimates.specs.declared.words.WordShape.{WordShape}
 use Rattle.html_render_layout_estimates.specs.Passes.{is_table}
-use Rattle.html_render_layout_estimates.specs.Words.{worded_kind, worded_node, shapes, worded}
-use Rattle.html_render_layout_estimates.proofs.Wording.{length-worded}
+use Rattle.html_render_layout_estimates.specs.Words.{worded_kind, worded_node, node_shape, shapes, worded}
+use Rattle.html_render_layout_estimates.proofs.Backward.{shaped, changed}
 
 -- a node that is no table stays as it is
 unworded : (kind : NodeKind) (below : Forest WordShape) → is_table kind ≡ false → worded_kind kind below ≡ kind
@@ -25,6 +25,22 @@ unworded (Table grid) below plain = absurd (true≢false plain)
 unworded kind below plain = refl
 
 module _ (settings : LayoutSettings) where
+  -- the nodes with words, and their shapes, as a change from the last node to the first makes them
+  abbrev shape : RenderNode → Forest WordShape → WordShape
+  shape n below = node_shape settings (worded_node n below) below
+
+  shaped_shapes : (t : Forest RenderNode) → shaped worded_node shape t ≡ shapes settings t
+  shaped_shapes none = refl
+  shaped_shapes (node n children beside) = cc (shaped_shapes children, shaped_shapes beside)
+
+  pub changed_worded : (t : Forest RenderNode) → changed worded_node shape t ≡ worded settings t
+  changed_worded none = refl
+  changed_worded (node n children beside) = cc (shaped_shapes children, changed_worded children, changed_worded beside)
+
+  length-worded : (t : Forest RenderNode) → length (flatten (worded settings t)) ≡ length (flatten t)
+  length-worded none = refl
+  length-worded (node n children beside) = omega (arith, length-append {A = Entry RenderNode}, length-worded children, length-worded beside)
+
   worded-followed_by : (t u : Forest RenderNode) → worded settings (followed_by t u) ≡ followed_by (worded settings t) (worded settings u)
   worded-followed_by none u = refl
   worded-followed_by (node n children beside) u =
@@ -101,7 +117,7 @@ module _ (settings : LayoutSettings) where
   Onward-past t now at e f plain =
       let next : Forest RenderNode = followed_by f.children f.beside in
       let behind : List (Entry RenderNode) = flatten (worded settings f.children) ++ flatten (worded settings f.beside) in
-      let size : length (flatten (worded settings f.children)) + 1 ≡ e.subtree_len = omega (arith, length-worded settings f.children, f.subtree_len) in
+      let size : length (flatten (worded settings f.children)) + 1 ≡ e.subtree_len = omega (arith, length-worded f.children, f.subtree_len) in
       let stays : e ≡ worded_first e.node f.children =
       ap (λ m. record { node = e.node; subtree_len = m }) (sym size)
       ∙ ap (λ k. record { node = record e.node { kind = k }; subtree_len = length (flatten (worded settings f.children)) + 1 })
@@ -131,7 +147,7 @@ module _ (settings : LayoutSettings) where
       let part_is : part ≡ first ∷ words =
       is ∙ ap (λ m. flatten (worded settings (forest_of (take m (drop at now))))) all
       ∙ ap (λ u. flatten (worded settings u)) f.tree.is ∙ ap (λ l. first ∷ l) (append-nil words) in
-      let many : length part ≡ n = omega (arith, ap length part_is, length-worded settings f.children, f.subtree_len, all) in
+      let many : length part ≡ n = omega (arith, ap length part_is, length-worded f.children, f.subtree_len, all) in
       let below : at ≤ length now = omega (arith, f.end) in
       let size_suc : e.subtree_len ≡ suc (length (flatten f.children)) = omega (arith, f.subtree_len) in
       record {

@@ -1,4 +1,3 @@
 pub mod Tables
 pub mod Words
-pub mod Columns
 pub mod Least

@@ -26,7 +26,7 @@ fn each_least_width_is_at_most_its_size<D: TextDecorator>()
 /// States that no column of a measured table has a minimum width above its preferred width.
 ///
 /// So each column's share is `share_by_size`. Holds of all trees, decorators and settings.
-#[tactic(auto, using(crate::specs::laws::Columns::of_columns))]
+#[tactic(auto, using(crate::specs::laws::Least::of_columns))]
 fn each_column_is_within_its_size<D: TextDecorator>()
     ensures measured { (decorator : D) (settings : LayoutSettings) (trees : Forest RenderNode) →
         All (λ e. AreWithinSizes (needs_of_kind e.node.kind)) (flatten (measured D.decoration decorator settings trees)) }

@@ -2,7 +2,8 @@
 //!
 //! `class_of(WhiteSpace::Normal, 'a')` is a letter one column wide.
 
-ghost use Rattle.std.specs.Prelude.{◌≡◌};
+ghost use Rattle.std.specs.Prelude.{◌≡◌, ◌<◌, ◌∷◌, ◌++◌, encode_utf8, length};
+ghost use Rattle.std.specs.Str.{chars, IsUtf8};
 ghost use Rattle.html_render_layout_lines.specs.Character.{kind, width_of, is_collapsible, has_no_width as has_no_width_of};
 
 use html_render_dom_values::white_space::WhiteSpace;
@@ -183,4 +184,19 @@ fn kind_of(mode: WhiteSpace, c: char, has_no_width: bool) -> Kind
             }
         }
     }
+}
+
+/// Returns the first character of a text, and the rest. The text must not be empty.
+pub fn split_first_character(text: &str) -> (char, &str)
+    requires { 0 < length text.now }
+    ensures characters { chars text.now ≡ result.0 ∷ chars result.1.now }
+    ensures bytes { text.now ≡ encode_utf8 result.0 ++ result.1.now }
+    ensures shorter { length result.1.now < length text.now }
+    ensures text { IsUtf8 result.1.now }
+{
+    let mut chars = text.chars();
+    let Some(c) = chars.next() else {
+        unreachable!()
+    };
+    (c, chars.as_str())
 }

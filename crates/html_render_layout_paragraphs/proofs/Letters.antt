@@ -229,10 +229,12 @@ cut : (bs : List ℕ) (n : ℕ) → IsUtf8 (take n bs) → chars bs ≡ chars (t
 cut bs n u = ap chars (sym (take-append-drop n bs)) ∙ chars-append (take n bs) (drop n bs) u
 
 -- Feeding a text is feeding the letters at its start and then the rest.
-pub after-front : {T M : Type 0} (st : State T M) (style : TextStyle T) (bs : List ℕ) (n w : ℕ) → IsUtf8 bs →
-    AreLetters style.mode bs n w → 0 < n → after st (styled style (chars bs))
-    ≡ option_and_then (λ t. after t (styled style (chars (drop n bs)))) (letters_step st style (chars (take n bs)))
-after-front {T} {M} st style bs n w u are low =
+pub after-front : {T M : Type 0} (st : State T M) (style : TextStyle T) (bs letters : List ℕ) (n w : ℕ) → IsUtf8 bs →
+    AreLetters style.mode bs n w → 0 < n → letters ≡ take (n - 0) bs → after st (styled style (chars bs))
+    ≡ option_and_then (λ t. after t (styled style (chars (drop n bs)))) (letters_step st style (chars letters))
+after-front {T} {M} st style bs letters n w u are low e =
+    let all : n - 0 ≡ n = omega arith in
+    let same : take n bs ≡ letters = sym (e ∙ ap (λ k. take k bs) all) in
     let front : IsUtf8 (take n bs) = IsUtf8-take bs n u are.boundary in
     let within = are.within in
     let some : 0 < length (chars (take n bs)) = some-chars (take n bs) front (simp length-take (omega arith)) in
@@ -240,7 +242,7 @@ after-front {T} {M} st style bs n w u are low =
     ∙ ap (after st) (map-append (λ c. item.Character (character_of style c)) (chars (take n bs)) (chars (drop n bs)))
     ∙ after-append st (styled style (chars (take n bs))) (styled style (chars (drop n bs)))
     ∙ ap (option_and_then (λ (t : State T M). after t (styled style (chars (drop n bs)))))
-    (after-letters st style (chars (take n bs)) are.letters some)
+    (after-letters st style (chars (take n bs)) are.letters some ∙ ap (λ y. letters_step st style (chars y)) same)
 
 -- ---- A word and the space after it
 
@@ -288,22 +290,18 @@ after_first : {T M : Type 0} (style : TextStyle T) (b : ℕ) (cs : List ℕ) (o 
 after_first style b cs None = refl
 after_first style b cs (Some t) = refl
 
-pub after-word : {T M : Type 0} (st : State T M) (style : TextStyle T) (bs : List ℕ) (n w : ℕ) → IsUtf8 bs → style.mode ≡ Normal →
+pub after-word : {T M : Type 0} (st : State T M) (style : TextStyle T) (bs word : List ℕ) (n w : ℕ) → IsUtf8 bs → style.mode ≡ Normal →
     AreLetters style.mode bs n w → 0 < n → n < length bs → get_or bs n 0 < 128 → kind Normal (get_or bs n 0) ≡ Space →
-    st.open_word ≡ None → st.word ≡ [] → after st (styled style (chars bs))
-    ≡ option_and_then (λ t. after t (styled style (chars (drop (n + 1) bs))))
-    (placed_text_and_space st style (chars (take n bs)) (get_or bs n 0))
-after-word {T} {M} st style bs n w u mode are low high byte space none empty =
+    st.open_word ≡ None → st.word ≡ [] → word ≡ take (n - 0) bs → after st (styled style (chars bs))
+    ≡ option_and_then (λ t. after t (styled style (chars (drop (n + 1) bs)))) (placed_text_and_space st style (chars word) (get_or bs n 0))
+after-word {T} {M} st style bs word n w u mode are low high byte space none empty e =
     let b : ℕ = get_or bs n 0 in
     let rest : List ℕ = drop (n + 1) bs in
     let next : n + 1 ≡ suc n = omega arith in
     let whole : drop n bs ≡ b ∷ rest = drop-cons bs n 0 high ∙ rw next refl in
-    after-front st style bs n w u are low
-    ∙ ap (λ cs. option_and_then (λ (t : State T M). after t (styled style cs)) (letters_step st style (chars (take n bs))))
+    after-front st style bs word n w u are low e
+    ∙ ap (λ cs. option_and_then (λ (t : State T M). after t (styled style cs)) (letters_step st style (chars word)))
     (ap chars whole ∙ chars-ascii b rest byte)
-    ∙ after_first style b (chars rest) (letters_step st style (chars (take n bs)))
+    ∙ after_first style b (chars rest) (letters_step st style (chars word))
     ∙ ap (option_and_then (λ (t : State T M). after t (styled style (chars rest))))
-    (word_space st style (chars (take n bs)) b none empty mode space)
-
-pub boundary-space : (bs : List ℕ) (n : ℕ) → IsUtf8 bs → n < length bs → get_or bs n 0 < 128 → IsCharBoundary bs (n + 1)
-boundary-space bs n u h e = IsCharBoundary-after_ascii bs n u h e
+    (word_space st style (chars word) b none empty mode space)

@@ -1,9 +1,7 @@
 pub mod WordColumns
 pub mod PageColumns
-pub mod Words
 pub mod Copies
 pub mod Letters
 pub mod WholeWords
-pub mod Fronts
 pub mod SpacedWords
 pub mod Flushing

@@ -1,10 +1,10 @@
 -- Words that follow each other on a line, each after one space.
-use Rattle.std.proofs.Common.{◌≡◌, ℕ, ◌+◌, ◌<◌, ◌≤◌, Bool, true, List, [], ◌∷◌, ◌++◌, take, drop, length, Option, None, Some, refl}
-use Rattle.std.proofs.Common.{sym, ap, ◌∙◌, arith, length-append, option_map, option_and_then, append_assoc, append-nil, if◌then◌else◌, map, get_or, suc, drop-cons}
+use Rattle.std.proofs.Common.{◌≡◌, ℕ, ◌+◌, ◌-◌, ◌<◌, ◌≤◌, Bool, true, List, [], ◌∷◌, ◌++◌, take, drop, length, Option, None, Some, refl, sym, ap, ◌∙◌, arith}
+use Rattle.std.proofs.Common.{length-append, option_map, option_and_then, append_assoc, append-nil, if◌then◌else◌, map, get_or, suc, drop-cons, subst}
 use Rattle.std.proofs.lemmas.List.Sums.{sum_by-append}
-use Rattle.std.proofs.lemmas.List.{map-append, length-drop, length-take, drop-drop, get_or-drop}
+use Rattle.std.proofs.lemmas.List.{map-append, length-drop, length-take, drop-drop, get_or-drop, take-append-drop}
 use Rattle.std.proofs.lemmas.Bool.{le-leb, ne_eqb}
-use Rattle.std.proofs.lemmas.Str.{chars-append, chars-nil, IsUtf8-take, IsUtf8-drop, IsCharBoundary-after_ascii, IsCharBoundary-from_rest}
+use Rattle.std.proofs.lemmas.Str.{chars-append, chars-nil, IsUtf8-take, IsUtf8-drop, IsCharBoundary-after_ascii, IsCharBoundary-from_rest, IsCharBoundary-start}
 use Rattle.std.proofs.Math.Seq.{take-add}
 use Rattle.std.specs.Str.{chars, IsUtf8}
 use Rattle.html_render_dom_values.specs.declared.white_space.WhiteSpace.{WhiteSpace}
@@ -13,7 +13,7 @@ use Rattle.html_render_layout_lines.specs.declared.character.Character.{Characte
 use Rattle.html_render_layout_lines.specs.declared.character.Kind.TheVariants.{Space}
 use Rattle.html_render_layout_lines.specs.declared.character.TextStyle.{TextStyle}
 use Rattle.html_render_layout_lines.specs.declared.line.Element.TheVariants as element
-use Rattle.html_render_layout_lines.specs.Character.{kind, width_of, tag_on, character_of}
+use Rattle.html_render_layout_lines.specs.Character.{kind, width_of, tag_on, character_of, is_plain}
 use Rattle.html_render_layout_paragraphs.specs.Feeding.{AreLetters, IsFront, placed_text_and_space, with_words}
 use Rattle.html_render_layout_lines.specs.Line.{Line, columns, word_columns, is_empty}
 use Rattle.html_render_layout_paragraphs.specs.Paragraph.{LineBuffer, Setting, fits, put_word, put_items, continued}
@@ -21,10 +21,14 @@ use Rattle.html_render_layout_paragraphs.specs.Stream.{State, after, styled, wit
 use Rattle.html_render_layout_lines.specs.TaggedText.{text_columns, under, style_tag}
 use Rattle.html_render_layout_lines.specs.laws.Cases.{if_true, if_false}
 use Rattle.html_render_layout_lines.specs.laws.Columns.{width-space, columns-append, columns-under}
-use Rattle.html_render_layout_paragraphs.proofs.Letters.{after-word, some-chars, chars-ascii}
+use Rattle.html_render_layout_paragraphs.proofs.Letters.{after-word, some-chars, chars-ascii, plain-letters, first-character}
 use Rattle.html_render_layout_paragraphs.proofs.PageColumns.{columns-push_space}
 use Rattle.html_render_layout_paragraphs.proofs.WordColumns.{word_columns-styled}
-use Rattle.html_render_layout_paragraphs.proofs.Words.{put_items-text}
+use Rattle.html_render_layout_paragraphs.proofs.WholeWords.{put_items-text}
+use Rattle.std.specs.Prelude.{encode_utf8}
+use Rattle.html_render_layout_lines.specs.declared.character.Item.TheVariants as item
+use Rattle.std.specs.List.{list_all}
+use Rattle.html_render_layout_paragraphs.specs.laws.Whole.{put_items-append}
 
 -- ---- One word after a space
 
@@ -170,7 +174,8 @@ next-fed {T} {M} st style bs n w k v u mode front high space are low more byte b
     let longer : 0 < length now.page.line = omega (arith, length-append st.page.line line) in
     let fit : columns now.page.line + (1 + text_columns word) ≤ now.setting.width = omega (arith, grown, are.columns) in
     let end : n + 1 + (k + 1) ≡ n + 1 + k + 1 = omega arith in
-    after-word now style rest k v text mode are low within (rw there byte) (rw there behind) closed empty
+    let all : k ≡ k - 0 = omega arith in
+    after-word now style rest (take k rest) k v text mode are low within (rw there byte) (rw there behind) closed empty (ap (λ m. take m rest) all)
     ∙ ap (option_and_then (λ (t : State T M). after t (styled style (chars (drop (k + 1) rest)))))
     (fitting_word now style (get_or bs n 0) (get_or rest k 0) word longer none refl fit letters)
     ∙ ap (λ (t : State T M). after t (styled style (chars (drop (k + 1) rest)))) (one_more st style bs n k before high space)
@@ -238,3 +243,69 @@ after-placed {T} {M} st t style cs b e = by (put_word st.setting st.page st.pend
     by (Some p) e =
         let same : record st { page = p; pending = Some (character_of style b) } ≡ t = cc in
         (ap (λ (x : State T M). x.open_word) (sym same), ap (λ (x : State T M). x.word) (sym same), ap (λ (x : State T M). x.pending) (sym same))
+
+-- ---- leading parts of a text that are appended to a line as a whole
+
+pub no-front : (bs : List ℕ) → IsUtf8 bs → IsFront bs 0 0
+no-front bs u = record {
+  within = omega arith;
+  boundary = IsCharBoundary-start bs u;
+  columns = sym (ap text_columns chars-nil);
+}
+
+-- A leading part of a text, and a leading part of the rest.
+pub more-front : (bs : List ℕ) (n k w v : ℕ) → IsUtf8 bs → IsFront bs n w → IsFront (drop n bs) k v → IsFront bs (n + k) (w + v)
+more-front bs n k w v u front rest =
+    let whole : chars (take (n + k) bs) ≡ chars (take n bs) ++ chars (take k (drop n bs)) =
+    ap chars (take-add n k bs) ∙ chars-append (take n bs) (take k (drop n bs)) (IsUtf8-take bs n u front.boundary) in
+    record {
+      within = omega (arith, front.within, rest.within, length-drop n bs);
+      boundary = IsCharBoundary-from_rest bs n k front.within rest.boundary;
+      columns = omega (
+        arith,
+        front.columns,
+        rest.columns,
+        ap text_columns whole,
+        sum_by-append width_of (chars (take n bs)) (chars (take k (drop n bs))),
+      );
+    }
+
+-- Printable ASCII characters.
+pub plain-front : (bs : List ℕ) (n : ℕ) → IsUtf8 bs → list_all is_plain (take n bs) ≡ true → n ≤ length bs → IsFront bs n n
+plain-front bs n u e within =
+    let letters = plain-letters Normal bs n refl u e within in
+    record { within = letters.within; boundary = letters.boundary; columns = letters.columns }
+
+-- A leading part with the character after it.
+pub next-front : (bs rest : List ℕ) (n w c v : ℕ) → IsUtf8 bs → IsFront bs n w → drop n bs ≡ encode_utf8 c ++ rest → IsUtf8 rest →
+    v ≡ width_of c → IsFront bs (length bs - length rest) (w + v)
+next-front bs rest n w c v u front e behind f =
+    let one = first-character (drop n bs) rest c (IsUtf8-drop bs n u front.boundary) behind e in
+    let longer : length bs ≡ n + (length (encode_utf8 c) + length rest) =
+    omega (arith, front.within, length-drop n bs, ap length e, length-append (encode_utf8 c) rest) in
+    let count : length bs - length rest ≡ n + length (encode_utf8 c) = omega (arith, longer) in
+    subst (λ m. IsFront bs m (w + v)) (sym count) (more-front bs n (length (encode_utf8 c)) w v u front (record {
+      within = omega (arith, ap length e, length-append (encode_utf8 c) rest);
+      boundary = one.0;
+      columns = omega (arith, f, ap text_columns one.1);
+    }))
+
+-- Placing a text whose leading part fits is appending that part and then placing the rest.
+pub put_items-front : {T M : Type 0} (s : Setting) (page : LineBuffer T M) (style : TextStyle T) (bs : List ℕ) (n w : ℕ) → IsUtf8 bs →
+    IsFront bs n w → fits s page w ≡ true → 0 < length (chars (take n bs)) → put_items s page (styled style (chars bs))
+    ≡ put_items s (record page {
+      line =
+          (page.line ++ map (λ (m : M). element.Mark m) page.waiting)
+          ++ under (style_tag page.continues style) (chars (take n bs));
+      waiting = [];
+    }) (styled style (chars (drop n bs)))
+put_items-front {T} {M} s page style bs n w u front e some =
+    let cs : List ℕ = chars (take n bs) in
+    let ds : List ℕ = chars (drop n bs) in
+    let split : chars bs ≡ cs ++ ds =
+    ap chars (sym (take-append-drop n bs)) ∙ chars-append (take n bs) (drop n bs) (IsUtf8-take bs n u front.boundary) in
+    ap (λ xs. put_items s page (styled style xs)) split
+    ∙ ap (put_items s page) (map-append (λ c. item.Character (character_of style c)) cs ds)
+    ∙ put_items-append s page (styled style cs) (styled style ds)
+    ∙ ap (option_and_then (λ (p : LineBuffer T M). put_items s p (styled style ds)))
+    (put_items-text s page style cs (ap (fits s page) (sym front.columns) ∙ e) some)

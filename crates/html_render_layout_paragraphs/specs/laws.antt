@@ -8,12 +8,8 @@ pub mod Whole
 pub mod Words
 -- Relations of two partial results.
 pub mod Answers
--- A paragraph beside another with other overflow: properties of line buffers that each placing keeps.
+-- A paragraph beside another with overflow on: width, refusals and overflow.
 pub mod Beside
--- With overflow off no line passes the width.
-pub mod Within
--- With overflow on no paragraph is too narrow, and its lines are those with overflow off.
-pub mod Overflow
 -- No visible character is lost.
 pub mod Visible
 -- Wrapping doesn't depend on tags.

@@ -20,21 +20,21 @@ fn no_visible_character_is_lost<T, M>()
 {}
 
 /// States that no line passes the width with overflow off.
-#[tactic(auto, using(crate::specs::laws::Within::paragraph_within))]
+#[tactic(auto, using(crate::specs::laws::Beside::paragraph_within))]
 fn no_line_passes_the_width<T, M>()
     ensures { (width : ℕ) (marks : List M) (items : List (Item T M)) →
         IfSome (paragraph (without_overflow width) marks items) (λ page. AllWithinWidth width (all_lines page)) }
 {}
 
 /// States that a paragraph is never too narrow with overflow on.
-#[tactic(auto, using(crate::specs::laws::Overflow::paragraph_some))]
+#[tactic(auto, using(crate::specs::laws::Beside::paragraph_some))]
 fn overflow_is_never_too_narrow<T, M>()
     ensures { (width : ℕ) (marks : List M) (items : List (Item T M)) →
         IsSome (paragraph (with_overflow width) marks items) }
 {}
 
 /// States that a paragraph that isn't too narrow with overflow off is unchanged by overflow.
-#[tactic(auto, using(crate::specs::laws::Overflow::paragraph_same))]
+#[tactic(auto, using(crate::specs::laws::Beside::paragraph_same))]
 fn overflow_gives_the_same_lines<T, M>()
     ensures { (width : ℕ) (marks : List M) (items : List (Item T M)) (page : LineBuffer T M) →
         paragraph (without_overflow width) marks items ≡ Some page → paragraph (with_overflow width) marks items ≡ Some page }

@@ -76,7 +76,6 @@ impl<T: Tag, M: Copy> Word<T, M> {
 
     /// Appends a text of `width` columns in a style.
     #[inline]
-    #[tactic(auto, using(crate::proofs::WordColumns::word_pushes))]
     pub(crate) fn push_str(
         &mut self,
         text: &str,
@@ -93,7 +92,6 @@ impl<T: Tag, M: Copy> Word<T, M> {
 
     /// Appends a character of `width` columns in a style.
     #[inline]
-    #[tactic(auto, using(crate::proofs::WordColumns::word_pushes))]
     pub(crate) fn push_char(
         &mut self,
         c: char,
@@ -109,7 +107,6 @@ impl<T: Tag, M: Copy> Word<T, M> {
     }
 
     /// Appends a mark.
-    #[tactic(auto, using(crate::proofs::WordColumns::word_pushes))]
     pub(crate) fn push_mark(&mut self, mark: M) -> Result<(), AllocError>
         ensures { OnOk result (self.new ≡ self.old ++ Item.Mark mark ∷ []) }
     {

@@ -3,7 +3,7 @@ use Rattle.std.proofs.Common.{◌≡◌, ◌==◌, ℕ, zero, suc, ◌+◌, ◌-
 use Rattle.std.proofs.Math.Dec.{eqb-suc-zero, eqb-zero-suc, eqb-suc-suc}
 use Rattle.std.specs.List.{flat_map, list_any, range_with_len}
 use Rattle.std.proofs.lemmas.List.FromFn.{map-range_with_len_more}
-use Rattle.std.proofs.lemmas.List.{length-take-le, length-drop, take-append-le, drop-append-le, take_all}
+use Rattle.std.proofs.lemmas.List.{length-take-le, length-drop, take-append-le, drop-append-le, take_all, get_or-take, get_or-drop, get_or_past}
 use Rattle.html_render_layout_lines.specs.Line.{Line, columns, marks_line, is_empty}
 use Rattle.html_render_layout_lines.specs.laws.Columns.{columns-append, columns-marks}
 use Rattle.html_render_layout_buffer.specs.Lines.{BufferedLines, with_spaces}
@@ -11,6 +11,7 @@ use Rattle.html_render_layout_buffer.specs.Marked.{marked_before, marked_behind}
 use Rattle.html_render_layout_buffer.specs.Padding.{repeated}
 use Rattle.html_render_layout_pictures.specs.declared.cells.RowCell.{RowCell}
 use Rattle.html_render_layout_pictures.specs.Picture.{KeptCell, TableRow, is_drawn, waiting_in}
+use Rattle.html_render_layout_pictures.specs.laws.Heights.{marked_behind-length}
 use Rattle.html_render_layout_pictures.specs.RowCells.{cell_at, cells_of, line_total}
 use Rattle.html_render_layout_pictures.specs.Rows.{marked_cell, filled_at, rows_put}
 
@@ -115,21 +116,6 @@ module _ {T M : Type 0} where
 
   -- ---- a cell's own line
 
-  get-taken : (ls : List (Line T M)) (n k : ℕ) → k < n → get_or (take n ls) k [] ≡ get_or ls k []
-  get-taken ls zero k h = absurd (omega arith)
-  get-taken [] (suc n) k h = refl
-  get-taken (l ∷ ls) (suc n) zero h = refl
-  get-taken (l ∷ ls) (suc n) (suc k) h = get-taken ls n k (omega arith)
-
-  get-dropped : (ls : List (Line T M)) (n k : ℕ) → get_or (drop n ls) k [] ≡ get_or ls (n + k) []
-  get-dropped ls zero k =
-      let same : k ≡ 0 + k = omega arith in
-      ap (λ i. get_or ls i []) same
-  get-dropped [] (suc n) k = refl
-  get-dropped (l ∷ ls) (suc n) k =
-      let same : suc (n + k) ≡ suc n + k = omega arith in
-      get-dropped ls n k ∙ ap (λ i. get_or (l ∷ ls) i []) same
-
   get-marked : (ms : List M) (ls : List (Line T M)) (k : ℕ) → k < length ls →
       get_or (marked_behind ms ls) k [] ≡ get_or ls k [] ++ cond (k + 1 == length ls) (marks_line ms) []
   get-marked ms [] k h = absurd (omega arith)
@@ -144,22 +130,12 @@ module _ {T M : Type 0} where
       sym (eqb-suc-suc (k + 1) (length (j ∷ ls))) ∙ ap (λ n. n == length (l ∷ j ∷ ls)) next in
       get-marked ms (j ∷ ls) k (omega arith) ∙ ap (λ b. get_or (j ∷ ls) k [] ++ cond b (marks_line ms) []) same
 
-  get-past : (ls : List (Line T M)) (k : ℕ) → length ls ≤ k → get_or ls k [] ≡ []
-  get-past [] k h = refl
-  get-past (l ∷ ls) zero h = absurd (omega arith)
-  get-past (l ∷ ls) (suc k) h = get-past ls k (omega arith)
-
-  marked-count : (ms : List M) (ls : List (Line T M)) → length (marked_behind ms ls) ≡ length ls
-  marked-count ms [] = refl
-  marked-count ms (l ∷ []) = refl
-  marked-count ms (l ∷ k ∷ ls) = ap suc (marked-count ms (k ∷ ls))
-
   -- a cell that isn't so high
   pub none-here : (tag : T) (b : BufferedLines T M) (c : RowCell M) (ls : List (Line T M)) (k : ℕ) → c.count ≤ length ls → c.count ≤ k →
       with_spaces b tag c.width ≡ record { lines = b.lines; line = b.line ++ filled_at tag k (marked_cell (cell_at c ls)) }
   none-here tag b c ls k h n =
       let lines : List (Line T M) = marked_behind c.marks.items (take c.count ls) in
-      let none : get_or lines k [] ≡ [] = get-past lines k (omega (arith, n, marked-count c.marks.items (take c.count ls), length-take-le c.count ls h)) in
+      let none : get_or lines k [] ≡ [] = get_or_past lines k [] (omega (arith, n, marked_behind-length c.marks.items (take c.count ls), length-take-le c.count ls h)) in
       let whole : c.width ≡ c.width - 0 = omega arith in
       ap (λ n. record { lines = b.lines; line = b.line ++ repeated tag 0x20 n }) whole
       ∙ ap (λ (own : Line T M). record { lines = b.lines; line = b.line ++ (own ++ repeated tag 0x20 (c.width - columns own)) }) (sym none)
@@ -176,7 +152,7 @@ module _ {T M : Type 0} where
       let marks : Line T M = cond (k + 1 == c.count) (marks_line c.marks.items) [] in
       let line : get_or (marked_behind c.marks.items mine) k [] ≡ own ++ marks =
       get-marked c.marks.items mine k (omega (arith, h, count))
-      ∙ ap (λ l. l ++ cond (k + 1 == length mine) (marks_line c.marks.items) []) (get-taken (drop start ls) c.count k h ∙ get-dropped ls start k)
+      ∙ ap (λ l. l ++ cond (k + 1 == length mine) (marks_line c.marks.items) []) (get_or-take c.count (drop start ls) k [] h ∙ get_or-drop start ls k [])
       ∙ ap (λ n. own ++ cond (k + 1 == n) (marks_line c.marks.items) []) count in
       let width : columns (own ++ marks) ≡ columns own = columns-append own marks ∙ no-columns (k + 1 == c.count) in
       rw (e, m) (

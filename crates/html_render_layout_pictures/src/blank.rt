@@ -1,5 +1,6 @@
-//! The blank text of a row: what stands on a line of the row where none of its cells has a line. It is made once for the
-//! row, and what stands on a line between two cells that have one is a piece of it.
+//! Blank text of a row: a line of the row on which no cell has a line of its own.
+//!
+//! It is made once for a row. The text between two cells with a line of their own is a slice of it.
 
 ghost use Rattle.std.specs.Prelude.{◌≡◌, ◌-◌, ◌≤◌, ◌++◌, ◌∷◌, [], cond, drop, OnOk, IfOk, replicate};
 ghost use Rattle.std.specs.Char.{len_utf8};
@@ -15,7 +16,7 @@ use html_render_layout_lines::tag::Tag;
 use std::alloc::{AllocError, Global};
 use std::marker::Model;
 
-/// How many bytes stand between two cells.
+/// Returns the number of bytes between two cells: of the separator, or of a space without borders.
 #[inline]
 fn separator_bytes(borders: bool) -> usize
     ensures { result ≡ len_utf8 (cond borders BORDERS.separator 0x20) }
@@ -27,7 +28,7 @@ fn separator_bytes(borders: bool) -> usize
     }
 }
 
-/// Adds spaces to a text.
+/// Appends `count` spaces to a text.
 #[tactic(auto, using(crate::proofs::Blanks::spaces_added))]
 fn add_spaces(text: &mut String, count: usize) -> Result<(), AllocError>
     ensures { OnOk result (chars (string_bytes text.new) ≡ chars (string_bytes text.old) ++ replicate count 0x20) }
@@ -41,7 +42,7 @@ fn add_spaces(text: &mut String, count: usize) -> Result<(), AllocError>
     Ok(())
 }
 
-/// Adds a cell to the blank text of those before it.
+/// Appends a separator and a blank cell to the blank text of the cells before it.
 #[tactic(auto, using(crate::proofs::Blanks::texts))]
 pub(crate) fn add_blank_cell(
     text: &mut String,
@@ -54,7 +55,7 @@ pub(crate) fn add_blank_cell(
     add_spaces(text, width)
 }
 
-/// The blank text of a row's first cell.
+/// Returns the blank text of a row's first cell.
 #[tactic(auto, using(crate::proofs::Blanks::texts))]
 pub(crate) fn first_blank_cell(alloc: Global, width: usize) -> Result<String, AllocError>
     ensures { IfOk result (λ t. chars (string_bytes t) ≡ replicate width 0x20) }
@@ -64,12 +65,14 @@ pub(crate) fn first_blank_cell(alloc: Global, width: usize) -> Result<String, Al
     Ok(text)
 }
 
-/// A place in the blank text of a row, as far as a line is written: what is due there, and what stands behind that.
+/// Position in the blank text of a row while a line is written. Text is due if it was passed and isn't yet appended.
 #[derive(Drop)]
 pub(crate) struct Blank<'a> {
+    /// Text that is due, and the text after it.
     text: &'a str,
-    // how many bytes of the text are due, and how many columns those are
+    /// Number of bytes that are due.
     due: usize,
+    /// Number of columns that are due.
     columns: usize,
 }
 
@@ -84,7 +87,7 @@ impl<'a> Model for Blank<'a> {
 }
 
 impl<'a> Blank<'a> {
-    /// The start of a blank text.
+    /// Returns the start of a blank text, with nothing due.
     pub(crate) fn new(text: &'a str) -> Blank<'a>
         ensures { result ≡ record { due = []; after = chars text.now } }
     {
@@ -95,7 +98,7 @@ impl<'a> Blank<'a> {
         }
     }
 
-    /// Passes a separator, which is due then.
+    /// Passes a separator, which becomes due.
     #[inline]
     pub(crate) fn pass_separator(&mut self, borders: bool)
         requires { self.old.after ≡ cond borders BORDERS.separator 0x20 ∷ drop 1 self.old.after }
@@ -105,7 +108,7 @@ impl<'a> Blank<'a> {
         self.columns += 1;
     }
 
-    /// Passes spaces, which are due then.
+    /// Passes `count` spaces, which become due.
     #[inline]
     pub(crate) fn pass_spaces(&mut self, count: usize)
         requires { self.old.after ≡ replicate count 0x20 ++ drop count self.old.after }
@@ -115,7 +118,7 @@ impl<'a> Blank<'a> {
         self.columns += count;
     }
 
-    /// Lets go what is due.
+    /// Drops the text that is due.
     #[inline]
     fn let_go(&mut self)
         ensures { self.new ≡ record { due = []; after = self.old.after } }
@@ -125,7 +128,7 @@ impl<'a> Blank<'a> {
         self.columns = 0;
     }
 
-    /// Passes spaces, of which the last ones are due then.
+    /// Drops the text that is due and passes `count` spaces, of which the last `due` become due.
     #[inline]
     pub(crate) fn pass_all_but(&mut self, count: usize, due: usize)
         requires spaces { self.old.after ≡ replicate count 0x20 ++ drop count self.old.after }
@@ -137,7 +140,7 @@ impl<'a> Blank<'a> {
         self.pass_spaces(due);
     }
 
-    /// Appends what is due to the open line of a buffer.
+    /// Appends the text that is due to the open line of a buffer.
     #[inline]
     pub(crate) fn put<T: Tag, M: Copy>(
         &mut self,

@@ -1,4 +1,4 @@
-//! Borders between rows, drawn from one separator to the next.
+//! Borders between rows, drawn from separator to separator.
 
 ghost use Rattle.std.specs.Prelude.{◌≡◌, ℕ, ◌+◌, ◌<◌, ◌≤◌, ◌++◌, ◌∷◌, [], false, get_or, length, map, OnOk, IfOk, IfSome};
 ghost use Rattle.std.specs.List.{range_with_len};
@@ -13,7 +13,7 @@ use html_render_layout_buffer::buffer::LineBuffer;
 use html_render_layout_lines::tag::Tag;
 use std::alloc::AllocError;
 
-/// How many columns a row has whose cells have these columns, where a machine word holds that.
+/// Returns the columns of a row whose cells have these widths, with its separators; `None` above `usize::MAX`.
 fn column_count(widths: &[usize]) -> Option<usize>
     ensures { IfSome result (λ n. n ≡ length (separators_between widths.now)) }
 {
@@ -27,15 +27,17 @@ fn column_count(widths: &[usize]) -> Option<usize>
     Some(count)
 }
 
-/// The columns of a row from a place on: how many stand before the next separator, and how many behind each.
+/// Columns of a row from a position on.
 #[derive(Drop)]
 struct Columns<'a> {
+    /// Columns before the next separator.
     blank: usize,
+    /// Widths of the cells after that separator.
     others: &'a [usize],
 }
 
 impl<'a> Columns<'a> {
-    /// The columns of a row whose cells have these.
+    /// Returns the columns of a row whose cells have these widths.
     fn new(widths: &'a [usize]) -> Columns<'a>
         ensures { separators_from result.blank result.others.now ≡ separators_between widths.now }
     {
@@ -51,7 +53,7 @@ impl<'a> Columns<'a> {
         }
     }
 
-    /// How many columns stand before the next separator; as many as can be where none follows.
+    /// Returns the number of columns before the next separator; `usize::MAX` if none follows.
     fn blank(&self) -> usize
         ensures { result ≡ blank_before self.now.blank self.now.others.now }
     {
@@ -62,7 +64,7 @@ impl<'a> Columns<'a> {
         }
     }
 
-    /// Passes so many columns without a separator and one more, and says whether a separator stands at that.
+    /// Passes `count` columns without a separator and the next column. Reports whether that one has a separator.
     fn pass(&mut self, count: usize) -> bool
         requires { count ≤ blank_before self.old.blank self.old.others.now }
         ensures here { result ≡ get_or (separators_from self.old.blank self.old.others.now) count false }
@@ -82,7 +84,7 @@ impl<'a> Columns<'a> {
     }
 }
 
-/// What a border has at a column, by whether the row above and the row below have a separator there.
+/// Returns the border character at a column. `above` and `below` say whether the adjacent rows have a separator there.
 fn joint(above: bool, below: bool) -> char
     ensures { result ≡ definition.joint above below }
 {
@@ -95,7 +97,7 @@ fn joint(above: bool, below: bool) -> char
 }
 
 impl<T: Tag> Frame<T> {
-    /// Appends what a border has where a separator stands above or below.
+    /// Appends the border character of a column. `above` and `below` say whether the adjacent rows have a separator there.
     #[tactic(auto, using(crate::specs::laws::Glyphs::joint_width))]
     fn draw_joint<M: Copy>(
         &self,
@@ -108,8 +110,8 @@ impl<T: Tag> Frame<T> {
         to.push_char(joint(above, below), 1, self.tag)
     }
 
-    /// Draws a border up to the next separator above or below and past it, but no more than so many columns, and answers how
-    /// many.
+    /// Draws a border up to the next column with a separator above or below, that column included, and at most `most` columns.
+    /// Returns the number of columns drawn.
     fn draw_piece<M: Copy>(
         &self,
         to: &mut LineBuffer<T, M>,
@@ -138,7 +140,7 @@ impl<T: Tag> Frame<T> {
         Ok(dashes + 1)
     }
 
-    /// Draws a border of so many columns.
+    /// Draws a border of `width` columns.
     fn draw_border<M: Copy>(
         &self,
         to: &mut LineBuffer<T, M>,
@@ -158,7 +160,7 @@ impl<T: Tag> Frame<T> {
         Ok(())
     }
 
-    /// Appends a border between rows whose cells have these columns.
+    /// Appends a border between two rows whose cells have these widths.
     pub(crate) fn put_border<M: Copy>(
         &self,
         to: &mut LineBuffer<T, M>,

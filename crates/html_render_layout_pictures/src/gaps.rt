@@ -1,5 +1,4 @@
-//! Characters that stand many times in a row: the spaces that fill lines, and the borders of tables. They are written many at
-//! once.
+//! Repeated characters: the spaces that pad lines, and the borders of tables. Up to `CHUNK` are written at once.
 
 ghost use Rattle.std.specs.Prelude.{◌≡◌, ◌≤◌, ◌<◌, ◌++◌, ◌∷◌, [], cond, OnOk, replicate};
 ghost use Rattle.std.specs.Str.{chars, encode_utf8_all};
@@ -12,21 +11,21 @@ use html_render_layout_buffer::buffer::LineBuffer;
 use html_render_layout_lines::tag::Tag;
 use std::alloc::AllocError;
 
-/// A character that stands many times in a row. It takes one column.
+/// A repeated character of one column.
 #[derive(Clone, Copy)]
 pub enum Filler {
     /// A space.
     Space,
-    /// A slash, between the cells of a row that stand one below another.
+    /// A slash, for the line between two stacked cells of a row.
     Slash,
-    /// The dash of borders.
+    /// The horizontal border character.
     Dash,
 }
 
-/// As many spaces as are written at once.
+/// `CHUNK` spaces.
 const SPACES: &str = "                                                                ";
 
-/// A character `count` times, of a text that has it as often as it is written at once.
+/// Returns the first `count` characters of a text that consists of `CHUNK` times `character`.
 fn first_of(text: &'static str, character: char, count: usize) -> &'static str
     requires text { text.now ≡ encode_utf8_all (replicate CHUNK character) }
     requires few { count ≤ CHUNK }
@@ -35,7 +34,7 @@ fn first_of(text: &'static str, character: char, count: usize) -> &'static str
     &text[..count * character.len_utf8()]
 }
 
-/// `count` spaces, without an allocation.
+/// Returns `count` spaces, without an allocation.
 pub fn few_spaces(count: usize) -> &'static str
     requires { count ≤ CHUNK }
     ensures { chars result.now ≡ replicate count 0x20 }
@@ -43,10 +42,10 @@ pub fn few_spaces(count: usize) -> &'static str
     first_of(SPACES, ' ', count)
 }
 
-/// One space fewer than are written at once, and a separator.
+/// `CHUNK - 1` spaces and a separator.
 const GAP: &str = "                                                               │";
 
-/// The last `few` spaces of such a text, and the separator behind them.
+/// Returns the last `few` spaces of a text of `CHUNK - 1` spaces and a separator, with the separator.
 fn last_of_gap(text: &'static str, few: usize) -> &'static str
     requires text { text.now ≡ encode_utf8_all (replicate 63 0x20 ++ BORDERS.separator ∷ []) }
     requires few { few < CHUNK }
@@ -55,7 +54,7 @@ fn last_of_gap(text: &'static str, few: usize) -> &'static str
     &text[CHUNK - 1 - few..]
 }
 
-/// `few` spaces, and what stands between cells, without an allocation.
+/// Returns `few` spaces and the separator between two cells, without an allocation. Without borders it is another space.
 #[tactic(auto, using(crate::proofs::LawSets::gaps))]
 pub(crate) fn gap(borders: bool, few: usize) -> &'static str
     requires { few < CHUNK }
@@ -68,7 +67,7 @@ pub(crate) fn gap(borders: bool, few: usize) -> &'static str
     }
 }
 
-/// A character `count` times, without an allocation.
+/// Returns `count` times the character of `filler`, without an allocation.
 fn few(filler: Filler, count: usize) -> &'static str
     requires { count ≤ CHUNK }
     ensures { chars result.now ≡ replicate count (character_of filler) }
@@ -80,11 +79,11 @@ fn few(filler: Filler, count: usize) -> &'static str
     }
 }
 
-/// Appends a character `count` times to the open line of a buffer, under a tag.
+/// Appends the character of `filler` `count` times to the open line of a buffer, under a tag.
 ///
 /// # Errors
 ///
-/// `AllocError`. The buffer then has no lines.
+/// `AllocError` if an allocation is refused. The buffer then has no lines.
 #[tactic(auto, using(crate::specs::laws::Fillers::fillers_width, crate::specs::laws::Fillers::fillers_parted))]
 pub fn push_fillers<T: Tag, M: Copy>(
     to: &mut LineBuffer<T, M>,

@@ -1,6 +1,6 @@
 //! The picture of a table: its rows' lines, with borders above, between and below them.
 
-ghost use Rattle.std.specs.Prelude.{◌≡◌, ◌<◌, List, [], ◌++◌, length, None, OnOk, IfOk};
+ghost use Rattle.std.specs.Prelude.{◌≡◌, ◌<◌, List, [], ◌++◌, length, OnOk, IfOk};
 ghost use Rattle.html_render_dom_values.specs.Outcome.{OnlyOutOfMemory};
 ghost use Rattle.html_render_layout_pictures.specs.Picture as definition;
 ghost use Rattle.html_render_layout_pictures.specs.Picture.{TableRow};
@@ -255,29 +255,28 @@ impl<T: Tag, M: Copy> Picture<T, M> {
         requires { 0 < length row }
         ensures { OnOk result (self.new ≡ drawing.with_cells self.old row) }
     {
-        let widths = self.shown_widths(&row)?;
-        self.draw_border(widths.as_slice())?;
+        self.draw_border(&row)?;
         row.wait_for_lines(&mut self.waiting)?;
         if row.len() == 1 {
-            self.draw_only_cell(row)?;
+            self.draw_only_cell(row)
         } else {
-            self.draw_cells(row)?;
+            self.draw_cells(row)
         }
-        self.due = self.frame.due_below(self.alloc, widths);
-        Ok(())
     }
 
-    /// Adds the border that is due, above a row whose cells have these columns.
-    fn draw_border(&mut self, below: &[usize]) -> Result<(), AllocError>
+    /// Adds the border that is due above a row. The border below the row is due then.
+    fn draw_border(&mut self, row: &RowCells<T, M>) -> Result<(), AllocError>
         ensures { OnOk result (self.new ≡ record self.old {
-          lines = self.old.lines ++ drawing.due_lines self.old.frame self.old.due (separators_between below.now);
-          due = None;
+          lines = self.old.lines ++ drawing.due_lines self.old.frame self.old.due (definition.separators_of row.now);
+          due = drawing.due_below self.old.frame (definition.separators_of row.now);
         }) }
     {
+        let widths = self.shown_widths(row)?;
         let due = mem::replace(&mut self.due, None);
         let mut last = mem::replace(&mut self.last, LineBuffer::new(self.alloc));
-        self.frame.put_due(&mut last, due, below)?;
+        self.frame.put_due(&mut last, due, widths.as_slice())?;
         self.last = last;
+        self.due = self.frame.due_below(self.alloc, widths);
         Ok(())
     }
 

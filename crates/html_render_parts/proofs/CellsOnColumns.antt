@@ -17,7 +17,7 @@ use Rattle.html_render_parts.proofs.EdgeRanks.{rank-less, rank-mono}
 use Rattle.html_render_parts.proofs.GatheringEnds.{Between, EndsIn, own-between}
 use Rattle.html_render_parts.proofs.Vectors.{All-unmap}
 use Rattle.std.proofs.lemmas.List.Sums.{AllPass-from_list_all}
-use Rattle.html_render_parts.proofs.SideBySide.{Wide, Wide-own_from}
+use Rattle.html_render_parts.proofs.SideBySide.{Valid, Wide, Wide-own_from}
 
 -- ---- positions of the table's own cells
 
@@ -71,7 +71,7 @@ own-within rows e =
 
 -- ---- one cell
 
-edge_behind : (es : List ℕ) (c : PositionedCell) → (on_columns es c).first + (on_columns es c).columns ≡ rank es (c.column + c.span.colspan)
+pub edge_behind : (es : List ℕ) (c : PositionedCell) → (on_columns es c).first + (on_columns es c).columns ≡ rank es (c.column + c.span.colspan)
 edge_behind es c = let mono = rank-mono es c.column (c.column + c.span.colspan) (omega arith) in omega arith
 
 span-back : (es : List ℕ) (c : PositionedCell) → IsStrictlyIncreasing es → Between (Contains es) c → span_on es (on_columns es c) ≡ c.span
@@ -142,9 +142,6 @@ pub edges-rise : (g : CellGrid) → IsCellGrid g → IsStrictlyIncreasing g.edge
 edges-rise g h =
     let is = cells-are (spans_on g) g h.own in
     subst (λ x. IsStrictlyIncreasing x.edges) is.1 (IsStrictlyIncreasing-rising (0 ∷ ends (placed_rows (spans_on g))))
-
-abbrev Valid : Span → Type 0
-Valid s = (1 ≤ s.colspan) × (1 ≤ s.rowspan)
 
 own_rows-wide : (row : ℕ) (hung : List PositionedCell) (rows : List (List Span)) → AreValid rows → All (All Wide) (own_rows_from row hung rows)
 own_rows-wide row hung [] v = All-nil (All Wide)

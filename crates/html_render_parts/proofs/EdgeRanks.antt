@@ -23,17 +23,17 @@ Rise-head x xs h = λ k d inside. h 0 (suc k) d (omega arith) (omega arith)
 Rise-tail : (x : ℕ) (xs : List ℕ) → Rise (x ∷ xs) → Rise xs
 Rise-tail x xs h = λ i j d less inside. h (suc i) (suc j) d (omega arith) (omega arith)
 
-pub Contains-here : (x : ℕ) (xs : List ℕ) → Contains (x ∷ xs) x
+pub Contains-here : {X : Type 0} (x : X) (xs : List X) → Contains (x ∷ xs) x
 Contains-here x xs = (0, omega arith, refl)
 
-pub Contains-there : (x n : ℕ) (xs : List ℕ) → Contains xs n → Contains (x ∷ xs) n
+pub Contains-there : {X : Type 0} (x n : X) (xs : List X) → Contains xs n → Contains (x ∷ xs) n
 Contains-there x n xs h = (suc h.0, let inside = h.1 in omega arith, h.2)
 
-Contains-nil : (n : ℕ) → Contains [] n → ⊥
+pub Contains-nil : {X : Type 0} (n : X) → Contains [] n → ⊥
 Contains-nil n h = let inside = h.1 in omega arith
 
-pub Contains-cons : (x n : ℕ) (xs : List ℕ) → Contains (x ∷ xs) n → (x ≡ n) ⊎ Contains xs n
-Contains-cons x n xs h = by h.0 h.1 h.2
+pub Contains-cons : {X : Type 0} (x n : X) (xs : List X) → Contains (x ∷ xs) n → (x ≡ n) ⊎ Contains xs n
+Contains-cons {X} x n xs h = by h.0 h.1 h.2
   where
     by : (k : ℕ) → k < length (x ∷ xs) → get_or (x ∷ xs) k n ≡ n → (x ≡ n) ⊎ Contains xs n
     by zero inside e = inl e

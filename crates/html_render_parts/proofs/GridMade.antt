@@ -1,5 +1,5 @@
 -- Placed rows have the grid's places, and their refusal is the grid's.
-use Rattle.std.proofs.Common.{◌≡◌, ℕ, ◌≤◌, List, Some, map, All, refl, sym, ap, inl, inr}
+use Rattle.std.proofs.Common.{◌≡◌, ℕ, List, Some, map, All, refl, inl, inr}
 use Rattle.std.specs.Global.{Vec}
 use Rattle.std.proofs.lemmas.Bool.{cases_Bool}
 use Rattle.std.proofs.lemmas.List.Elements.{All-map}
@@ -12,6 +12,7 @@ use Rattle.html_render_parts.specs.Placement.{lists, placed_rows}
 use Rattle.html_render_parts.specs.PlacementSteps.{fitting_positions}
 use Rattle.html_render_parts.specs.Grid.{AreValid, edges_of, grid_of, numbered, positions_fit}
 use Rattle.html_render_parts.specs.Refusal.{Fails}
+use Rattle.html_render_parts.proofs.SideBySide.{Valid}
 use Rattle.html_render_parts.proofs.Vectors.{All-unmap}
 
 -- edges and numbered rows of placed rows
@@ -32,20 +33,7 @@ refused TooNarrow rows h = h
 refused OutOfMemory rows h = tt
 refused Fail rows h = elim (cases_Bool (positions_fit (placed_rows rows))) [ inl t ↦ let f = rw t at h in cc | inr t ↦ rw t refl ]
 
--- edges and rows of a table's grid
-pub grid-parts : (rows : List (List Span)) (g : List ℕ × List (List PlacedCell)) → grid_of rows ≡ Some g →
-    (g.0 ≡ edges_of (placed_rows rows)) × (g.1 ≡ map (map (numbered (edges_of (placed_rows rows)))) (placed_rows rows))
-grid-parts rows g e = elim (cases_Bool (positions_fit (placed_rows rows))) [
-  | inl t ↦
-      let same : grid_on (placed_rows rows) ≡ g = let f = rw t at e in cc in
-      (ap (λ x. x.0) (sym same), ap (λ x. x.1) (sym same))
-  | inr t ↦ let f = rw t at e in cc
-]
-
 -- ---- spans, in vectors and in lists
-
-abbrev Valid : Span → Type 0
-Valid s = (1 ≤ s.colspan) × (1 ≤ s.rowspan)
 
 pub AreValid-lists : (vs : List (Vec Span)) → All (λ v. All Valid v.items) vs → AreValid (lists vs)
 AreValid-lists vs h = All-map (All Valid) (λ (v : Vec Span). v.items) vs h

@@ -1,6 +1,6 @@
 -- The cells that hang into a row are all cells of the rows above that reach it.
 use Rattle.std.proofs.Common.{◌≡◌, ℕ, ◌+◌, ◌<◌, Bool, true, false, cond, ◌&&◌, List, [], ◌∷◌, ◌++◌, length, get_or, filter, drop, take, All}
-use Rattle.std.proofs.Common.{refl, sym, ap, ◌∙◌, subst, append_assoc, arith, inl, inr, ◌⊎◌, suc, zero}
+use Rattle.std.proofs.Common.{refl, sym, ap, ◌∙◌, subst, append_assoc, arith, inl, inr, suc, zero}
 use Rattle.std.specs.Prelude.{Contains, count_by, flat_map}
 use Rattle.std.proofs.lemmas.Bool.{cases_Bool, lt-ltb, ltb-true}
 use Rattle.std.proofs.lemmas.Bool.Decides.{leb_tells}
@@ -8,11 +8,13 @@ use Rattle.std.proofs.lemmas.List.{append-nil}
 use Rattle.std.proofs.lemmas.List.Elements.{All-nil, All-cons, All-append, All-contains, All-contains_itself, filter-append, filter_passes}
 use Rattle.std.proofs.lemmas.List.Sums.{sum_by-cons}
 use Rattle.html_render_parts.specs.declared.table.Span.{Span}
+use Rattle.html_render_parts.specs.declared.table.placement.Place.{Place}
 use Rattle.html_render_parts.specs.declared.table.placement.PositionedCell.{PositionedCell}
 use Rattle.html_render_parts.specs.Placement.{bottom_rows, by_column, by_column_with, due_end, end_of, hanging, hangs_into, not_due, own_from, own_rows_from}
 use Rattle.html_render_parts.specs.Placement.{placed_rows, row_from, rows_from}
 use Rattle.html_render_parts.specs.PlacementSteps.{AllFrom, IsByColumn}
 use Rattle.html_render_parts.specs.CellsAbove.{cells_above, own_rows}
+use Rattle.html_render_parts.proofs.EdgeRanks.{Contains-cons, Contains-here, Contains-nil, Contains-there}
 use Rattle.html_render_parts.proofs.HangingOrder.{AllFrom-filter, AllFrom-less, IsByColumn-by_column, IsByColumn-filter, by_column-append, by_column-own, merged}
 use Rattle.html_render_parts.proofs.HangingOrder.{by_column-same, by_column_with-front, All-hanging}
 
@@ -102,33 +104,31 @@ next-hanging row hung above cells e =
     ap (λ hs. hanging (row + 1) (hs ++ own_from row 0 hung cells)) e
     ∙ hanging-step row above (own_from row 0 hung cells) (by_column-own row 0 hung cells)
 
+-- the cells that hang into a row `n`, and with them its places and its own cells
+record IsRow (n : ℕ) (above : List PositionedCell) (cells : List Span) (ps : List Place) (os : List PositionedCell) : Type 0 where
+  pub hung : List PositionedCell
+  pub are : hung ≡ hanging n above
+  pub places : ps ≡ row_from 0 hung cells
+  pub own : os ≡ own_from n 0 hung cells
+
 row-at : (rows : List (List Span)) (from : ℕ) (hung above : List PositionedCell) → hung ≡ hanging from above → (k n : ℕ) → n ≡ from + k →
     k < length rows
-    → get_or (rows_from from hung rows) k []
-    ≡ row_from 0 (hanging n (above ++ all_of (take k (own_rows_from from hung rows)))) (get_or rows k [])
+    → IsRow n (above ++ all_of (take k (own_rows_from from hung rows))) (get_or rows k []) (get_or (rows_from from hung rows) k [])
+    (get_or (own_rows_from from hung rows) k [])
 row-at [] from hung above e k n at inside = absurd (omega arith)
 row-at (cells ∷ more) from hung above e zero n at inside =
     let here : n ≡ from = omega arith in
-    rw (here, append-nil above, ← e) refl
+    rw (here, append-nil above) (record { hung = hung; are = e; places = refl; own = refl })
 row-at (cells ∷ more) from hung above e (suc k) n at inside =
     let own = own_from from 0 hung cells in
     let next = hanging (from + 1) (hung ++ own) in
-    row-at more (from + 1) next (above ++ own) (next-hanging from hung above cells e) k n (omega arith) (omega arith)
-    ∙ ap (λ cs. row_from 0 (hanging n cs) (get_or more k [])) (append_assoc above own (all_of (take k (own_rows_from (from + 1) next more))))
-
-own-at : (rows : List (List Span)) (from : ℕ) (hung above : List PositionedCell) → hung ≡ hanging from above → (k n : ℕ) → n ≡ from + k →
-    k < length rows
-    → get_or (own_rows_from from hung rows) k []
-    ≡ own_from n 0 (hanging n (above ++ all_of (take k (own_rows_from from hung rows)))) (get_or rows k [])
-own-at [] from hung above e k n at inside = absurd (omega arith)
-own-at (cells ∷ more) from hung above e zero n at inside =
-    let here : n ≡ from = omega arith in
-    rw (here, append-nil above, ← e) refl
-own-at (cells ∷ more) from hung above e (suc k) n at inside =
-    let own = own_from from 0 hung cells in
-    let next = hanging (from + 1) (hung ++ own) in
-    own-at more (from + 1) next (above ++ own) (next-hanging from hung above cells e) k n (omega arith) (omega arith)
-    ∙ ap (λ cs. own_from n 0 (hanging n cs) (get_or more k [])) (append_assoc above own (all_of (take k (own_rows_from (from + 1) next more))))
+    let is = row-at more (from + 1) next (above ++ own) (next-hanging from hung above cells e) k n (omega arith) (omega arith) in
+    record {
+      hung = is.hung;
+      are = is.are ∙ ap (hanging n) (append_assoc above own (all_of (take k (own_rows_from (from + 1) next more))));
+      places = is.places;
+      own = is.own;
+    }
 
 bottom-at : (rows : List (List Span)) (from : ℕ) (hung above : List PositionedCell) → hung ≡ hanging from above → (n : ℕ) → n ≡ from + length rows →
     drop (length rows) (rows_from from hung rows)
@@ -144,11 +144,15 @@ bottom-at (cells ∷ more) from hung above e n at =
 
 pub rows-above : (rows : List (List Span)) (row : ℕ) → row < length rows →
     get_or (placed_rows rows) row [] ≡ row_from 0 (hanging row (cells_above row rows)) (get_or rows row [])
-rows-above rows row inside = row-at rows 0 [] [] refl row row (omega arith) inside
+rows-above rows row inside =
+    let is = row-at rows 0 [] [] refl row row (omega arith) inside in
+    is.places ∙ ap (λ hs. row_from 0 hs (get_or rows row [])) is.are
 
 pub own-above : (rows : List (List Span)) (row : ℕ) → row < length rows →
     get_or (own_rows rows) row [] ≡ own_from row 0 (hanging row (cells_above row rows)) (get_or rows row [])
-own-above rows row inside = own-at rows 0 [] [] refl row row (omega arith) inside
+own-above rows row inside =
+    let is = row-at rows 0 [] [] refl row row (omega arith) inside in
+    is.own ∙ ap (λ hs. own_from row 0 hs (get_or rows row [])) is.are
 
 pub bottom-above : (rows : List (List Span)) →
     drop (length rows) (placed_rows rows) ≡ bottom_rows (hanging (length rows) (cells_above (length rows) rows))
@@ -178,53 +182,37 @@ above-earlier rows row = above-of_rows rows 0 [] row row (omega arith)
 
 -- ---- which cells hang into a row
 
-here : (x : PositionedCell) (xs : List PositionedCell) → Contains (x ∷ xs) x
-here x xs = (0, omega arith, refl)
-
-there : (x c : PositionedCell) (xs : List PositionedCell) → Contains xs c → Contains (x ∷ xs) c
-there x c xs h = (suc h.0, let inside = h.1 in omega arith, h.2)
-
-none-there : (c : PositionedCell) → Contains [] c → ⊥
-none-there c h = let inside = h.1 in omega arith
-
-there-or_here : (x c : PositionedCell) (xs : List PositionedCell) → Contains (x ∷ xs) c → (x ≡ c) ⊎ Contains xs c
-there-or_here x c xs h = by h.0 h.1 h.2
-  where
-    by : (k : ℕ) → k < length (x ∷ xs) → get_or (x ∷ xs) k c ≡ c → (x ≡ c) ⊎ Contains xs c
-    by zero inside e = inl e
-    by (suc k) inside e = inr (k, omega arith, e)
-
 contains-with : (a : PositionedCell) (cs : List PositionedCell) → Contains (by_column_with a cs) a
-contains-with a [] = here a []
+contains-with a [] = Contains-here a []
 contains-with a (d ∷ ds) = elim (leb_tells a.column d.column) [
-  | inl t ↦ rw t.0 (here a (d ∷ ds))
-  | inr t ↦ rw t.0 (there d a (by_column_with a ds) (contains-with a ds))
+  | inl t ↦ rw t.0 (Contains-here a (d ∷ ds))
+  | inr t ↦ rw t.0 (Contains-there d a (by_column_with a ds) (contains-with a ds))
 ]
 
 contains-with_more : (a c : PositionedCell) (cs : List PositionedCell) → Contains cs c → Contains (by_column_with a cs) c
-contains-with_more a c [] h = absurd (none-there c h)
+contains-with_more a c [] h = absurd (Contains-nil c h)
 contains-with_more a c (d ∷ ds) h = elim (leb_tells a.column d.column) [
-  | inl t ↦ rw t.0 (there a c (d ∷ ds) h)
-  | inr t ↦ rw t.0 (elim (there-or_here d c ds h) [
-    | inl e ↦ subst (Contains (d ∷ by_column_with a ds)) e (here d (by_column_with a ds))
-    | inr g ↦ there d c (by_column_with a ds) (contains-with_more a c ds g)
+  | inl t ↦ rw t.0 (Contains-there a c (d ∷ ds) h)
+  | inr t ↦ rw t.0 (elim (Contains-cons d c ds h) [
+    | inl e ↦ subst (Contains (d ∷ by_column_with a ds)) e (Contains-here d (by_column_with a ds))
+    | inr g ↦ Contains-there d c (by_column_with a ds) (contains-with_more a c ds g)
   ])
 ]
 
 contains-ordered : (c : PositionedCell) (cs : List PositionedCell) → Contains cs c → Contains (by_column cs) c
 contains-ordered c [] h = h
-contains-ordered c (d ∷ ds) h = elim (there-or_here d c ds h) [
+contains-ordered c (d ∷ ds) h = elim (Contains-cons d c ds h) [
   | inl e ↦ subst (λ x. Contains (by_column_with d (by_column ds)) x) e (contains-with d (by_column ds))
   | inr g ↦ contains-with_more d c (by_column ds) (contains-ordered c ds g)
 ]
 
 contains-passing : (p : PositionedCell → Bool) (c : PositionedCell) (cs : List PositionedCell) → p c ≡ true → Contains cs c → Contains (filter p cs) c
 contains-passing p c [] e h = h
-contains-passing p c (d ∷ ds) e h = elim (there-or_here d c ds h) [
+contains-passing p c (d ∷ ds) e h = elim (Contains-cons d c ds h) [
   | inl f ↦ let passes : p d ≡ true = ap p f ∙ e in
-      rw passes (subst (Contains (d ∷ filter p ds)) f (here d (filter p ds)))
+      rw passes (subst (Contains (d ∷ filter p ds)) f (Contains-here d (filter p ds)))
   | inr g ↦ elim (cases_Bool (p d)) [
-    | inl t ↦ rw t (there d c (filter p ds) (contains-passing p c ds e g))
+    | inl t ↦ rw t (Contains-there d c (filter p ds) (contains-passing p c ds e g))
     | inr t ↦ rw t (contains-passing p c ds e g)
   ]
 ]

@@ -1,9 +1,8 @@
 -- Rows placed one after another are the rows of the definition.
-use Rattle.std.proofs.Common.{◌≡◌, ℕ, ◌+◌, true, false, List, [], ◌∷◌, ◌++◌, Some, None, refl, sym, ap, ◌∙◌, append_assoc, inl, inr}
+use Rattle.std.proofs.Common.{◌≡◌, ℕ, ◌+◌, true, false, List, ◌∷◌, ◌++◌, Some, None, refl, sym, ap, inl, inr}
 use Rattle.std.proofs.lemmas.Bool.{cases_Bool}
 use Rattle.html_render_parts.specs.declared.table.Span.{Span}
-use Rattle.html_render_parts.specs.declared.table.placement.PositionedCell.{PositionedCell}
-use Rattle.html_render_parts.specs.Placement.{bottom_rows, hanging, own_from, own_rows_from, row_from, rows_from}
+use Rattle.html_render_parts.specs.Placement.{bottom_rows, hanging, own_from, row_from, rows_from}
 use Rattle.html_render_parts.specs.PlacementSteps.{IsNextBottom, Placing, row_fits, row_told, with_next_row}
 use Rattle.html_render_parts.specs.Grid.{positions_fit}
 
@@ -48,12 +47,3 @@ fits-next row cells more done next is = rw (is.hangs_on, is.fits) refl
 
 pub fits-bottom : (done next : Placing) → IsNextBottom done next → positions_fit (bottom_rows done.hanging) ≡ positions_fit (bottom_rows next.hanging)
 fits-bottom done next is = rw (is.rows, is.fits) refl
-
--- own cells of all rows: those of the placed rows and those of the others
-pub own-next : (all own : List (List PositionedCell)) (row : ℕ) (cells : List Span) (more : List (List Span)) (done next : Placing) →
-    IsNext row cells done next
-    → own ++ own_rows_from row done.hanging (cells ∷ more) ≡ all →
-    (own ++ next.own ∷ []) ++ own_rows_from (row + 1) next.hanging more ≡ all
-own-next all own row cells more done next is h =
-    rw (is.own, is.hangs_on) (append_assoc own (own_from row 0 done.hanging cells ∷ [])
-    (own_rows_from (row + 1) (hanging (row + 1) (done.hanging ++ own_from row 0 done.hanging cells)) more) ∙ h)

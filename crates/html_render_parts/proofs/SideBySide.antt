@@ -30,7 +30,7 @@ Between-append b c d (p ∷ ps) qs h k = (h.0, h.1, Between-append p.end c d ps 
 abbrev pub Wide : PositionedCell → Type 0
 Wide c = 1 ≤ c.span.colspan
 
-abbrev Valid : Span → Type 0
+abbrev pub Valid : Span → Type 0
 Valid s = (1 ≤ s.colspan) × (1 ≤ s.rowspan)
 
 pub Wide-own_from : (row cursor : ℕ) (hs : List PositionedCell) (ss : List Span) → All Valid ss → All Wide (own_from row cursor hs ss)

@@ -5,23 +5,19 @@ use Rattle.std.specs.List.Sorted.{IsStrictlyIncreasing}
 use Rattle.std.proofs.lemmas.Bool.{cases_Bool}
 use Rattle.std.proofs.lemmas.List.{drop-map, drop_more}
 use Rattle.std.proofs.lemmas.List.Elements.{All-nil, All-cons, All-drop, All-head, All-tail}
-use Rattle.html_render_dom_values.specs.declared.errors.Error.{Error}
-use Rattle.html_render_dom_values.specs.declared.errors.Error.TheVariants.{TooNarrow, Fail, OutOfMemory}
 use Rattle.html_render_parts.specs.declared.table.Span.{Span}
 use Rattle.html_render_parts.specs.declared.table.cells.GridCell.{GridCell}
 use Rattle.html_render_parts.specs.declared.table.placement.PositionedCell.{PositionedCell}
 use Rattle.html_render_parts.specs.Placement.{hanging, hangs_into, own_from, own_rows_from, placed_rows, row_from}
 use Rattle.html_render_parts.specs.PlacementSteps.{AreAhead, Placing, row_fits, row_told, rows_ahead, with_next_row}
-use Rattle.html_render_parts.specs.Grid.{edges_of, numbered, rank}
+use Rattle.html_render_parts.specs.Grid.{edges_of, numbered}
 use Rattle.html_render_parts.specs.TableCells.{CellGrid, on_columns, span_on, spans_on}
-use Rattle.html_render_parts.specs.SimpleRows.{AllStoredFit, StoredFit, cells_from, fitting_row, own_or_simple, own_rows_on, own_with_simple, place_on, row_on}
-use Rattle.html_render_parts.specs.Refusal.{Fails}
-use Rattle.html_render_parts.proofs.CellsOnColumns.{cells-are, edges-rise, own-in_edges}
-use Rattle.html_render_parts.proofs.EdgeRanks.{rank-gets, rank-mono}
+use Rattle.html_render_parts.specs.SimpleRows.{AllStoredFit, StoredFit, cells_from, own_or_simple, own_rows_on, own_with_simple, place_on, row_on}
+use Rattle.html_render_parts.proofs.CellsOnColumns.{cells-are, edge_behind, edges-rise, own-in_edges}
+use Rattle.html_render_parts.proofs.EdgeRanks.{rank-gets}
 use Rattle.html_render_parts.proofs.GatheringEnds.{Between}
 use Rattle.html_render_parts.proofs.HangingOrder.{by_column-own}
 use Rattle.html_render_parts.proofs.NumberTests.{ltb-tells}
-use Rattle.html_render_parts.proofs.RowAfterRow.{next-past}
 use Rattle.html_render_parts.proofs.RowsOfCells.{own-ahead, own-next}
 
 abbrev pub SpanEnds : Span → Type 0
@@ -59,12 +55,6 @@ nothing-hangs row hung ss e h =
 pub stored-placed : (row : ℕ) (hung : List PositionedCell) (ss : List Span) → own_or_simple row ss (own_from row 0 hung ss) ≡ own_from row 0 hung ss
 stored-placed row hung [] = refl
 stored-placed row hung (s ∷ ss) = refl
-
-pub next-refused : (e : Error) (row : ℕ) (ss : List Span) (done : Placing) → Fails e (with_next_row row ss done) →
-    Fails e (fitting_row (row_from 0 done.hanging ss))
-next-refused TooNarrow row ss done h = h
-next-refused OutOfMemory row ss done h = tt
-next-refused Fail row ss done h = rw (next-past row ss done h) refl
 
 -- ---- cells on the columns of their grid
 
@@ -106,9 +96,6 @@ all-stored_fit row (ss ∷ more) (own ∷ rest) h =
     (stored-fit row ss own (All-head (All Fits) first others h), all-stored_fit (row + 1) more rest (All-tail (All Fits) first others h))
 
 -- ---- places of a simple row
-
-edge_behind : (es : List ℕ) (c : PositionedCell) → (on_columns es c).first + (on_columns es c).columns ≡ rank es (c.column + c.span.colspan)
-edge_behind es c = let mono = rank-mono es c.column (c.column + c.span.colspan) (omega arith) in omega arith
 
 place-back : (es : List ℕ) (c : PositionedCell) → IsStrictlyIncreasing es → Between (Contains es) c →
     (get_or es (on_columns es c).first 0 ≡ c.column)

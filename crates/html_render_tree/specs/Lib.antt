@@ -19,9 +19,9 @@ pub use Rattle.html_render_dom.specs.Dom
 -- documents that the calls of a script build
 pub use Rattle.html_render_dom.specs.script.Scripts
 -- the render tree that a document becomes
-pub use Rattle.html_render_tree_mapping.specs.Tables
-pub use Rattle.html_render_tree_mapping.specs.Conversion
-pub use Rattle.html_render_tree_mapping.specs.Results
+pub use Rattle.html_render_tree_convert.specs.Tables
+pub use Rattle.html_render_tree_convert.specs.Conversion
+pub use Rattle.html_render_tree_convert.specs.Results
 -- the relation of an error to a definition
 pub use Rattle.html_render_parts.specs.Refusal
 -- tagged lines, their strings, and their text under a colour map

@@ -9,7 +9,7 @@ use Rattle.html_render_parts.specs.Decoration.{Decoration}
 use Rattle.html_render_parts.specs.Decorators as decorator
 use Rattle.html_render_parts.specs.declared.decorate.plain.PlainDecorator.{PlainDecorator}
 use Rattle.html_render_parts.specs.declared.decorate.rich.RichDecorator.{RichDecorator}
-use Rattle.html_render_tree_mapping.specs.Results.{render_tree_of}
+use Rattle.html_render_tree_convert.specs.Results.{render_tree_of}
 use Rattle.html_render_dom.specs.script.Scripts.{document_of}
 use Rattle.html_render_tree.specs.declared.htree.faults.Fault.{Fault}
 use Rattle.html_render_tree.specs.declared.htree.faults.Fault.TheVariants.{Refused, Arguments, Line, Input, Output}

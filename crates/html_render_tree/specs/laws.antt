@@ -4,8 +4,6 @@ pub mod Rendering
 pub mod Roles
 -- good trees: their places, the kinds of nodes that elements become, results over good trees, and the render tree of a document
 pub mod GoodPlaces
-pub mod GoodKinds
-pub mod GoodResults
 pub mod GoodTrees
 -- all nodes of a good tree are visited, except those that a layout leaves out
 pub mod Visited

@@ -5,7 +5,7 @@
 
 ghost use Rattle.std.specs.Prelude.{◌≡◌, ◌∷◌, ◌++◌, [], Some, true, false, IfOk, IfErr};
 ghost use Rattle.html_render_dom_values.specs.Outcome.{OnlyOutOfMemory};
-ghost use Rattle.html_render_tree_mapping.specs.Results.{render_tree_of};
+ghost use Rattle.html_render_tree_convert.specs.Results.{render_tree_of};
 ghost use Rattle.html_render_dom_styles.specs.Rules.{rule_of};
 ghost use Rattle.html_render_layout_estimates.specs.Settings.{default_settings};
 ghost use Rattle.html_render_parts.specs.Refusal.{Fails};

@@ -14,16 +14,16 @@ use Rattle.html_render_layout_nodes.specs.declared.tree.NodeKind.{NodeKind}
 use Rattle.html_render_layout_nodes.specs.declared.tree.NodeKind.TheVariants.{Container, Dl, FragmentStart, Link, Ol, Table, TableRow}
 use Rattle.html_render_layout_nodes.specs.declared.tree.RenderNode.{RenderNode}
 use Rattle.html_render_parts.specs.TableCells.{cell_grid_of}
-use Rattle.html_render_tree_mapping.specs.Conversion.{vanishes}
-use Rattle.html_render_tree_mapping.specs.Results.{Nodes, Result, Role, alone, beside, captioned, cell_of, inserted, left_of, level_in, made, over, row_of, row_over, rows_over, spans_of, table_of, table_over, trees, trees_of}
-use Rattle.html_render_tree_mapping.specs.Results as role
-use Rattle.html_render_tree_mapping.specs.declared.mapping.ElementKind.{ElementKind}
-use Rattle.html_render_tree_mapping.specs.declared.mapping.ElementKind.TheVariants as element
-use Rattle.html_render_tree_mapping.specs.declared.mapping.IfEmpty.{IfEmpty}
-use Rattle.html_render_tree_mapping.specs.declared.mapping.IfEmpty.TheVariants.{Stands, Vanishes}
-use Rattle.html_render_tree_mapping.specs.declared.plans.Element.{Element}
-use Rattle.html_render_tree_mapping.specs.declared.tables.CellSpan.{CellSpan}
-use Rattle.html_render_tree_mapping.specs.declared.tables.Part.TheVariants as part
+use Rattle.html_render_tree_convert.specs.Conversion.{vanishes}
+use Rattle.html_render_tree_convert.specs.Results.{Nodes, Result, Role, alone, beside, captioned, cell_of, inserted, left_of, level_in, made, over, row_of, row_over, rows_over, spans_of, table_of, table_over, trees, trees_of}
+use Rattle.html_render_tree_convert.specs.Results as role
+use Rattle.html_render_tree_convert.specs.declared.mapping.ElementKind.{ElementKind}
+use Rattle.html_render_tree_convert.specs.declared.mapping.ElementKind.TheVariants as element
+use Rattle.html_render_tree_convert.specs.declared.mapping.IfEmpty.{IfEmpty}
+use Rattle.html_render_tree_convert.specs.declared.mapping.IfEmpty.TheVariants.{Stands, Vanishes}
+use Rattle.html_render_tree_convert.specs.declared.plans.Element.{Element}
+use Rattle.html_render_tree_convert.specs.declared.tables.CellSpan.{CellSpan}
+use Rattle.html_render_tree_convert.specs.declared.tables.Part.TheVariants as part
 use Rattle.html_render_tree_convert.specs.OpenElements.{OpenElement, Insertion, nothing, within, inserts, insertion_of, leaves, over_entries, node_in, holder, carrier}
 use Rattle.html_render_tree_convert.specs.Keeping.{keeping_of}
 use Rattle.html_render_tree_convert.specs.declared.elements.OpenKind.{OpenKind}
@@ -88,19 +88,12 @@ held k n i c rs = record {
 holder-left : (k : OpenKind) → is_plain k ≡ true → (rs : List Result) (n : RenderNode) (f : IfEmpty) (m : Option (List ℕ)) (i : Insertion) (c : Bool)
     (q : OpenElement) (ps : List OpenElement) → closed (all_come rs (holder k n f m i c) ∷ (q ∷ ps))
     ≡ Some (received_any (if vanishes f (list_any (counted k) rs) then mark_left m else Some (closed_result (held k n i c rs))) q ∷ ps)
-holder-left (open_kind.Node kind) h rs n f m i c q ps =
-    ap (λ x. closed (x ∷ (q ∷ ps))) (plain-come (open_kind.Node kind) h rs (holder (open_kind.Node kind) n f m i c))
-    ∙ simp (entries-within n i (trees_of (kept (open_kind.Node kind) rs)))
-holder-left (open_kind.Cell span) h rs n f m i c q ps =
-    ap (λ x. closed (x ∷ (q ∷ ps))) (plain-come (open_kind.Cell span) h rs (holder (open_kind.Cell span) n f m i c))
-    ∙ simp (entries-within n i (trees_of (kept (open_kind.Cell span) rs)))
-holder-left open_kind.Caption h rs n f m i c q ps =
-    ap (λ x. closed (x ∷ (q ∷ ps))) (plain-come open_kind.Caption h rs (holder open_kind.Caption n f m i c))
-    ∙ simp (entries-within n i (trees_of (kept open_kind.Caption rs)))
-holder-left open_kind.Root h rs n f m i c q ps =
-    ap (λ x. closed (x ∷ (q ∷ ps))) (plain-come open_kind.Root h rs (holder open_kind.Root n f m i c))
-    ∙ simp (entries-within n i (trees_of (kept open_kind.Root rs)))
-holder-left k h rs n f m i c q ps = cc
+holder-left open_kind.Captions h rs n f m i c q ps = cc
+holder-left (open_kind.Parts spans) h rs n f m i c q ps = cc
+holder-left (open_kind.Rows rows) h rs n f m i c q ps = cc
+holder-left (open_kind.Row cells) h rs n f m i c q ps = cc
+holder-left k h rs n f m i c q ps =
+    ap (λ x. closed (x ∷ (q ∷ ps))) (plain-come k h rs (holder k n f m i c)) ∙ simp (entries-within n i (trees_of (kept k rs)))
 
 -- what an element becomes whose node keeps and counts results by its kind
 made-node : (e : Element) (kind : NodeKind) (rs : List Result) → (let k = open_kind.Node (keeping_of kind) in
@@ -257,7 +250,6 @@ module _ (e : Element) (p : OpenElement) (ps : List OpenElement) (rs : List Resu
   closes (element.Node kind) h = node-closes kind (not (inserts e) || holds_insertions kind) refl
   closes (element.Part part.Table) h = cc
   closes (element.Part part.Body) h = rows-close (is_table p.kind) refl (element.Part part.Body) refl
-  closes (element.Part part.Foot) h = rows-close (is_table p.kind) refl (element.Part part.Foot) refl
   closes (element.Part part.Row) h = row-closes (is_rows p.kind) refl
   closes (element.Part (part.Cell span)) h = cell-closes span (is_row p.kind) refl
   closes (element.Part part.Caption) h = caption-closes

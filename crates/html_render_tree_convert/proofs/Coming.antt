@@ -1,5 +1,5 @@
 -- What results of the definition do to an open element: one, and one after another.
-use Rattle.std.proofs.Common.{◌≡◌, ℕ, suc, Bool, true, false, ◌&&◌, ◌||◌, if◌then◌else◌, List, [], ◌∷◌, ◌++◌, map, Option, Some, None, option_map, is_some, refl, sym, ap, ◌∙◌, inl, inr, append_assoc, append-nil}
+use Rattle.std.proofs.Common.{◌≡◌, ℕ, suc, Bool, true, false, not, ◌&&◌, ◌||◌, if◌then◌else◌, List, [], ◌∷◌, ◌++◌, map, Option, Some, None, option_map, is_some, refl, sym, ap, ◌∙◌, inl, inr, append_assoc, append-nil}
 use Rattle.std.specs.Prelude.{filter, flat_map, option_to_list}
 use Rattle.std.specs.List.{list_all, list_any}
 use Rattle.std.specs.Option.{option_map_or}
@@ -13,13 +13,13 @@ use Rattle.html_render_layout_nodes.specs.laws.Preorder.{flatten-followed_by}
 use Rattle.html_render_layout_nodes.specs.declared.tree.NodeKind.TheVariants.{Block}
 use Rattle.html_render_layout_nodes.specs.declared.tree.RenderNode.{RenderNode}
 use Rattle.html_render_parts.specs.declared.table.Span.{Span}
-use Rattle.html_render_tree_mapping.specs.Results.{Nodes, Role, Result, of_role, are_rows, beside, cell_of, is_caption, joined, row_of, spans_of, stands_alone, trees_of}
-use Rattle.html_render_tree_mapping.specs.Results as role
-use Rattle.html_render_tree_mapping.specs.declared.tables.CellSpan.{CellSpan}
+use Rattle.html_render_tree_convert.specs.Results.{Nodes, Role, Result, of_role, are_rows, beside, cell_of, is_caption, joined, row_of, spans_of, stands_alone, trees_of}
+use Rattle.html_render_tree_convert.specs.Results as role
+use Rattle.html_render_tree_convert.specs.declared.tables.CellSpan.{CellSpan}
 use Rattle.html_render_tree_convert.specs.OpenElements.{OpenElement, Insertion, nothing}
 use Rattle.html_render_tree_convert.specs.declared.elements.OpenKind.{OpenKind}
 use Rattle.html_render_tree_convert.specs.declared.elements.OpenKind.TheVariants as open_kind
-use Rattle.html_render_tree_convert.specs.Steps.{Closed, accepts, appended, counts_in, is_row, is_rows, is_table, once, received}
+use Rattle.html_render_tree_convert.specs.Steps.{Closed, accepts, appended, counts_in, is_captions, is_row, is_rows, is_table, once, received}
 use Rattle.html_render_tree_convert.proofs.Entries.{Entries, appended-nil, appended_assoc, filled, filled-nothing}
 
 -- ---- one result
@@ -116,11 +116,7 @@ node-entries n (Some t) (Some u) = ap Some (simp append-nil)
 -- ---- nodes, cells and captions
 
 abbrev pub is_plain : OpenKind → Bool
-is_plain open_kind.Root = true
-is_plain (open_kind.Node keeping) = true
-is_plain (open_kind.Cell span) = true
-is_plain open_kind.Caption = true
-is_plain _ = false
+is_plain k = not (is_captions k || (is_table k || (is_rows k || is_row k)))
 
 -- results that an open element of a kind keeps, and whether one counts
 abbrev pub kept : OpenKind → List Result → List Result
@@ -145,13 +141,7 @@ keeps_one k x q =
 keeps-one : (k : OpenKind) → is_plain k ≡ true → (y : Role) (x : Result) (q : OpenElement) →
     comes_as y (record x { role = y }) (record q { kind = k }) ≡ keeps_one k (record x { role = y }) q
 keeps-one open_kind.Root h role.Contents x q = refl
-keeps-one open_kind.Root h y x q = refl
-keeps-one (open_kind.Node keeping) h role.Contents x q = refl
-keeps-one (open_kind.Node keeping) h y x q = refl
-keeps-one (open_kind.Cell span) h role.Contents x q = refl
-keeps-one (open_kind.Cell span) h y x q = refl
-keeps-one open_kind.Caption h role.Contents x q = refl
-keeps-one open_kind.Caption h y x q = refl
+keeps-one k h role.Contents x q = cc
 keeps-one k h y x q = cc
 
 alone-more : (x : Result) (xs : List Result) → option_map flatten (trees_of (x ∷ xs)) ≡ appended (alone x) (option_map flatten (trees_of xs))

@@ -7,7 +7,7 @@ use Rattle.html_render_layout_nodes.specs.laws.Preorder.{flatten-followed_by}
 use Rattle.html_render_layout_nodes.specs.laws.Splits.{followed_by-none, followed_by-followed_by}
 use Rattle.html_render_layout_nodes.specs.declared.tree.Entry.{Entry}
 use Rattle.html_render_layout_nodes.specs.declared.tree.RenderNode.{RenderNode}
-use Rattle.html_render_tree_mapping.specs.Results.{Nodes, in_first, trees}
+use Rattle.html_render_tree_convert.specs.Results.{Nodes, in_first, trees}
 use Rattle.html_render_tree_convert.specs.OpenElements.{Insertion, nothing, within, leaves, over_entries}
 use Rattle.html_render_tree_convert.specs.Steps.{appended}
 pub use Rattle.std.proofs.Math.Bool.{or-false, or-true}

@@ -1,4 +1,6 @@
-pub mod Stacks
+pub mod Numbers
+pub mod Styles
+pub mod Titles
 pub mod Entries
 pub mod Coming
 pub mod Closing
@@ -7,6 +9,5 @@ pub mod Receiving
 pub mod VisitRuns
 pub mod VisitsLeft
 pub mod SeenLemmas
-pub mod ClosingElements
 pub mod ValidSpans
 pub mod OpeningLemmas

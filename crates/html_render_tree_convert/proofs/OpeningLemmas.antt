@@ -3,21 +3,20 @@ use Rattle.std.proofs.Common.{◌≡◌, Bool, true, false, List, [], ◌∷◌,
 use Rattle.html_render_layout_nodes.specs.declared.tree.NodeKind.TheVariants.{FragmentStart, TableCell, Text}
 use Rattle.html_render_layout_nodes.specs.declared.tree.NodeStyle.{NodeStyle}
 use Rattle.html_render_layout_nodes.specs.declared.tree.RenderNode.{RenderNode}
-use Rattle.html_render_tree_mapping.specs.declared.mapping.ElementKind.TheVariants as element
-use Rattle.html_render_tree_mapping.specs.declared.mapping.IfEmpty.{IfEmpty}
-use Rattle.html_render_tree_mapping.specs.declared.mapping.IfEmpty.TheVariants.{Stands}
-use Rattle.html_render_tree_mapping.specs.declared.plans.Element.{Element}
-use Rattle.html_render_tree_mapping.specs.declared.plans.ElementTexts.{ElementTexts}
-use Rattle.html_render_tree_mapping.specs.declared.tables.CellSpan.{CellSpan}
-use Rattle.html_render_tree_mapping.specs.declared.tables.Part.{Part}
-use Rattle.html_render_tree_mapping.specs.declared.tables.Part.TheVariants as part
-use Rattle.html_render_tree_mapping.specs.ElementTexts.{has_any, no_texts}
+use Rattle.html_render_tree_convert.specs.declared.mapping.ElementKind.TheVariants as element
+use Rattle.html_render_tree_convert.specs.declared.mapping.IfEmpty.{IfEmpty}
+use Rattle.html_render_tree_convert.specs.declared.mapping.IfEmpty.TheVariants.{Stands}
+use Rattle.html_render_tree_convert.specs.declared.plans.Element.{Element}
+use Rattle.html_render_tree_convert.specs.declared.plans.ElementTexts.{ElementTexts}
+use Rattle.html_render_tree_convert.specs.declared.tables.CellSpan.{CellSpan}
+use Rattle.html_render_tree_convert.specs.declared.tables.Part.{Part}
+use Rattle.html_render_tree_convert.specs.declared.tables.Part.TheVariants as part
+use Rattle.html_render_tree_convert.specs.ElementTexts.{has_any, no_texts}
 use Rattle.html_render_tree_convert.specs.Held.{Held, nothing_held}
 use Rattle.html_render_tree_convert.specs.OpenElements.{Insertion, OpenElement, leaf, leaves, node_in, nothing, text_nodes}
-use Rattle.html_render_tree_convert.specs.Opening.{due_in, wrote}
+use Rattle.html_render_tree_convert.specs.Opening.{created, due_in, wrote}
 use Rattle.html_render_tree_convert.specs.Seen.{element_seen}
 use Rattle.html_render_tree_convert.specs.Steps.{begun_cell, begun_rows, is_in, is_row, left_once, opened, taken}
-use Rattle.html_render_tree_convert.specs.declared.elements.Open.{Open}
 use Rattle.html_render_tree_convert.specs.declared.elements.OpenKind.{OpenKind}
 use Rattle.html_render_tree_convert.specs.declared.elements.OpenKind.TheVariants as kind_in
 use Rattle.html_render_tree_convert.specs.declared.elements.Place.{Place}
@@ -31,20 +30,6 @@ part_element p style if_empty texts = record { kind = element.Part p; style = st
 -- nodes that an element inserts in front of its children
 abbrev pub own_front : ElementTexts → List RenderNode
 own_front texts = text_nodes FragmentStart texts.mark ++ text_nodes Text texts.before
-
--- an open element of a part of a table, as code creates it
-abbrev pub created : OpenKind → (due : Held) → IfEmpty → (is_given has_children : Bool) → Open
-created kind due if_empty is_given has_children = record {
-  kind = kind;
-  due = due;
-  start = 0;
-  if_empty = if_empty;
-  is_given = is_given;
-  has_results = false;
-  has_children = has_children;
-  is_wrapped = false;
-  is_stray = false;
-}
 
 -- what an element has to write: its own insertion within an outer one
 abbrev pub carried : ElementTexts → (outer : Insertion) → Held

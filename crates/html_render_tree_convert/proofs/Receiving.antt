@@ -2,7 +2,7 @@
 use Rattle.std.proofs.Common.{◌≡◌, Bool, true, false, not, ◌||◌, if◌then◌else◌, [], ◌∷◌, ◌++◌, Option, Some, None, refl, sym, ap, subst, ◌∙◌}
 use Rattle.html_render_layout_nodes.specs.declared.tree.NodeKind.{NodeKind}
 use Rattle.html_render_layout_nodes.specs.declared.tree.RenderNode.{RenderNode}
-use Rattle.html_render_tree_mapping.specs.Results.{Role}
+use Rattle.html_render_tree_convert.specs.Results.{Role}
 use Rattle.html_render_tree_convert.specs.OpenElements.{Insertion, OpenElement}
 use Rattle.html_render_tree_convert.specs.Seen.{Gathers, Holds, element_seen, given_in, has_entry, inside, own_node}
 use Rattle.html_render_tree_convert.specs.Steps.{Closed, accepts, appended, counted, counts_in, has_place, received, with_child}
@@ -13,17 +13,12 @@ use Rattle.html_render_tree_convert.specs.declared.elements.OpenKind.TheVariants
 
 -- ---- entries after those that an open element has
 
-pub own_node-more : (kind : OpenKind) (own entries : Entries) → Holds kind own → own_node (has_entry kind) (own ++ entries) ≡ own_node (has_entry kind) own
-own_node-more Root own entries h = refl
-own_node-more (Rows rows) own entries h = refl
-own_node-more _ (e ∷ es) entries h = refl
-own_node-more _ [] entries h = absurd h
-
-pub inside-more : (kind : OpenKind) (own entries : Entries) → Holds kind own → inside (has_entry kind) (own ++ entries) ≡ inside (has_entry kind) own ++ entries
-inside-more Root own entries h = refl
-inside-more (Rows rows) own entries h = refl
-inside-more _ (e ∷ es) entries h = refl
-inside-more _ [] entries h = absurd h
+pub entries-more : (kind : OpenKind) (own entries : Entries) → Holds kind own →
+    (own_node (has_entry kind) (own ++ entries) ≡ own_node (has_entry kind) own) × (inside (has_entry kind) (own ++ entries) ≡ inside (has_entry kind) own ++ entries)
+entries-more Root own entries h = (refl, refl)
+entries-more (Rows rows) own entries h = (refl, refl)
+entries-more _ (e ∷ es) entries h = (refl, refl)
+entries-more _ [] entries h = absurd h
 
 -- what is written, unless a part of a table is there that is in no table
 written-more : (was_stray is_stray has_place : Bool) (es fs : Entries) →
@@ -67,8 +62,8 @@ kept-seen o kind r child has_children is_stray own entries e g h =
     let unless_stray : Entries → Option Entries = λ es. if o.is_stray || (is_stray || not (has_place o.kind r)) then None else Some es in
     ap (λ x. seen_as kind (given_in kind o.is_given o.due.outer) (own_node x (own ++ entries)) (unless_stray (inside x (own ++ entries)))) g.entry
     ∙ ap (λ x. seen_as kind x (own_node b (own ++ entries)) (unless_stray (inside b (own ++ entries)))) (g.given o.is_given o.due.outer)
-    ∙ ap (λ n. seen_as kind p.given n (unless_stray (inside b (own ++ entries)))) (own_node-more o.kind own entries h)
-    ∙ ap (λ es. seen_as kind p.given p.node (unless_stray es)) (inside-more o.kind own entries h)
+    ∙ ap (λ n. seen_as kind p.given n (unless_stray (inside b (own ++ entries)))) (entries-more o.kind own entries h).0
+    ∙ ap (λ es. seen_as kind p.given p.node (unless_stray es)) (entries-more o.kind own entries h).1
     ∙ ap (seen_as kind p.given p.node) (written-more o.is_stray is_stray (has_place o.kind r) (inside b own) entries)
     ∙ ap (λ k. seen_as k p.given p.node (with_child c (counted c p)).written) g.is
     ∙ ap (λ x. if x then with_child c (counted c p) else counted c p) (sym e)

@@ -10,20 +10,21 @@ use Rattle.html_render_dom_values.specs.Outcome.{◌>>=◌}
 use Rattle.html_render_layout_nodes.specs.Kinds.{holds_insertions}
 use Rattle.html_render_layout_nodes.specs.Preorder.{flatten}
 use Rattle.html_render_layout_nodes.specs.declared.tree.NodeKind.TheVariants.{Container}
-use Rattle.html_render_tree_mapping.specs.Plans.{plan_of}
-use Rattle.html_render_tree_mapping.specs.Results.{Result, made, over_children, render_tree_of, result_of, results, trees_of}
-use Rattle.html_render_tree_mapping.specs.declared.mapping.ElementKind.{ElementKind}
-use Rattle.html_render_tree_mapping.specs.declared.mapping.ElementKind.TheVariants as element
-use Rattle.html_render_tree_mapping.specs.declared.plans.Element.{Element}
-use Rattle.html_render_tree_mapping.specs.declared.plans.Plan.{Plan}
-use Rattle.html_render_tree_mapping.specs.declared.plans.Plan.TheVariants.{Nothing, Alone, Over}
-use Rattle.html_render_tree_mapping.specs.declared.tables.Part.TheVariants as part
-use Rattle.html_render_tree_convert.specs.Events.{Event, Parts, Close, children_events, events, node_events, nothing_inside, picks}
+use Rattle.html_render_tree_convert.specs.Plans.{plan_of}
+use Rattle.html_render_tree_convert.specs.Results.{Result, made, over_children, render_tree_of, result_of, results, trees_of}
+use Rattle.html_render_tree_convert.specs.declared.mapping.ElementKind.{ElementKind}
+use Rattle.html_render_tree_convert.specs.declared.mapping.ElementKind.TheVariants as element
+use Rattle.html_render_tree_convert.specs.declared.plans.Element.{Element}
+use Rattle.html_render_tree_convert.specs.declared.plans.Plan.{Plan}
+use Rattle.html_render_tree_convert.specs.declared.plans.Plan.TheVariants.{Nothing, Alone, Over}
+use Rattle.html_render_tree_convert.specs.declared.tables.Part.TheVariants as part
+use Rattle.html_render_tree_convert.specs.Events.{Event, Parts, Close, children_events, events, node_events, nothing_inside}
+use Rattle.html_render_tree_walk.specs.Walk.{picks}
 use Rattle.html_render_tree_convert.specs.OpenElements.{OpenElement, holder, insertion_of, inserts, node_in, root}
 use Rattle.html_render_tree_convert.specs.declared.elements.OpenKind.TheVariants as open_kind
 use Rattle.html_render_tree_convert.specs.Steps.{all_parted, all_written, begun, begun_node, converted, opened, run}
-use Rattle.html_render_tree_convert.specs.declared.cursor.Pick.{Pick}
-use Rattle.html_render_tree_convert.specs.declared.cursor.Pick.TheVariants.{All, Captions, Others, Feet}
+use Rattle.html_render_tree_walk.specs.declared.cursor.Pick.{Pick}
+use Rattle.html_render_tree_walk.specs.declared.cursor.Pick.TheVariants.{All, Captions, Others, Feet}
 use Rattle.html_render_tree_convert.proofs.Closing.{after_result, captions_open, closed_over, closes, filter-all, is_table_kind, of_kind, table, table-closes}
 use Rattle.html_render_tree_convert.proofs.Coming.{all_come, captions, captions-come, comes_any, plain-come}
 use Rattle.html_render_tree_convert.proofs.Entries.{nil-appended}
@@ -80,8 +81,8 @@ close-run ev os runs (q ∷ qs) h made p ps closes es =
 
 -- ---- an element
 
-module _ (inside_events : Pick → List Event) (inside : (Content → Bool) → Option (List Result))
-    (runs : (pick : Pick) → Runs (inside_events pick) (inside (picks pick))) (e : Element) (p : OpenElement) (ps : Stack) (es : List Event) where
+module _ (inside_events : Pick → List Event) (inside : Pick → Option (List Result))
+    (runs : (pick : Pick) → Runs (inside_events pick) (inside pick)) (e : Element) (p : OpenElement) (ps : Stack) (es : List Event) where
   begun-filled : (k : ElementKind) → is_filled (begun k (of_kind e k) (p ∷ ps)) ≡ true
   begun-filled (element.Node kind) = elim (not (inserts e) || holds_insertions kind)
       as (λ b. is_filled (begun_node b kind (of_kind e (element.Node kind)) ++ p ∷ ps) ≡ true) [ true ↦ refl | false ↦ refl ]
@@ -89,9 +90,9 @@ module _ (inside_events : Pick → List Event) (inside : (Content → Bool) → 
   begun-filled k = refl
 
   plain-runs : (k : ElementKind) → is_table_kind k ≡ false →
-      run ((inside_events All ++ Close ∷ []) ++ es) (begun k (of_kind e k) (p ∷ ps)) ≡ run_after es p ps (inside (picks All) >>= made (of_kind e k) [])
+      run ((inside_events All ++ Close ∷ []) ++ es) (begun k (of_kind e k) (p ∷ ps)) ≡ run_after es p ps (inside All >>= made (of_kind e k) [])
   plain-runs k h =
-      close-run (inside_events All) (inside (picks All)) (runs All) (begun k (of_kind e k) (p ∷ ps)) (begun-filled k) (made (of_kind e k) []) p ps
+      close-run (inside_events All) (inside All) (runs All) (begun k (of_kind e k) (p ∷ ps)) (begun-filled k) (made (of_kind e k) []) p ps
       (λ rs. closes e p ps rs k h) es
 
   parted-filled : (c : List Result) → is_filled (all_parted (captions_open e p ps c ∷ (p ∷ ps))) ≡ true
@@ -106,13 +107,13 @@ module _ (inside_events : Pick → List Event) (inside : (Content → Bool) → 
   table-runs =
       ap (λ l. run l (table_begun ∷ (p ∷ ps))) (regroup (inside_events Captions) (inside_events Others ++ inside_events Feet))
       ∙ runs Captions (Parts ∷ (((inside_events Others ++ inside_events Feet) ++ Close ∷ []) ++ es)) table_begun (p ∷ ps)
-      ∙ by (inside (picks Captions))
+      ∙ by (inside Captions)
     where
       regroup : (c l : List Event) → ((c ++ Parts ∷ l) ++ Close ∷ []) ++ es ≡ c ++ (Parts ∷ ((l ++ Close ∷ []) ++ es))
       regroup c l = simp append_assoc
 
       parts : Option (List Result)
-      parts = both (inside (picks Others)) (inside (picks Feet))
+      parts = both (inside Others) (inside Feet)
 
       by : (o : Option (List Result)) →
           (o >>= λ cs. run (Parts ∷ (((inside_events Others ++ inside_events Feet) ++ Close ∷ []) ++ es)) (all_come cs table_begun ∷ (p ∷ ps)))
@@ -121,7 +122,7 @@ module _ (inside_events : Pick → List Event) (inside : (Content → Bool) → 
       by (Some cs) =
           ap (λ q. run (((inside_events Others ++ inside_events Feet) ++ Close ∷ []) ++ es) (all_parted (q ∷ (p ∷ ps)))) (captions-come cs table_begun)
           ∙ close-run (inside_events Others ++ inside_events Feet) parts
-          (runs-both (inside_events Others) (inside_events Feet) (inside (picks Others)) (inside (picks Feet)) (runs Others) (runs Feet))
+          (runs-both (inside_events Others) (inside_events Feet) (inside Others) (inside Feet) (runs Others) (runs Feet))
           (all_parted (captions_open e p ps (captions cs) ∷ (p ∷ ps))) (parted-filled (captions cs)) (made (table e p ps) (captions cs)) p ps
           (λ l. table-closes e p ps (captions cs) l) es
 
@@ -132,13 +133,13 @@ module _ (inside_events : Pick → List Event) (inside : (Content → Bool) → 
 
 -- ---- a node
 
-node-run : (plan : Plan) (inside_events : Pick → List Event) (inside : (Content → Bool) → Option (List Result)) →
-    ((pick : Pick) → Runs (inside_events pick) (inside (picks pick))) → (es : List Event) (p : OpenElement) (ps : Stack) →
+node-run : (plan : Plan) (inside_events : Pick → List Event) (inside : Pick → Option (List Result)) →
+    ((pick : Pick) → Runs (inside_events pick) (inside pick)) → (es : List Event) (p : OpenElement) (ps : Stack) →
     run (node_events plan inside_events ++ es) (p ∷ ps) ≡ run_after es p ps (result_of plan inside)
 unfolding opened
 node-run Nothing inside_events inside runs es p ps = refl
 node-run (Alone n) inside_events inside runs es p ps = refl
-node-run (Over e false) inside_events inside runs es p ps = element-runs nothing_inside (λ test. Some []) (λ pick es p ps. refl) e p ps es e.kind
+node-run (Over e false) inside_events inside runs es p ps = element-runs nothing_inside (λ pick. Some []) (λ pick es p ps. refl) e p ps es e.kind
 node-run (Over e true) inside_events inside runs es p ps = element-runs inside_events inside runs e p ps es e.kind
 
 -- ---- trees
@@ -161,27 +162,27 @@ adds rest es others runs (Some x) p ps = runs es (comes_any x p) ps ∙ by other
     by (Some rs) None = refl
     by (Some rs) (Some r) = refl
 
-pub trees-run : (rules : List StyleRule) (t : Forest Content) (pick : Pick) → Runs (events rules t pick) (results rules t (picks pick))
+pub trees-run : (rules : List StyleRule) (t : Forest Content) (pick : Pick) → Runs (events rules t pick) (results rules t pick)
 trees-run rules none pick es p ps = refl
 trees-run rules (node content children others) pick es p ps =
     by (picks pick content) (trees-run rules others pick)
-    (λ rest. node-run (plan_of rules content children) (λ k. events rules children k) (λ test. results rules children test)
+    (λ rest. node-run (plan_of rules content children) (λ k. events rules children k) (λ k. results rules children k)
     (λ k. trees-run rules children k) rest p ps)
   where
     here : List Event
     here = node_events (plan_of rules content children) (λ k. events rules children k)
 
     result : Option (Option Result)
-    result = result_of (plan_of rules content children) (λ test. results rules children test)
+    result = result_of (plan_of rules content children) (λ k. results rules children k)
 
-    by : (b : Bool) → Runs (events rules others pick) (results rules others (picks pick)) →
+    by : (b : Bool) → Runs (events rules others pick) (results rules others pick) →
         ((rest : List Event) → run (here ++ rest) (p ∷ ps) ≡ run_after rest p ps result) →
         run (((if b then here else []) ++ events rules others pick) ++ es) (p ∷ ps)
-        ≡ (add (if b then result else Some None) (results rules others (picks pick)) >>= λ rs. run es (all_come rs p ∷ ps))
+        ≡ (add (if b then result else Some None) (results rules others pick) >>= λ rs. run es (all_come rs p ∷ ps))
     by true rest one =
         ap (λ l. run l (p ∷ ps)) (append_assoc here (events rules others pick) es) ∙ one (events rules others pick ++ es)
-        ∙ adds (events rules others pick) es (results rules others (picks pick)) rest result p ps
-    by false rest one = adds (events rules others pick) es (results rules others (picks pick)) rest (Some None) p ps
+        ∙ adds (events rules others pick) es (results rules others pick) rest result p ps
+    by false rest one = adds (events rules others pick) es (results rules others pick) rest (Some None) p ps
 
 -- ---- documents
 
@@ -192,7 +193,7 @@ pub documents_convert : (rules : List StyleRule) (dom : Dom) → converted rules
 documents_convert rules dom =
     ap (λ l. run l (root ∷ []) >>= all_written) (sym (append-nil (events rules (tree_of dom 0) All)))
     ∙ ap (λ o. o >>= all_written) (trees-run rules (tree_of dom 0) All [] root [])
-    ∙ by (results rules (tree_of dom 0) (λ c. true))
+    ∙ by (results rules (tree_of dom 0) All)
   where
     by : (o : Option (List Result)) → ((o >>= λ rs. run [] (all_come rs root ∷ [])) >>= all_written) ≡ option_map flatten (o >>= trees_of)
     by None = refl

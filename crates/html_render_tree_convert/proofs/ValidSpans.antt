@@ -3,10 +3,10 @@ use Rattle.std.proofs.Common.{◌≡◌, ◌≢◌, ℕ, ◌+◌, ◌-◌, ◌==
 use Rattle.std.proofs.lemmas.Bool.{cases_Bool, eqb-false}
 use Rattle.std.proofs.lemmas.List.Elements.{All-append, All-map}
 use Rattle.std.specs.List.{All}
-use Rattle.html_render_tree_mapping.specs.declared.tables.CellSpan.{CellSpan}
+use Rattle.html_render_tree_convert.specs.declared.tables.CellSpan.{CellSpan}
 use Rattle.html_render_parts.specs.Grid.{AreValid}
 use Rattle.html_render_parts.specs.declared.table.Span.{Span}
-use Rattle.html_render_tree_mapping.specs.Tables.{width_of, spanned, spanned_in}
+use Rattle.html_render_tree_convert.specs.Tables.{width_of, spanned, spanned_in}
 
 some_columns : (missing columns : ℕ) → 1 ≤ (if columns == 0 then missing + 1 else columns)
 some_columns missing columns =
@@ -29,6 +29,6 @@ valid_part widest rows =
     (λ k d _. valid_row (widest - width_of (get_or rows k d)) (get_or rows k d))
 
 -- the spans of more rows
-pub valid-more : (old : List (List Span)) (widest : ℕ) (rows : List (List CellSpan)) (new : List (List Span)) →
+pub valid_more : (old : List (List Span)) (widest : ℕ) (rows : List (List CellSpan)) (new : List (List Span)) →
     new ≡ old ++ spanned_in widest rows → AreValid old → AreValid new
-valid-more old widest rows new is h = subst AreValid (sym is) (All-append IsValid old (spanned_in widest rows) h (valid_part widest rows))
+valid_more old widest rows new is h = subst AreValid (sym is) (All-append IsValid old (spanned_in widest rows) h (valid_part widest rows))

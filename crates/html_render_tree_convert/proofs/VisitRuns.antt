@@ -4,17 +4,19 @@ use Rattle.std.proofs.lemmas.Grind.{flat_map-append}
 use Rattle.html_render_dom_styles.specs.Rules.{Rule as StyleRule}
 use Rattle.html_render_dom.specs.Dom.{Dom, IsForest, IsNode, children_at, content_at, trees_of, tree_of}
 use Rattle.html_render_dom.specs.laws.Trees.{trees_of-cons, below-children}
-use Rattle.html_render_tree_mapping.specs.declared.mapping.ElementKind.{ElementKind}
-use Rattle.html_render_tree_mapping.specs.declared.mapping.ElementKind.TheVariants as element
-use Rattle.html_render_tree_mapping.specs.declared.tables.Part.TheVariants as part
-use Rattle.html_render_tree_convert.specs.Events.{children_events, events, node_events, picks, Event, element_events, nothing_inside}
+use Rattle.html_render_tree_convert.specs.declared.mapping.ElementKind.{ElementKind}
+use Rattle.html_render_tree_convert.specs.declared.mapping.ElementKind.TheVariants as element
+use Rattle.html_render_tree_convert.specs.declared.tables.Part.TheVariants as part
+use Rattle.html_render_tree_convert.specs.Events.{children_events, events, node_events, Event, element_events, nothing_inside}
+use Rattle.html_render_tree_walk.specs.Walk.{picks}
 use Rattle.html_render_tree_convert.specs.Events as event
-use Rattle.html_render_tree_mapping.specs.Plans.{plan_of, plan_at}
-use Rattle.html_render_tree_convert.specs.Walk.{coming, entered, first_pick, nodes, picked, visit_events, visits_events, done_at_once, followed}
-use Rattle.html_render_tree_convert.specs.declared.cursor.Pick.{Pick}
-use Rattle.html_render_tree_convert.specs.declared.cursor.Pick.TheVariants.{All as all_children, Captions, Others, Feet}
-use Rattle.html_render_tree_convert.specs.declared.cursor.Position.{Position}
-use Rattle.html_render_tree_convert.specs.declared.cursor.Visit.TheVariants.{Node, Close}
+use Rattle.html_render_tree_convert.specs.Plans.{plan_of, plan_at}
+use Rattle.html_render_tree_convert.specs.Visits.{first_pick, visit_events, visits_events, done_at_once, followed}
+use Rattle.html_render_tree_walk.specs.Walk.{coming, entered, nodes, picked}
+use Rattle.html_render_tree_walk.specs.declared.cursor.Pick.{Pick}
+use Rattle.html_render_tree_walk.specs.declared.cursor.Pick.TheVariants.{All as all_children, Captions, Others, Feet}
+use Rattle.html_render_tree_walk.specs.declared.cursor.Position.{Position}
+use Rattle.html_render_tree_walk.specs.declared.cursor.Visit.TheVariants.{Node, Close}
 use Rattle.std.proofs.lemmas.List.Elements.{All-head, All-tail, All-cons}
 use Rattle.std.specs.Result.{IsErrAnd}
 use Rattle.html_render_dom_values.specs.Forest.{Forest, none, node}
@@ -28,9 +30,9 @@ use Rattle.html_render_layout_nodes.specs.declared.tree.Entry.{Entry}
 use Rattle.html_render_layout_nodes.specs.laws.Preorder.{forest_of-flatten}
 use Rattle.html_render_parts.specs.Refusal.{Fails}
 use Rattle.html_render_parts.specs.laws.Refusal.{Fails-same, Fails-then}
-use Rattle.html_render_tree_mapping.specs.Results.{Result, results}
-use Rattle.html_render_tree_mapping.specs.declared.plans.Plan.{Plan}
-use Rattle.html_render_tree_mapping.specs.declared.plans.Plan.TheVariants.{Nothing, Alone, Over}
+use Rattle.html_render_tree_convert.specs.Results.{Result, results}
+use Rattle.html_render_tree_convert.specs.declared.plans.Plan.{Plan}
+use Rattle.html_render_tree_convert.specs.declared.plans.Plan.TheVariants.{Nothing, Alone, Over}
 use Rattle.html_render_tree_convert.specs.OpenElements.{OpenElement, root}
 use Rattle.html_render_tree_convert.specs.Steps.{after, all_parted, all_written, closed, converted, opened, run}
 use Rattle.html_render_tree_convert.proofs.Coming.{all_come}
@@ -169,9 +171,9 @@ module _ (rules : List StyleRule) (dom : Dom) where
 -- after the events of a document one element is open
 pub one_left : (rules : List StyleRule) (t : Forest Content) (cs : Stack) → run (events rules t all_children) (root ∷ []) ≡ Some cs →
     (p : OpenElement) × (cs ≡ p ∷ []) × (converted rules t ≡ p.written)
-one_left rules t cs is = by (results rules t (λ c. true)) (sym all ∙ is)
+one_left rules t cs is = by (results rules t all_children) (sym all ∙ is)
   where
-    all : run (events rules t all_children) (root ∷ []) ≡ (results rules t (λ c. true) >>= λ rs. Some (all_come rs root ∷ []))
+    all : run (events rules t all_children) (root ∷ []) ≡ (results rules t all_children >>= λ rs. Some (all_come rs root ∷ []))
     all = ap (λ l. run l (root ∷ [])) (sym (append-nil (events rules t all_children))) ∙ trees-run rules t all_children [] root []
 
     by : (o : Option (List Result)) → (o >>= λ rs. Some (all_come rs root ∷ [])) ≡ Some cs →

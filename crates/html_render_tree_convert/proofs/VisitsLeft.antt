@@ -1,34 +1,33 @@
 -- What is left of a walk: each node counts a size, with those below it, and each end of a list of children the same. And a node
 -- stands in one place of a document's tree, so a walk meets no node twice.
-use Rattle.std.proofs.Common.{◌≡◌, ℕ, ◌+◌, ◌*◌, ◌≤◌, ◌<◌, Bool, true, false, not, ◌&&◌, if◌then◌else◌, List, [], ◌∷◌, ◌++◌, refl, ap, arith, zero, suc, eqb, All, Contains, Some, sym, subst, ◌∙◌, ◌⊎◌, inl, inr, append_assoc}
+use Rattle.std.proofs.Common.{◌≡◌, ℕ, ◌+◌, ◌*◌, ◌≤◌, ◌<◌, Bool, true, false, not, ◌&&◌, if◌then◌else◌, List, [], ◌∷◌, ◌++◌, refl, ap, arith, zero, suc, eqb, Contains, Option, Some, None, sym, subst, inl, inr, append_assoc}
 use Rattle.std.specs.Prelude.{codes}
+use Rattle.std.specs.List.{AllByRecursion, IsDistinct}
+use Rattle.std.specs.Option.{option_map_or}
 use Rattle.std.specs.Str.{bytes_eq}
-use Rattle.std.proofs.lemmas.Slice.Eq.{bytes_eq-Decides}
-use Rattle.html_render_dom_nodes.specs.Content.{Content, element as element_content, is_html}
-use Rattle.html_render_dom_values.specs.Forest.{count, Forest, none, node}
-use Rattle.html_render_dom.specs.Dom.{Dom, IsForest, IsNode, children_at, content_at, tree_of, trees_of, IsInclusiveAncestor, above, below, itself, node_count, parent_at}
-use Rattle.html_render_dom.proofs.Changed.{descend}
-use Rattle.html_render_dom.proofs.Lists.{first_apart}
-use Rattle.html_render_dom.specs.laws.Trees.{below-children, IsInclusiveAncestor-cases, IsInclusiveAncestor-no_loop}
-use Rattle.html_render_tree_mapping.specs.declared.mapping.ElementKind.{ElementKind}
-use Rattle.html_render_tree_mapping.specs.declared.mapping.ElementKind.TheVariants as element
-use Rattle.html_render_tree_mapping.specs.declared.plans.Plan.{Plan}
-use Rattle.html_render_tree_mapping.specs.declared.plans.Plan.TheVariants.{Nothing, Alone, Over}
-use Rattle.html_render_tree_mapping.specs.declared.tables.Part.TheVariants as part
-use Rattle.html_render_tree_mapping.specs.Results.{is_named}
-use Rattle.html_render_tree_convert.specs.Walk.{coming, entered, first_pick, followed, nodes, picked, added_visits, after_pick, ahead, visited}
-use Rattle.html_render_tree_convert.specs.declared.cursor.Pick.TheVariants.{All as all_children, Captions, Others, Feet}
-use Rattle.html_render_tree_convert.specs.declared.cursor.Position.{Position}
-use Rattle.html_render_tree_convert.specs.declared.cursor.Visit.{Visit}
-use Rattle.html_render_tree_convert.specs.declared.cursor.Visit.TheVariants.{Node, Parts, Close}
-use Rattle.std.specs.List.{IsDistinct}
 use Rattle.std.proofs.lemmas.Bool.{cases_Bool, eq-eqb, eqb-true}
-use Rattle.std.proofs.lemmas.List.Elements.{All-cons, All-nil, recursion_from_All}
-use Rattle.std.proofs.lemmas.Map.Keys.{IsDistinct-cons, IsDistinct-tail}
+use Rattle.std.proofs.lemmas.Map.Keys.{IsDistinct-tail}
+use Rattle.std.proofs.lemmas.Slice.Eq.{bytes_eq-Decides}
+use Rattle.html_render_dom_values.specs.Forest.{count}
+use Rattle.html_render_dom_nodes.specs.Content.{Content, element as element_content, is_html}
 use Rattle.html_render_dom_styles.specs.Rules.{Rule as StyleRule}
-use Rattle.html_render_dom.specs.laws.Forests.{IsDistinct-nil, below_or_not, children_at-past}
+use Rattle.html_render_dom.specs.Dom.{Dom, IsForest, IsNode, children_at, content_at, tree_of, trees_of, IsInclusiveAncestor, above, itself, parent_at}
+use Rattle.html_render_dom.proofs.Lists.{first_apart}
+use Rattle.html_render_dom.specs.laws.Forests.{below_or_not}
 use Rattle.html_render_dom.specs.laws.Members.{Contains-head, Contains-tail}
-use Rattle.html_render_tree_mapping.specs.Plans.{plan_at}
+use Rattle.html_render_dom.specs.laws.Trees.{below-children, IsInclusiveAncestor-no_loop}
+use Rattle.html_render_tree_walk.specs.Walk.{coming, entered, is_named, nodes, picked}
+use Rattle.html_render_tree_walk.specs.declared.cursor.Pick.TheVariants.{All as all_children, Captions, Others, Feet}
+use Rattle.html_render_tree_walk.specs.declared.cursor.Position.{Position}
+use Rattle.html_render_tree_walk.specs.declared.cursor.Visit.{Visit}
+use Rattle.html_render_tree_walk.specs.declared.cursor.Visit.TheVariants.{Node, Parts, Close}
+use Rattle.html_render_tree_convert.specs.Plans.{plan_at}
+use Rattle.html_render_tree_convert.specs.declared.mapping.ElementKind.{ElementKind}
+use Rattle.html_render_tree_convert.specs.declared.mapping.ElementKind.TheVariants as element
+use Rattle.html_render_tree_convert.specs.declared.plans.Plan.{Plan}
+use Rattle.html_render_tree_convert.specs.declared.plans.Plan.TheVariants.{Nothing, Alone, Over}
+use Rattle.html_render_tree_convert.specs.declared.tables.Part.TheVariants as part
+use Rattle.html_render_tree_convert.specs.Visits.{first_pick, followed, added_visits, visited}
 use Rattle.html_render_tree_convert.proofs.Closing.{filter-all}
 
 -- no element is both a caption and a foot by its name
@@ -42,11 +41,6 @@ one_name (element_content name properties template_contents integration_point) =
 one_name c = refl
 
 module _ (size : ℕ → ℕ) (end : ℕ) where
-  -- nodes, with those below them
-  abbrev pub sizes : List ℕ → ℕ
-  sizes [] = 0
-  sizes (h ∷ hs) = size h + sizes hs
-
   abbrev pub visit_size : Visit → ℕ
   visit_size (Node h) = size h
   visit_size _ = end
@@ -55,13 +49,13 @@ module _ (size : ℕ → ℕ) (end : ℕ) where
   left [] = 0
   left (v ∷ vs) = visit_size v + left vs
 
+  -- nodes, with those below them
+  abbrev pub sizes : List ℕ → ℕ
+  sizes hs = left (nodes hs)
+
   pub left-append : (xs ys : List Visit) → left (xs ++ ys) ≡ left xs + left ys
   left-append [] ys = omega arith
   left-append (x ∷ xs) ys = omega (arith, left-append xs ys)
-
-  left-nodes : (hs : List ℕ) → left (nodes hs) ≡ sizes hs
-  left-nodes [] = refl
-  left-nodes (h ∷ hs) = omega (arith, left-nodes hs)
 
   -- captions, the others and feet are no more than all
   picked-one : (h : ℕ) (hs captions others feet : List ℕ) (caption foot : Bool) → (caption && foot) ≡ false →
@@ -81,83 +75,59 @@ module _ (size : ℕ → ℕ) (end : ℕ) where
         picked-one h hs (picked Captions dom hs) (picked Others dom hs) (picked Feet dom hs) (is_named (codes "caption") c)
         (is_named (codes "tfoot") c) (one_name c) (parts-all hs)
 
-    module _ (h : ℕ) (ps : List Position) where
-      abbrev hs : List ℕ
-      hs = children_at dom h
-
-      all-entered : left (coming dom (entered h all_children ∷ ps)) ≤ sizes hs + (end + end) + left (coming dom ps)
-      all-entered =
-          omega (
-            arith,
-            left-append (nodes (picked all_children dom hs)) (Close ∷ coming dom ps),
-            left-nodes (picked all_children dom hs),
-            ap sizes (filter-all hs),
-          )
-
-      table-entered : left (coming dom (entered h Captions ∷ ps)) ≤ sizes hs + (end + end) + left (coming dom ps)
-      table-entered =
-          let captions = picked Captions dom hs in
-          let others = picked Others dom hs in
-          let feet = picked Feet dom hs in
-          let rest = coming dom ps in
-          omega (
-            arith,
-            left-append (nodes captions) ((Parts ∷ (nodes others ++ (nodes feet ++ Close ∷ []))) ++ rest),
-            left-append (nodes others ++ (nodes feet ++ Close ∷ [])) rest,
-            left-append (nodes others) (nodes feet ++ Close ∷ []),
-            left-append (nodes feet) (Close ∷ []),
-            left-nodes captions,
-            left-nodes others,
-            left-nodes feet,
-            parts-all hs,
-          )
-
-      pub left-entered : (kind : ElementKind) →
-          left (coming dom (entered h (first_pick kind) ∷ ps)) ≤ sizes hs + (end + end) + left (coming dom ps)
-      left-entered (element.Part part.Table) = table-entered
-      left-entered kind = all-entered
+    -- entering an element leaves its children, and two ends at most
+    pub left-entered : (h : ℕ) (ps : List Position) (kind : ElementKind) →
+        left (coming dom (entered h (first_pick kind) ∷ ps)) ≤ sizes (children_at dom h) + (end + end) + left (coming dom ps)
+    left-entered h ps (element.Part part.Table) =
+        let hs = children_at dom h in
+        let others = nodes (picked Others dom hs) in
+        let feet = nodes (picked Feet dom hs) in
+        let rest = coming dom ps in
+        omega (
+          arith,
+          left-append (nodes (picked Captions dom hs)) ((Parts ∷ (others ++ (feet ++ Close ∷ []))) ++ rest),
+          left-append (others ++ (feet ++ Close ∷ [])) rest,
+          left-append others (feet ++ Close ∷ []),
+          left-append feet (Close ∷ []),
+          parts-all hs,
+        )
+    left-entered h ps kind =
+        let hs = children_at dom h in
+        omega (arith, left-append (nodes (picked all_children dom hs)) (Close ∷ coming dom ps), ap sizes (filter-all hs))
 
 -- ---- why a walk ends
 
 module _ (dom : Dom) where
   -- a node counts thrice, since an element has an end, and a table the end of its captions too
-  abbrev pub node_work : ℕ → ℕ
-  node_work h = 3 * count (tree_of dom h)
-
   abbrev pub work : List Visit → ℕ
-  work vs = left node_work 1 vs
+  work vs = left (λ h. 3 * count (tree_of dom h)) 1 vs
 
-  work-nodes : (hs : List ℕ) → sizes node_work 1 hs ≡ 3 * count (trees_of dom hs)
+  work-nodes : (hs : List ℕ) → work (nodes hs) ≡ 3 * count (trees_of dom hs)
   work-nodes [] = refl
   work-nodes (h ∷ hs) = omega (arith, work-nodes hs)
 
   followed-work : IsForest dom → (plan : Plan) (h : ℕ) (ps : List Position) → IsNode dom h →
       work (coming dom (followed plan h ps)) < 3 * count (tree_of dom h) + work (coming dom ps)
-  followed-work forest Nothing h ps at = omega arith
-  followed-work forest (Alone n) h ps at = omega arith
-  followed-work forest (Over e false) h ps at = omega arith
   followed-work forest (Over e true) h ps at =
       omega (
         arith,
-        left-entered node_work 1 dom h ps e.kind,
+        left-entered (λ h. 3 * count (tree_of dom h)) 1 dom h ps e.kind,
         work-nodes (children_at dom h),
         ap count (below-children dom forest h at),
       )
+  followed-work forest Nothing h ps at = omega arith
+  followed-work forest (Alone n) h ps at = omega arith
+  followed-work forest (Over e false) h ps at = omega arith
 
   -- a visit of a node leaves less
   pub node-less : IsForest dom → (plan : Plan) (h : ℕ) (old ps : List Position) → IsNode dom h → coming dom old ≡ Node h ∷ coming dom ps →
       work (coming dom (followed plan h ps)) < work (coming dom old)
   node-less forest plan h old ps at comes = omega (arith, followed-work forest plan h ps at, ap work comes)
 
--- ---- lists
+-- ---- how often a walk meets a node
 
--- how often a number is x
 abbrev one : (x h : ℕ) → ℕ
 one x h = if eqb x h then 1 else 0
-
-abbrev often : (x : ℕ) → List ℕ → ℕ
-often x [] = 0
-often x (h ∷ hs) = one x h + often x hs
 
 one-yes : (x h : ℕ) → eqb x h ≡ true → one x h ≡ 1
 one-yes x h e = ap (λ b. if b then 1 else 0) e
@@ -165,189 +135,159 @@ one-yes x h e = ap (λ b. if b then 1 else 0) e
 one-no : (x h : ℕ) → eqb x h ≡ false → one x h ≡ 0
 one-no x h e = ap (λ b. if b then 1 else 0) e
 
-none-often : (x : ℕ) (hs : List ℕ) → often x hs ≤ 0 → All (λ y. eqb x y ≡ false) hs
-none-often x [] h = All-nil (λ y. eqb x y ≡ false)
+one-le : (x h : ℕ) → one x h ≤ 1
+one-le x h = elim (eqb x h) as (λ b. (if b then 1 else 0) ≤ 1) [ true ↦ omega arith | false ↦ omega arith ]
+
+-- how often a number is x
+abbrev often : (x : ℕ) → List ℕ → ℕ
+often x hs = sizes (one x) 0 hs
+
+member : (x : ℕ) (hs : List ℕ) → 0 < often x hs → Contains hs x
+member x [] lt = absurd (omega (arith, lt))
+member x (y ∷ ys) lt =
+    elim (cases_Bool (eqb x y)) [
+      | inl e ↦ subst (Contains (y ∷ ys)) (sym (eqb-true x y e)) (Contains-head y ys)
+      | inr e ↦ Contains-tail y ys x (member x ys (omega (arith, lt, one-no x y e)))
+    ]
+
+once-often : (x : ℕ) (hs : List ℕ) → IsDistinct eqb hs → often x hs ≤ 1
+once-often x [] d = omega arith
+once-often x (y ∷ ys) d =
+    elim (cases_Bool (eqb x y)) [
+      | inr e ↦ omega (arith, one-no x y e, once-often x ys (IsDistinct-tail eqb y ys d))
+      | inl e ↦ elim (below_or_not 0 (often x ys)) [
+        | inl lt ↦ absurd (first_apart y ys d x (member x ys lt) (eqb-true x y e))
+        | inr gone ↦ omega (arith, gone, one-yes x y e)
+      ]
+    ]
+
+none-often : (x : ℕ) (hs : List ℕ) → often x hs ≤ 0 → AllByRecursion (λ y. eqb x y ≡ false) hs
+none-often x [] h = tt
 none-often x (y ∷ hs) h =
     elim (cases_Bool (eqb x y)) [
       | inl e ↦ absurd (omega (arith, h, one-yes x y e))
-      | inr e ↦ All-cons (λ z. eqb x z ≡ false) y hs e (none-often x hs (omega (arith, h)))
+      | inr e ↦ (e, none-often x hs (omega (arith, h)))
     ]
 
 distinct-once : (hs : List ℕ) → ((x : ℕ) → often x hs ≤ 1) → IsDistinct eqb hs
-distinct-once [] h = IsDistinct-nil
-distinct-once (y ∷ hs) h =
-    IsDistinct-cons eqb y hs
-    (recursion_from_All (λ z. eqb y z ≡ false) hs (none-often y hs (omega (arith, h y, one-yes y y (eq-eqb y y refl)))))
-    (distinct-once hs (λ x. omega (arith, h x)))
-
--- ---- ancestors
+unfolding IsDistinct
+distinct-once [] h = tt
+distinct-once (y ∷ hs) h = (none-often y hs (omega (arith, h y, one-yes y y (eq-eqb y y refl))), distinct-once hs (λ x. omega (arith, h x)))
 
 module _ (dom : Dom) (forest : IsForest dom) where
-  -- of two inclusive ancestors of a node one is that of the other
-  in_line : (a b : ℕ) {y : ℕ} → IsInclusiveAncestor dom a y → IsInclusiveAncestor dom b y → IsInclusiveAncestor dom a b ⊎ IsInclusiveAncestor dom b a
-  in_line a b itself s = inr s
-  in_line a b {y = y} (above p e r) s =
-      elim (IsInclusiveAncestor-cases dom b y s) [
-        | inl same ↦ inl (subst (λ z. IsInclusiveAncestor dom a z) (sym same) (above p e r))
-        | inr w ↦ (let same : w.0 ≡ p = cc (e, w.1) in in_line a b r (subst (λ z. IsInclusiveAncestor dom b z) same w.2))
+  -- how often a node is x, or one of its next `n` ancestors
+  abbrev over : (n x h : ℕ) → ℕ
+  over zero x h = one x h
+  over (suc n) x h = one x h + option_map_or (λ p. over n p h) (parent_at dom x) 0
+
+  over-more : (n x h : ℕ) → over n x h ≤ over (suc n) x h
+  over-more zero x h = omega arith
+  over-more (suc n) x h = by (parent_at dom x) (λ p. over-more n p h)
+    where
+      by : (o : Option ℕ) → ((p : ℕ) → over n p h ≤ over (suc n) p h) →
+          one x h + option_map_or (λ p. over n p h) o 0 ≤ one x h + option_map_or (λ p. over (suc n) p h) o 0
+      by None le = omega arith
+      by (Some p) le = omega (arith, le p)
+
+  left-more : (n x : ℕ) (vs : List Visit) → left (over n x) 0 vs ≤ left (over (suc n) x) 0 vs
+  left-more n x [] = omega arith
+  left-more n x (Node h ∷ vs) = omega (arith, over-more n x h, left-more n x vs)
+  left-more n x (Parts ∷ vs) = omega (arith, left-more n x vs)
+  left-more n x (Close ∷ vs) = omega (arith, left-more n x vs)
+
+  -- a node that is counted is x or above it
+  counted-over : (x h rest : ℕ) → (0 < rest → IsInclusiveAncestor dom h x) → 0 < one x h + rest → IsInclusiveAncestor dom h x
+  counted-over x h rest further lt =
+      elim (cases_Bool (eqb x h)) [
+        | inl e ↦ subst (λ z. IsInclusiveAncestor dom h z) (sym (eqb-true x h e)) itself
+        | inr e ↦ further (omega (arith, lt, one-no x h e))
       ]
 
-  -- a child is no inclusive ancestor of another
-  not-over : (h g p : ℕ) → parent_at dom h ≡ Some p → parent_at dom g ≡ Some p → (h ≡ g → ⊥) → IsInclusiveAncestor dom h g → ⊥
-  not-over h g p e f apart r =
-      elim (IsInclusiveAncestor-cases dom h g r) [
-        | inl same ↦ apart same
-        | inr w ↦ (let same : w.0 ≡ p = cc (f, w.1) in IsInclusiveAncestor-no_loop dom forest h p e (subst (λ z. IsInclusiveAncestor dom h z) same w.2))
-      ]
+  over-ancestor : (n x h : ℕ) → 0 < over n x h → IsInclusiveAncestor dom h x
+  over-ancestor zero x h lt = counted-over x h 0 (λ no. absurd (omega (arith, no))) (omega (arith, lt))
+  over-ancestor (suc n) x h lt = counted-over x h _ (by (parent_at dom x) refl (λ p. over-ancestor n p h)) lt
+    where
+      by : (o : Option ℕ) → parent_at dom x ≡ o → ((p : ℕ) → 0 < over n p h → IsInclusiveAncestor dom h p) →
+          0 < option_map_or (λ p. over n p h) o 0 → IsInclusiveAncestor dom h x
+      by None e further lt = absurd (omega (arith, lt))
+      by (Some p) e further lt = above p e (further p lt)
 
-  -- so nothing is below two children
-  below-one : (h g p x : ℕ) → parent_at dom h ≡ Some p → parent_at dom g ≡ Some p → (h ≡ g → ⊥) →
-      IsInclusiveAncestor dom h x → IsInclusiveAncestor dom g x → ⊥
-  below-one h g p x e f apart r s =
-      elim (in_line h g r s) [
-        | inl over ↦ not-over h g p e f apart over
-        | inr over ↦ not-over g h p f e (λ same. apart (sym same)) over
-      ]
-
-  -- ---- how often a node stands in a forest
-
-  module _ (x : ℕ) where
-    abbrev times : Forest Content → List ℕ → ℕ
-    times none _ = 0
-    times (node c kids beside) [] = 0
-    times (node c kids beside) (h ∷ hs) = one x h + times kids (children_at dom h) + times beside hs
-
-    -- it is below a root, if it stands there
-    record Found (hs : List ℕ) : Type 0 where
-      root : ℕ
-      member : Contains hs root
-      over : IsInclusiveAncestor dom root x
-
-    own-over : (h : ℕ) (kids : Forest Content) → (0 < times kids (children_at dom h) → Found (children_at dom h)) →
-        0 < one x h + times kids (children_at dom h) → IsInclusiveAncestor dom h x
-    own-over h kids inside lt =
-        elim (cases_Bool (eqb x h)) [
-          | inl e ↦ subst (λ z. IsInclusiveAncestor dom h z) (sym (eqb-true x h e)) itself
-          | inr e ↦ (let f = inside (omega (arith, lt, one-no x h e)) in
-              descend dom h f.root (forest.child_names_parent h f.root f.member) f.over)
-        ]
-
-    found : (t : Forest Content) (hs : List ℕ) → 0 < times t hs → Found hs
-    found none hs lt = absurd (omega (arith, lt))
-    found (node c kids beside) [] lt = absurd (omega (arith, lt))
-    found (node c kids beside) (h ∷ hs) lt =
-        elim (below_or_not 0 (times beside hs)) [
-          | inl more ↦ (let f = found beside hs more in record { root = f.root; member = Contains-tail h hs f.root f.member; over = f.over })
-          | inr gone ↦ record {
-            root = h;
-            member = Contains-head h hs;
-            over = own-over h kids (found kids (children_at dom h)) (omega (arith, lt, gone));
-          }
-        ]
-
-    -- a node is not below itself
-    tree-once : (h : ℕ) (kids : Forest Content) → times kids (children_at dom h) ≤ 1 → one x h + times kids (children_at dom h) ≤ 1
-    tree-once h kids le =
-        elim (cases_Bool (eqb x h)) [
-          | inr e ↦ omega (arith, le, one-no x h e)
-          | inl e ↦ elim (below_or_not 0 (times kids (children_at dom h))) [
-            | inr gone ↦ omega (arith, gone, one-yes x h e)
-            | inl lt ↦ (let f = found kids (children_at dom h) lt in
-                absurd (IsInclusiveAncestor-no_loop dom forest f.root h (forest.child_names_parent h f.root f.member)
-                (subst (λ z. IsInclusiveAncestor dom f.root z) (eqb-true x h e) f.over)))
+  -- the document is above a node once, since no node is above itself
+  root-once : (n x : ℕ) → over n x 0 ≤ 1
+  root-once zero x = one-le x 0
+  root-once (suc n) x = by (parent_at dom x) refl (root-once n)
+    where
+      by : (o : Option ℕ) → parent_at dom x ≡ o → ((p : ℕ) → over n p 0 ≤ 1) → one x 0 + option_map_or (λ p. over n p 0) o 0 ≤ 1
+      by None e once = omega (arith, one-le x 0)
+      by (Some p) e once =
+          elim (cases_Bool (eqb x 0)) [
+            | inr d ↦ omega (arith, one-no x 0 d, once p)
+            | inl d ↦ elim (below_or_not 0 (over n p 0)) [
+              | inr gone ↦ omega (arith, gone, one-yes x 0 d)
+              | inl lt ↦ absurd (IsInclusiveAncestor-no_loop dom forest x p e
+                  (subst (λ z. IsInclusiveAncestor dom z p) (sym (eqb-true x 0 d)) (over-ancestor n p 0 lt)))
+            ]
           ]
-        ]
 
-    -- distinct nodes with one parent
-    record Siblings (p : ℕ) (hs : List ℕ) : Type 0 where
-      distinct : IsDistinct eqb hs
-      parent : (h : ℕ) → Contains hs h → parent_at dom h ≡ Some p
+  -- x is once among the children of its parent
+  child-once : (x h : ℕ) → often x (children_at dom h) ≤ option_map_or (λ p. one p h) (parent_at dom x) 0
+  child-once x h =
+      elim (below_or_not 0 (often x (children_at dom h))) [
+        | inl lt ↦ rw (forest.child_names_parent h x (member x (children_at dom h) lt))
+            (omega (arith, once-often x (children_at dom h) (forest.once h), one-yes h h (eq-eqb h h refl)))
+        | inr gone ↦ omega (arith, gone)
+      ]
 
-    children-siblings : (h : ℕ) → Siblings h (children_at dom h)
-    children-siblings h = record { distinct = forest.once h; parent = forest.child_names_parent h }
+  split : (n x : ℕ) (o : Option ℕ) (hs : List ℕ) → sizes (λ h. one x h + option_map_or (λ p. over n p h) o 0) 0 hs
+      ≡ often x hs + option_map_or (λ p. sizes (over n p) 0 hs) o 0
+  split n x None [] = refl
+  split n x (Some p) [] = refl
+  split n x None (h ∷ hs) = omega (arith, split n x None hs)
+  split n x (Some p) (h ∷ hs) = omega (arith, split n x (Some p) hs)
 
-    siblings-tail : (p h : ℕ) (hs : List ℕ) → Siblings p (h ∷ hs) → Siblings p hs
-    siblings-tail p h hs s = record { distinct = IsDistinct-tail eqb h hs s.distinct; parent = λ g m. s.parent g (Contains-tail h hs g m) }
+  -- the children of a node are as often above x as the node is above its parent
+  children-over : (n x h : ℕ) → sizes (over n x) 0 (children_at dom h) ≤ option_map_or (λ p. over n p h) (parent_at dom x) 0
+  children-over zero x h = child-once x h
+  children-over (suc n) x h = by (parent_at dom x) (child-once x h) (λ p. children-over n p h)
+    where
+      by : (o : Option ℕ) → often x (children_at dom h) ≤ option_map_or (λ p. one p h) o 0 →
+          ((p : ℕ) → sizes (over n p) 0 (children_at dom h) ≤ option_map_or (λ q. over n q h) (parent_at dom p) 0) →
+          sizes (λ g. one x g + option_map_or (λ p. over n p g) o 0) 0 (children_at dom h) ≤ option_map_or (λ p. over (suc n) p h) o 0
+      by None le more = omega (arith, le, split n x None (children_at dom h))
+      by (Some p) le more = omega (arith, le, split n x (Some p) (children_at dom h), more p)
 
-    forest-once : (t : Forest Content) (p : ℕ) (hs : List ℕ) → Siblings p hs → times t hs ≤ 1
-    forest-once none p hs s = omega arith
-    forest-once (node c kids beside) p [] s = omega arith
-    forest-once (node c kids beside) p (h ∷ hs) s =
-        let inside = forest-once kids h (children_at dom h) (children-siblings h) in
-        let own = tree-once h kids inside in
-        let others = forest-once beside p hs (siblings-tail p h hs s) in
-        elim (below_or_not 0 (times beside hs)) [
-          | inr gone ↦ omega (arith, own, gone)
-          | inl more ↦ elim (below_or_not 0 (one x h + times kids (children_at dom h))) [
-            | inr gone ↦ omega (arith, others, gone)
-            | inl lt ↦ (let f = found beside hs more in
-                let over = own-over h kids (found kids (children_at dom h)) lt in
-                absurd (below-one h f.root p x (s.parent h (Contains-head h hs)) (s.parent f.root (Contains-tail h hs f.root f.member))
-                (λ same. first_apart h hs s.distinct f.root f.member (sym same)) over f.over))
-          ]
-        ]
+  -- the visits in a node meet x no more often than the node is above its parent
+  added-le : (n x : ℕ) (plan : Plan) (h : ℕ) → left (over n x) 0 (coming dom (followed plan h [])) ≤ option_map_or (λ p. over n p h) (parent_at dom x) 0
+  added-le n x (Over e true) h = omega (arith, left-entered (over n x) 0 dom h [] e.kind, children-over n x h)
+  added-le n x Nothing h = omega arith
+  added-le n x (Alone m) h = omega arith
+  added-le n x (Over e false) h = omega arith
 
-    -- ---- a walk
-
-    -- how often a node stands in a node's tree
-    abbrev tree_times : ℕ → ℕ
-    tree_times h = times (tree_of dom h) (h ∷ [])
-
-    sizes-times : (hs : List ℕ) → sizes tree_times 0 hs ≡ times (trees_of dom hs) hs
-    sizes-times [] = refl
-    sizes-times (h ∷ hs) = omega (arith, sizes-times hs)
-
-    kids-le : (h : ℕ) → one x h + times (trees_of dom (children_at dom h)) (children_at dom h) ≤ tree_times h
-    kids-le h =
-        elim (below_or_not h (node_count dom)) [
-          | inl at ↦ omega (arith, ap (λ t. times t (children_at dom h)) (below-children dom forest h at))
-          | inr gone ↦ omega (arith, ap (λ hs. times (trees_of dom hs) hs) (children_at-past dom h gone))
-        ]
-
-    added-le : (plan : Plan) (h : ℕ) →
-        left tree_times 0 (coming dom (followed plan h [])) ≤ times (trees_of dom (children_at dom h)) (children_at dom h)
-    added-le Nothing h = omega arith
-    added-le (Alone n) h = omega arith
-    added-le (Over e false) h = omega arith
-    added-le (Over e true) h = omega (arith, left-entered tree_times 0 dom h [] e.kind, sizes-times (children_at dom h))
-
-    module _ (rules : List StyleRule) where
-      visited-le : (n : ℕ) (vs : List Visit) → often x (visited n rules dom vs) ≤ left tree_times 0 vs
-      visited-le zero vs = omega arith
-      visited-le (suc n) [] = omega arith
-      visited-le (suc n) (Node h ∷ vs) =
-          omega (
-            arith,
-            visited-le n (added_visits rules dom h ++ vs),
-            left-append tree_times 0 (added_visits rules dom h) vs,
-            added-le (plan_at rules dom h) h,
-            kids-le h,
-          )
-      visited-le (suc n) (Parts ∷ vs) = omega (arith, visited-le n vs)
-      visited-le (suc n) (Close ∷ vs) = omega (arith, visited-le n vs)
-
-      often-once : (n : ℕ) → often x (visited n rules dom (Node 0 ∷ [])) ≤ 1
-      often-once n =
-          omega (
-            arith,
-            visited-le n (Node 0 ∷ []),
-            tree-once 0 (below (node_count dom) dom 0)
-                (forest-once (below (node_count dom) dom 0) 0 (children_at dom 0) (children-siblings 0)),
-          )
+  module _ (rules : List StyleRule) (x : ℕ) where
+    visited-le : (n : ℕ) (vs : List Visit) → often x (visited n rules dom vs) ≤ left (over n x) 0 vs
+    visited-le zero vs = omega arith
+    visited-le (suc n) [] = omega arith
+    visited-le (suc n) (Node h ∷ vs) =
+        omega (
+          arith,
+          visited-le n (added_visits rules dom h ++ vs),
+          left-append (over n x) 0 (added_visits rules dom h) vs,
+          added-le n x (plan_at rules dom h) h,
+          left-more n x vs,
+        )
+    visited-le (suc n) (Parts ∷ vs) = omega (arith, visited-le n vs, left-more n x vs)
+    visited-le (suc n) (Close ∷ vs) = omega (arith, visited-le n vs, left-more n x vs)
 
 pub no_node_twice : (rules : List StyleRule) (dom : Dom) → IsForest dom → (n : ℕ) → IsDistinct eqb (visited n rules dom (Node 0 ∷ []))
-no_node_twice rules dom forest n = distinct-once (visited n rules dom (Node 0 ∷ [])) (λ x. often-once dom forest x rules n)
+no_node_twice rules dom forest n =
+    distinct-once (visited n rules dom (Node 0 ∷ []))
+    (λ x. omega (arith, visited-le dom forest rules x n (Node 0 ∷ []), root-once dom forest n x))
 
 -- ---- visits that are added
 
-end-added : (xs ys zs : List Visit) → xs ++ (ys ++ zs) ≡ (xs ++ (ys ++ [])) ++ zs
-end-added xs ys zs = sym (append_assoc xs (ys ++ []) zs ∙ ap (λ l. xs ++ l) (append_assoc ys [] zs))
-
 pub followed_append : (dom : Dom) (plan : Plan) (h : ℕ) (ps : List Position) →
     coming dom (followed plan h ps) ≡ coming dom (followed plan h []) ++ coming dom ps
+followed_append dom (Over e true) h ps = simp append_assoc
 followed_append dom Nothing h ps = refl
 followed_append dom (Alone n) h ps = refl
 followed_append dom (Over e false) h ps = refl
-followed_append dom (Over e true) h ps =
-    let p = entered h (first_pick e.kind) in
-    end-added (nodes (ahead dom p)) (after_pick p.pick dom h) (coming dom ps)

@@ -7,10 +7,10 @@ use Rattle.html_render_layout_nodes.specs.declared.tree.NodeKind.TheVariants.{Ta
 use Rattle.html_render_layout_nodes.specs.declared.tree.RenderNode.{RenderNode}
 use Rattle.html_render_parts.specs.Refusal.{Fails}
 use Rattle.html_render_parts.specs.TableCells.{cell_grid_of}
-use Rattle.html_render_tree_mapping.specs.Results.{Role}
+use Rattle.html_render_tree_convert.specs.Results.{Role}
 use Rattle.html_render_tree_convert.specs.OpenElements.{OpenElement, nothing, sized, with_kind}
 use Rattle.html_render_tree_convert.specs.Seen.{Holds, Level, element_seen}
-use Rattle.html_render_tree_convert.specs.Steps.{Closed, closed_as, is_table, left_by, received, received_any, with_given}
+use Rattle.html_render_tree_convert.specs.Steps.{Closed, closed_as, is_rows, is_table, left_by, received, received_any, with_given}
 use Rattle.html_render_tree_convert.specs.declared.elements.Open.{Open}
 use Rattle.html_render_tree_convert.specs.declared.elements.OpenKind.{OpenKind}
 use Rattle.html_render_tree_convert.specs.declared.elements.OpenKind.TheVariants.{Parts}
@@ -47,7 +47,7 @@ closed_entries r has_children is_stray own inside = record {
 
 -- whether a part of a table gives its insertion back to its parent
 abbrev pub gives_to : (o parent : Open) → Bool
-gives_to o parent = o.is_given && is_table parent.kind
+gives_to o parent = is_rows o.kind && o.is_given && is_table parent.kind
 
 -- a part of a table once its insertion is given back
 abbrev pub without_given : (o parent : Open) → Open

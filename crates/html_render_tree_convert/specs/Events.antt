@@ -1,27 +1,20 @@
 -- The events of a walk over a document, in which each node that is converted is met once; of a table captions come first, then all
 -- others but feet, then feet.
-use Rattle.std.specs.Prelude.{Bool, true, false, not, ◌&&◌, List, [], ◌∷◌, ◌++◌, codes, if◌then◌else◌}
+use Rattle.std.specs.Prelude.{true, false, List, [], ◌∷◌, ◌++◌, if◌then◌else◌}
 use Rattle.html_render_dom_values.specs.Forest.{Forest, none, node}
 use Rattle.html_render_dom_styles.specs.Rules.{Rule as StyleRule}
 use Rattle.html_render_dom_nodes.specs.Content.{Content}
 use Rattle.html_render_layout_nodes.specs.declared.tree.RenderNode.{RenderNode}
-use Rattle.html_render_tree_mapping.specs.declared.mapping.ElementKind.{ElementKind}
-use Rattle.html_render_tree_mapping.specs.declared.mapping.ElementKind.TheVariants.{Part}
-use Rattle.html_render_tree_mapping.specs.declared.tables.Part.TheVariants as part
-use Rattle.html_render_tree_convert.specs.declared.cursor.Pick.{Pick}
-use Rattle.html_render_tree_convert.specs.declared.cursor.Pick.TheVariants.{All, Captions, Others, Feet}
-use Rattle.html_render_tree_mapping.specs.Plans.{plan_of}
-use Rattle.html_render_tree_mapping.specs.Results.{is_named}
-use Rattle.html_render_tree_mapping.specs.declared.plans.Element.{Element}
-use Rattle.html_render_tree_mapping.specs.declared.plans.Plan.{Plan}
-use Rattle.html_render_tree_mapping.specs.declared.plans.Plan.TheVariants.{Nothing, Alone, Over}
-
--- whether a child is picked
-abbrev pub picks : Pick → Content → Bool
-picks All c = true
-picks Captions c = is_named (codes "caption") c
-picks Others c = not (is_named (codes "caption") c) && not (is_named (codes "tfoot") c)
-picks Feet c = is_named (codes "tfoot") c
+use Rattle.html_render_tree_convert.specs.declared.mapping.ElementKind.{ElementKind}
+use Rattle.html_render_tree_convert.specs.declared.mapping.ElementKind.TheVariants.{Part}
+use Rattle.html_render_tree_convert.specs.declared.tables.Part.TheVariants as part
+use Rattle.html_render_tree_walk.specs.declared.cursor.Pick.{Pick}
+use Rattle.html_render_tree_walk.specs.declared.cursor.Pick.TheVariants.{All, Captions, Others, Feet}
+use Rattle.html_render_tree_convert.specs.Plans.{plan_of}
+use Rattle.html_render_tree_walk.specs.Walk.{picks}
+use Rattle.html_render_tree_convert.specs.declared.plans.Element.{Element}
+use Rattle.html_render_tree_convert.specs.declared.plans.Plan.{Plan}
+use Rattle.html_render_tree_convert.specs.declared.plans.Plan.TheVariants.{Nothing, Alone, Over}
 
 -- Event of a walk:
 -- * Put: a node without children;

@@ -2,7 +2,7 @@
 use Rattle.std.specs.Prelude.{Bool, true, false, not, ◌&&◌}
 use Rattle.html_render_layout_nodes.specs.declared.tree.NodeKind.{NodeKind}
 use Rattle.html_render_layout_nodes.specs.declared.tree.NodeKind.TheVariants.{Ol, ListItem, Dl, Dt, Dd, Link}
-use Rattle.html_render_tree_mapping.specs.Results.{Role, stands_alone, shows_nothing}
+use Rattle.html_render_tree_convert.specs.Results.{Role, stands_alone, shows_nothing}
 use Rattle.html_render_tree_convert.specs.declared.kinds.Keeping.{Keeping}
 use Rattle.html_render_tree_convert.specs.declared.kinds.Keeping.TheVariants.{Any, Items, Descriptions, Shown}
 

@@ -1,7 +1,18 @@
+-- what becomes of each element
+pub mod Images
+pub mod Marks
+pub mod Tables
+pub mod Conversion
+-- texts that an element inserts
+pub mod ElementTexts
+-- what becomes of a node, its children aside
+pub mod Plans
+-- THE DEFINITION of the conversion
+pub mod Results
 -- the events of a walk over a document
 pub mod Events
--- the walk over a document's lists of children, and the nodes that it visits
-pub mod Walk
+-- events of visits, and the nodes that a walk visits
+pub mod Visits
 -- what a node keeps and counts of what its children become
 pub mod Keeping
 -- elements that are open during the walk

@@ -6,10 +6,10 @@ use Rattle.html_render_layout_nodes.specs.declared.tree.NodeKind.{NodeKind}
 use Rattle.html_render_layout_nodes.specs.declared.tree.NodeKind.TheVariants.{Container}
 use Rattle.html_render_layout_nodes.specs.declared.tree.NodeStyle.{NodeStyle}
 use Rattle.html_render_layout_nodes.specs.declared.tree.RenderNode.{RenderNode}
-pub use Rattle.html_render_tree_mapping.specs.Plans.{Insertion, text_nodes, inserts, insertion_of}
-use Rattle.html_render_tree_mapping.specs.declared.mapping.IfEmpty.{IfEmpty}
-use Rattle.html_render_tree_mapping.specs.declared.mapping.IfEmpty.TheVariants.{Stands}
-use Rattle.html_render_tree_mapping.specs.declared.plans.Element.{Element}
+pub use Rattle.html_render_tree_convert.specs.Plans.{Insertion, text_nodes, inserts, insertion_of}
+use Rattle.html_render_tree_convert.specs.declared.mapping.IfEmpty.{IfEmpty}
+use Rattle.html_render_tree_convert.specs.declared.mapping.IfEmpty.TheVariants.{Stands}
+use Rattle.html_render_tree_convert.specs.declared.plans.Element.{Element}
 use Rattle.html_render_tree_convert.specs.declared.elements.OpenKind.{OpenKind}
 use Rattle.html_render_tree_convert.specs.declared.elements.OpenKind.TheVariants.{Root}
 

@@ -2,9 +2,26 @@
 use Rattle.std.specs.Prelude.{◌≡◌, List, [], ◌∷◌, ◌++◌, Bool, false, option_map}
 use Rattle.html_render_layout_nodes.specs.declared.tree.Entry.{Entry}
 use Rattle.html_render_layout_nodes.specs.declared.tree.RenderNode.{RenderNode}
+use Rattle.html_render_tree_convert.specs.declared.mapping.IfEmpty.{IfEmpty}
+use Rattle.html_render_tree_convert.specs.Held.{Held}
 use Rattle.html_render_tree_convert.specs.OpenElements.{Insertion, OpenElement, nothing}
 use Rattle.html_render_tree_convert.specs.Seen.{Level, element_seen}
 use Rattle.html_render_tree_convert.specs.declared.elements.Open.{Open}
+use Rattle.html_render_tree_convert.specs.declared.elements.OpenKind.{OpenKind}
+
+-- an open element to which no result has come, at the start of a tree
+abbrev pub created : OpenKind → (due : Held) → IfEmpty → (is_given has_children : Bool) → Open
+created kind due if_empty is_given has_children = record {
+  kind = kind;
+  due = due;
+  start = 0;
+  if_empty = if_empty;
+  is_given = is_given;
+  has_results = false;
+  has_children = has_children;
+  is_wrapped = false;
+  is_stray = false;
+}
 
 -- the innermost open element with more entries written
 abbrev pub wrote : List (Entry RenderNode) → List OpenElement → List OpenElement
@@ -26,8 +43,3 @@ pub record Innermost (o : Open) (ps : List OpenElement) : Type 0 where
 abbrev pub due_in : List OpenElement → Insertion
 due_in [] = nothing
 due_in (p ∷ ps) = p.due
-
--- whether a result that counts has come in the innermost open element
-abbrev pub has_result : List OpenElement → Bool
-has_result [] = false
-has_result (p ∷ ps) = p.has_results

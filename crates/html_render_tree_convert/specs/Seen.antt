@@ -4,8 +4,8 @@ use Rattle.html_render_layout_nodes.specs.RenderNodes.{without_style}
 use Rattle.html_render_layout_nodes.specs.declared.tree.Entry.{Entry}
 use Rattle.html_render_layout_nodes.specs.declared.tree.NodeKind.TheVariants.{Container}
 use Rattle.html_render_layout_nodes.specs.declared.tree.RenderNode.{RenderNode}
-use Rattle.html_render_tree_mapping.specs.Results.{Role}
-use Rattle.html_render_tree_mapping.specs.Results as results
+use Rattle.html_render_tree_convert.specs.Results.{Role}
+use Rattle.html_render_tree_convert.specs.Results as results
 use Rattle.html_render_tree_convert.specs.OpenElements.{Insertion, OpenElement}
 use Rattle.html_render_tree_convert.specs.Held.{due_of}
 use Rattle.html_render_tree_convert.specs.Steps.{gathered}

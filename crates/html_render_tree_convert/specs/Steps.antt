@@ -14,16 +14,16 @@ use Rattle.html_render_layout_nodes.specs.declared.tree.NodeKind.{NodeKind}
 use Rattle.html_render_layout_nodes.specs.declared.tree.NodeKind.TheVariants.{Container, Block, FragmentStart, Table, TableRow, TableCell}
 use Rattle.html_render_layout_nodes.specs.declared.tree.RenderNode.{RenderNode}
 use Rattle.html_render_parts.specs.TableCells.{cell_grid_of}
-use Rattle.html_render_tree_mapping.specs.Conversion.{vanishes}
-use Rattle.html_render_tree_mapping.specs.Results.{Role, is_caption, cell_of, row_of, stands_alone}
-pub use Rattle.html_render_tree_mapping.specs.Results.{are_rows}
-use Rattle.html_render_tree_mapping.specs.Results as role
-use Rattle.html_render_tree_mapping.specs.Tables.{greatest_width, spanned_in}
-use Rattle.html_render_tree_mapping.specs.declared.mapping.ElementKind.{ElementKind}
-use Rattle.html_render_tree_mapping.specs.declared.mapping.ElementKind.TheVariants as element
-use Rattle.html_render_tree_mapping.specs.declared.mapping.IfEmpty.TheVariants.{Stands, Vanishes}
-use Rattle.html_render_tree_mapping.specs.declared.tables.CellSpan.{CellSpan}
-use Rattle.html_render_tree_mapping.specs.declared.tables.Part.TheVariants as part
+use Rattle.html_render_tree_convert.specs.Conversion.{vanishes}
+use Rattle.html_render_tree_convert.specs.Results.{Role, is_caption, cell_of, row_of, stands_alone}
+pub use Rattle.html_render_tree_convert.specs.Results.{are_rows}
+use Rattle.html_render_tree_convert.specs.Results as role
+use Rattle.html_render_tree_convert.specs.Tables.{greatest_width, spanned_in}
+use Rattle.html_render_tree_convert.specs.declared.mapping.ElementKind.{ElementKind}
+use Rattle.html_render_tree_convert.specs.declared.mapping.ElementKind.TheVariants as element
+use Rattle.html_render_tree_convert.specs.declared.mapping.IfEmpty.TheVariants.{Stands, Vanishes}
+use Rattle.html_render_tree_convert.specs.declared.tables.CellSpan.{CellSpan}
+use Rattle.html_render_tree_convert.specs.declared.tables.Part.TheVariants as part
 use Rattle.html_render_tree_convert.specs.Events.{Event, Put, Open, Parts, Close, events}
 use Rattle.html_render_tree_convert.specs.Keeping.{counts_by, keeping_of, keeps_by}
 use Rattle.html_render_tree_convert.specs.OpenElements.{OpenElement, Insertion, nothing, within, inserts, insertion_of}
@@ -33,8 +33,8 @@ use Rattle.html_render_tree_convert.specs.declared.elements.OpenKind.TheVariants
 use Rattle.html_render_tree_convert.specs.declared.elements.Place.{Place}
 use Rattle.html_render_tree_convert.specs.declared.elements.Place.TheVariants as place
 use Rattle.html_render_tree_convert.specs.declared.kinds.Keeping.TheVariants.{Any}
-use Rattle.html_render_tree_convert.specs.declared.cursor.Pick.TheVariants.{All}
-use Rattle.html_render_tree_mapping.specs.declared.plans.Element.{Element}
+use Rattle.html_render_tree_walk.specs.declared.cursor.Pick.TheVariants.{All}
+use Rattle.html_render_tree_convert.specs.declared.plans.Element.{Element}
 
 -- ---- an element opens
 
@@ -119,7 +119,6 @@ abbrev pub begun : ElementKind → Element → List OpenElement → List OpenEle
 begun (element.Node kind) e ps = begun_node (not (inserts e) || holds_insertions kind) kind e ++ ps
 begun (element.Part part.Table) e ps = holder open_kind.Captions (node_in e.style Container) e.if_empty e.texts.mark (insertion_of e) true ∷ ps
 begun (element.Part part.Body) e ps = begun_rows (is_in place.Table ps) e ps
-begun (element.Part part.Foot) e ps = begun_rows (is_in place.Table ps) e ps
 begun (element.Part part.Row) e ps = begun_row (is_in place.Rows ps) e ps
 begun (element.Part (part.Cell span)) e ps = begun_cell span (is_in place.Row ps) e ps
 begun (element.Part part.Caption) e ps =

@@ -13,10 +13,10 @@ ghost use Rattle.html_render_tree_convert.specs.Steps.{closed_leaf, put, receive
 use crate::builder::{Tree, put};
 use crate::due::Due;
 use crate::elements::{Open, OpenKind, Role};
+use crate::mapping::IfEmpty;
 use html_render_dom_values::Error;
 use html_render_layout_nodes::text::NodeText;
 use html_render_layout_nodes::tree::{Entry, NodeKind, RenderNode};
-use html_render_tree_mapping::mapping::IfEmpty;
 use std::alloc::Global;
 use std::marker::Model;
 
@@ -213,7 +213,7 @@ impl Conversion {
         ensures ok { (p : OpenElement) → self ≡ p ∷ [] → IfOk result (λ entries. Some entries.items ≡ p.written) }
         ensures err { (p : OpenElement) → self ≡ p ∷ [] → IfErr result (λ e. Fails e p.written) }
     {
-        match self.elements.first() {
+        match self.elements.last() {
             Some(root) if !root.is_stray => Ok(self.tree),
             _ => Err(Error::Fail),
         }

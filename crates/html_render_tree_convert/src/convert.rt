@@ -7,23 +7,21 @@ ghost use Rattle.html_render_parts.specs.Refusal.{Fails};
 ghost use Rattle.html_render_dom.specs.Dom.{IsForest, IsNode, tree_of};
 ghost use Rattle.html_render_dom.specs.ElementStyle.{style_of};
 ghost use Rattle.html_render_dom.specs.RuleIndex.{Finds};
-ghost use Rattle.html_render_tree_mapping.specs.Plans.{element_of, plain_element, plan_at};
-ghost use Rattle.html_render_tree_mapping.specs.Results.{render_tree_of};
+ghost use Rattle.html_render_tree_convert.specs.Plans.{element_of, plain_element, plan_at};
+ghost use Rattle.html_render_tree_convert.specs.Results.{render_tree_of};
 ghost use Rattle.html_render_tree_convert.specs.Events.{element_events, nothing_inside};
 ghost use Rattle.html_render_tree_convert.specs.Steps.{converted, run};
-ghost use Rattle.html_render_tree_convert.specs.Walk.{done_at_once, first_pick, followed};
+ghost use Rattle.html_render_tree_convert.specs.Visits.{done_at_once, first_pick, followed};
 
 use crate::conversion::Conversion;
-use crate::cursor::{Cursor, Pick, Visit};
+use crate::mapping::{ElementKind, IfEmpty};
+use crate::plans::{Element, Plan, plain_element, plan_of, styled_element, text_at};
+use crate::tables::Part;
 use html_render_dom::dom::{Handle, RcDom};
 use html_render_dom::style::{ComputedStyle, RuleIndex, StyleRule};
 use html_render_dom_values::Error;
 use html_render_layout_nodes::tree::{Entry, NodeStyle, PreorderForest, RenderNode};
-use html_render_tree_mapping::mapping::{ElementKind, IfEmpty};
-use html_render_tree_mapping::plans::{
-    Element, Plan, plain_element, plan_of, styled_element, text_at,
-};
-use html_render_tree_mapping::tables::Part;
+use html_render_tree_walk::cursor::{Cursor, Pick, Visit};
 use std::alloc::Global;
 
 /// Returns the children that come first in an element.

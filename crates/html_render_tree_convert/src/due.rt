@@ -8,10 +8,10 @@ ghost use Rattle.html_render_tree_convert.specs.OpenElements.{leaves, nothing, t
 ghost use Rattle.html_render_tree_convert.specs.Held.{due_of, held_in, insertion_in, nothing_held};
 
 use crate::builder::{Tree, put};
+use crate::plans::ElementTexts;
 use html_render_dom_values::Error;
 use html_render_layout_nodes::text::NodeText;
 use html_render_layout_nodes::tree::{NodeKind, RenderNode};
-use html_render_tree_mapping::plans::ElementTexts;
 use std::alloc::Global;
 use std::marker::Model;
 

@@ -4,18 +4,19 @@ ghost use Rattle.std.specs.Prelude.{◌≡◌, ◌++◌, if◌then◌else◌, fa
 ghost use Rattle.html_render_dom_values.specs.Outcome.{OnlyOutOfMemory};
 ghost use Rattle.html_render_layout_nodes.specs.declared.tree.Entry.{Entry};
 ghost use Rattle.html_render_layout_nodes.specs.declared.tree.RenderNode.{RenderNode};
-ghost use Rattle.html_render_tree_mapping.specs.Conversion.{vanishes};
-ghost use Rattle.html_render_tree_mapping.specs.Results.{stands_alone};
+ghost use Rattle.html_render_tree_convert.specs.Conversion.{vanishes};
+ghost use Rattle.html_render_tree_convert.specs.Results.{stands_alone};
+ghost use Rattle.html_render_tree_convert.specs.Opening.{created};
 ghost use Rattle.html_render_tree_convert.specs.Seen.{Gathers, Holds, element_seen, is_root, meant};
 ghost use Rattle.html_render_tree_convert.specs.Steps.{accepts, counts_in, has_place, is_place, received};
 
 use crate::due::Due;
 use crate::kinds::{Keeping, shows_nothing};
+use crate::mapping::IfEmpty;
 use crate::spans::{PartRows, RowCells, TableSpans, push_part};
+use crate::tables::CellSpan;
 use html_render_dom_values::Error;
 use html_render_layout_nodes::tree::NodeKind;
-use html_render_tree_mapping::mapping::IfEmpty;
-use html_render_tree_mapping::tables::CellSpan;
 use std::mem::size_of;
 
 /// Role of a result for the element in which it comes.
@@ -178,17 +179,7 @@ const _: () = prove!(size_of::<Open>() == 64);
 impl Open {
     /// Creates an element to which no result has come, at the start of a tree.
     pub fn new(kind: OpenKind, due: Due, if_empty: IfEmpty, has_children: bool) -> Open
-        ensures { result ≡ record {
-          kind = kind;
-          due = due;
-          start = 0;
-          if_empty = if_empty;
-          is_given = false;
-          has_results = false;
-          has_children = has_children;
-          is_wrapped = false;
-          is_stray = false;
-        } }
+        ensures { result ≡ created kind due if_empty false has_children }
     {
         Open {
             kind,

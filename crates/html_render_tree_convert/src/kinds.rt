@@ -1,8 +1,8 @@
 //! What a node keeps and counts of what its children become.
 
 ghost use Rattle.std.specs.Prelude.{◌≡◌};
-ghost use Rattle.html_render_tree_mapping.specs.Conversion.{is_blank};
-ghost use Rattle.html_render_tree_mapping.specs.Results.{shows_nothing};
+ghost use Rattle.html_render_tree_convert.specs.Conversion.{is_blank};
+ghost use Rattle.html_render_tree_convert.specs.Results.{shows_nothing};
 ghost use Rattle.html_render_tree_convert.specs.Keeping.{keeping_of, keeps_by};
 
 use html_render_layout_nodes::tree::NodeKind;

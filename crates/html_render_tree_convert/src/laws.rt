@@ -5,14 +5,15 @@ ghost use Rattle.std.specs.List.{IsDistinct};
 ghost use Rattle.html_render_dom.specs.Dom.{Dom, IsForest, IsNode, children_at, tree_of, trees_of};
 ghost use Rattle.html_render_dom_styles.specs.Rules.{Rule as StyleRule};
 ghost use Rattle.html_render_layout_nodes.specs.Preorder.{flatten};
-ghost use Rattle.html_render_tree_mapping.specs.Results.{render_tree_of};
-ghost use Rattle.html_render_tree_mapping.specs.declared.mapping.ElementKind.{ElementKind};
+ghost use Rattle.html_render_tree_convert.specs.Results.{render_tree_of};
+ghost use Rattle.html_render_tree_convert.specs.declared.mapping.ElementKind.{ElementKind};
 ghost use Rattle.html_render_tree_convert.specs.Events.{Close, children_events, events};
 ghost use Rattle.html_render_tree_convert.specs.Steps.{converted};
-ghost use Rattle.html_render_tree_convert.specs.Walk.{coming, entered, first_pick, followed, visited, visits_events};
-ghost use Rattle.html_render_tree_convert.specs.declared.cursor.Position.{Position};
-ghost use Rattle.html_render_tree_convert.specs.declared.cursor.Visit.TheVariants.{Node};
-ghost use Rattle.html_render_tree_mapping.specs.declared.plans.Plan.{Plan};
+ghost use Rattle.html_render_tree_convert.specs.Visits.{first_pick, followed, visited, visits_events};
+ghost use Rattle.html_render_tree_walk.specs.Walk.{coming, entered};
+ghost use Rattle.html_render_tree_walk.specs.declared.cursor.Position.{Position};
+ghost use Rattle.html_render_tree_walk.specs.declared.cursor.Visit.TheVariants.{Node};
+ghost use Rattle.html_render_tree_convert.specs.declared.plans.Plan.{Plan};
 
 /// States that the walk's steps write the render tree of the definition, in pre-order, and nothing where that is `None`.
 #[tactic(auto, using(crate::proofs::Running::documents_convert))]

@@ -7,13 +7,13 @@ ghost use Rattle.html_render_parts.specs.Grid.{AreValid};
 ghost use Rattle.html_render_parts.specs.Placement.{lists};
 ghost use Rattle.html_render_parts.specs.TableCells.{cell_grid_of};
 ghost use Rattle.html_render_parts.specs.Refusal.{Fails};
-ghost use Rattle.html_render_tree_mapping.specs.Tables.{width_of, greatest_width, spanned, spanned_in};
+ghost use Rattle.html_render_tree_convert.specs.Tables.{width_of, greatest_width, spanned, spanned_in};
 
+use crate::tables::CellSpan;
 use html_render_dom_values::Error;
 use html_render_layout_nodes::tree::Grid;
 use html_render_parts::table::Span;
 use html_render_parts::table::cells::TableCells;
-use html_render_tree_mapping::tables::CellSpan;
 use std::alloc::Global;
 use std::marker::Model;
 
@@ -28,7 +28,7 @@ pub struct RowCells {
 
 impl Model for RowCells {
     ghost use Rattle.std.specs.Prelude.{List};
-    ghost use Rattle.html_render_tree_mapping.specs.declared.tables.CellSpan.{CellSpan};
+    ghost use Rattle.html_render_tree_convert.specs.declared.tables.CellSpan.{CellSpan};
 
     ghost Value = { List CellSpan };
 
@@ -70,7 +70,7 @@ pub struct PartRows {
 
 impl Model for PartRows {
     ghost use Rattle.std.specs.Prelude.{List};
-    ghost use Rattle.html_render_tree_mapping.specs.declared.tables.CellSpan.{CellSpan};
+    ghost use Rattle.html_render_tree_convert.specs.declared.tables.CellSpan.{CellSpan};
 
     ghost Value = { List (List CellSpan) };
 
@@ -160,6 +160,7 @@ fn spanned_row(alloc: Global, widest: u128, cells: &[CellSpan]) -> Result<Vec<Sp
 /// # Errors
 ///
 /// `OutOfMemory` if an allocation is refused.
+#[tactic(auto, using(crate::proofs::ValidSpans::valid_more))]
 fn push_rows(alloc: Global, part: &[RowCells], rows: &mut Vec<Vec<Span>>) -> Result<(), Error>
     ensures ok { OnOk result (lists rows.new.items ≡ lists rows.old.items ++ spanned_in (greatest_width part.now) part.now) }
     ensures valid { AreValid (lists rows.old.items) → AreValid (lists rows.new.items) }

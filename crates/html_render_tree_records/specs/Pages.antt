@@ -12,7 +12,7 @@ use Rattle.html_render_parts.specs.Decorators.{plain, rich}
 use Rattle.html_render_parts.specs.declared.decorate.plain.PlainDecorator.{PlainDecorator}
 use Rattle.html_render_parts.specs.declared.decorate.rich.RichAnnotation.{RichAnnotation}
 use Rattle.html_render_parts.specs.declared.decorate.rich.RichDecorator.{RichDecorator}
-use Rattle.html_render_tree_mapping.specs.Results.{render_tree_of}
+use Rattle.html_render_tree_convert.specs.Results.{render_tree_of}
 use Rattle.html_render_tree.specs.Rendering.{Options, initial_options, rendered_lines, rendered_strings}
 use Rattle.html_render_tree.specs.Texts.{text_of}
 use Rattle.html_render_tree_records.specs.Steps.{AreStepsOf, IsFaultyStep}

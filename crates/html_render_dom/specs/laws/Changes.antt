@@ -1,13 +1,12 @@
 -- Contents, lists and parents of the nodes of a changed document.
 use Rattle.std.specs.Prelude.{◌≡◌, ◌≢◌, ℕ, zero, suc, ◌<◌, ◌≤◌, ◌-◌, List, [], ◌∷◌, ◌++◌, length, slice_set, Option, Some, Contains}
-use Rattle.std.proofs.Common.{◌⊎◌, inl, inr, refl, sym, ap, ◌∙◌, subst, arith, length-append}
+use Rattle.std.proofs.Common.{◌⊎◌, inl, inr, refl, sym, ap, ◌∙◌, arith, length-append}
 use Rattle.std.proofs.lemmas.Bool.Decides.{eqb_tells}
 use Rattle.std.proofs.lemmas.List.{get_or-set_same, get_or-set_other, length-set, get_or_past, get_or_append_left, get_or-append_right}
-use Rattle.std.proofs.lemmas.List.{get_or-append-add}
-use Rattle.html_render_dom_values.specs.Forest.{Forest, none, node, followed_by}
+use Rattle.html_render_dom_values.specs.Forest.{none, node}
 use Rattle.html_render_dom_nodes.specs.Content.{Content, document}
 use Rattle.html_render_dom_nodes.specs.Nodes.{Node, lone, node_in}
-use Rattle.html_render_dom.specs.Dom.{Dom, node_count, IsNode, content_at, children_at, parent_at, HaveTrees}
+use Rattle.html_render_dom.specs.Dom.{Dom, node_count, IsNode, content_at, children_at, parent_at}
 use Rattle.html_render_dom.specs.Dom.{IsForest, IsInclusiveAncestor, itself, above}
 use Rattle.html_render_dom_nodes.specs.Edits.{with_children, with_parent, created}
 use Rattle.html_render_dom_nodes.specs.Moves.{with_parents, reparented}
@@ -33,9 +32,6 @@ kept f nodes i n at same h =
     ]
 
 -- ---- appending a node
-
-pub made : (nodes : List Node) (c : Content) → node_in (created nodes c) (length nodes) ≡ lone c
-made nodes c = subst (λ n. node_in (created nodes c) n ≡ lone c) (omega arith) (get_or-append-add nodes (lone c ∷ []) 0 (lone document))
 
 pub older : (nodes : List Node) (c : Content) (h : ℕ) → h < length nodes → node_in (created nodes c) h ≡ node_in nodes h
 older nodes c h at = get_or_append_left nodes (lone c ∷ []) (lone document) h at
@@ -178,11 +174,3 @@ reparented-facts dom u v at_u at_v apart nodes =
       parents_elsewhere = λ h out. named-out v listed cs h out ∙ kept (λ x. x.parent) cleared v n in_v refl h
           ∙ kept (λ x. x.parent) dom.nodes u m at_u refl h;
     }
-
--- ---- the trees of two lists, one after the other
-
-pub HaveTrees-append : (dom : Dom) (t u : Forest Content) (xs ys : List ℕ) → HaveTrees dom xs t → HaveTrees dom ys u →
-    HaveTrees dom (xs ++ ys) (followed_by t u)
-HaveTrees-append dom none u [] ys h g = g
-HaveTrees-append dom (node c kids beside) u (x ∷ xs) ys h g = (h.0, h.1, h.2, HaveTrees-append dom beside u xs ys h.3 g)
-HaveTrees-append dom t u xs ys h g = absurd h

@@ -26,7 +26,7 @@ use Rattle.html_render_layout.specs.Layout.{Algebra, superscript, digits_of, blo
 use Rattle.html_render_layout.specs.Layout.{block_place, cell_place, shape_layout, kind_layout, layout_of}
 use Rattle.html_render_layout.specs.Images.{shown_title}
 use Rattle.html_render_layout.specs.Opening.{interrupted, continued, keeping, block_begun, block_kept, kind_kept, kind_opened, kind_closed, child_block, kind_below}
-use Rattle.html_render_layout.specs.Opening.{opened_in, text_opened, cell_opened, block_opened, opened_below, opened, below, closed}
+use Rattle.html_render_layout.specs.Opening.{opened_in, text_opened, cell_opened, block_opened, opened_below, opened, below, closed, walk_visits, walk_below, walk_opened, walk_closed}
 
 -- a visit followed by nothing is the visit
 module _ {S : Type 0} where
@@ -208,3 +208,8 @@ module _ {S A K T B : Type 0} (m : Algebra S A K T B) where
       by : (k : CloseAction S T B) → Opened (placed (kind_below m k number s) (layout_of m n trees) s) (opened_below m k number n trees s)
       by EndRow = cell-opened n trees s (m.operations.cell_block s.block)
       by k = block-opened (child_block m s.decorator k number) n trees s
+
+  pub walk-told : (parent : Option (OpenNode S T B)) (number : ℕ) (n : RenderNode) (trees : Forest RenderNode) (s : State) →
+      IsOpened (walk_below m) (walk_closed m) (placed (places_in (walk_below m) parent number s) (walk_visits m n trees) s) (walk_opened m parent number n trees s)
+  unfolding walk_visits walk_below walk_opened walk_closed
+  walk-told = layout-opened

@@ -11,7 +11,7 @@ ghost use Rattle.html_render_layout_estimates.specs.Estimates.{prefix_columns, n
 ghost use Rattle.html_render_layout.specs.Layout.{AddTarget, BeginTable, Fence, NewLine, StartBlock, Strike, block_of, perform_all};
 ghost use Rattle.html_render_layout.specs.Layout.{start};
 ghost use Rattle.html_render_layout.specs.Opening.{child_block, continued};
-ghost use Rattle.html_render_layout.specs.Opening.{kind_opened, kind_closed, opened_in, text_opened, cell_opened, block_opened, opened_below};
+ghost use Rattle.html_render_layout.specs.Opening.{kind_opened, kind_closed, opened_in, text_opened, cell_opened, block_opened, opened_below, keeping};
 ghost use Rattle.html_render_layout.specs.Opening.{opened, closed};
 ghost use Rattle.html_render_layout.specs.Working.{by_tags};
 
@@ -37,6 +37,7 @@ use html_render_layout_nodes::tree::{
 };
 use html_render_parts::decorate::TextDecorator;
 use std::alloc::Global;
+use std::mem;
 
 /// Returns the minimum width of a node without its prefix, in columns.
 fn inner_least(estimate: &Estimate) -> usize
@@ -112,15 +113,15 @@ fn strike<D: TextDecorator, G: Tagging<D::Annotation>>(
 /// Opens a superscript: adds one of digits whole and returns `None`, and begins any other one.
 fn open_superscript<D: TextDecorator, G: Tagging<D::Annotation>>(
     alloc: Global,
-    own: Suspended<D, G::Tag, BoxedBlock<G::Tag, usize>>,
+    own: &Suspended<D, G::Tag, BoxedBlock<G::Tag, usize>>,
     estimate: &Estimate,
     children: &[Entry<RenderNode>],
     state: &mut State<D, G>,
 ) -> Result<Option<KindKept<D, G>>, Error>
     requires { flatten (forest_of children.now) ≡ children.now }
-    ensures ok { IfOk result (λ c. kind_opened (by_tags D.decoration G.annotated) own NodeKind.Superscript estimate.now (forest_of children.now) state.old
+    ensures ok { IfOk result (λ c. kind_opened (by_tags D.decoration G.annotated) own.now NodeKind.Superscript estimate.now (forest_of children.now) state.old
         ≡ Some (way state.new c)) }
-    ensures err { IfErr result (λ e. Refuses e (kind_opened (by_tags D.decoration G.annotated) own NodeKind.Superscript estimate.now (forest_of children.now) state.old)) }
+    ensures err { IfErr result (λ e. Refuses e (kind_opened (by_tags D.decoration G.annotated) own.now NodeKind.Superscript estimate.now (forest_of children.now) state.old)) }
 {
     match digits_of(children) {
         Some(digits) => {
@@ -151,22 +152,22 @@ fn open_link<D: TextDecorator, G: Tagging<D::Annotation>>(
     Ok(Some(CloseAction::EndLink(text, state.targets.len())))
 }
 
-/// Opens a table, where `own` is the block that it suspends. Returns its closing action.
+/// Opens a table, where `own` is the block that it suspends. Moves that block into its closing action, which it returns.
 #[inline(never)]
 fn open_table<D: TextDecorator, G: Tagging<D::Annotation>>(
-    own: Suspended<D, G::Tag, BoxedBlock<G::Tag, usize>>,
+    own: &mut Suspended<D, G::Tag, BoxedBlock<G::Tag, usize>>,
     grid: &Grid,
     state: &mut State<D, G>,
 ) -> Result<Option<KindKept<D, G>>, Error>
     ensures ok { OnOk result (perform_all (by_tags D.decoration G.annotated) state.old
         (StartBlock ∷ (Fence ∷ (BeginTable grid.now.cells grid.now.needs ∷ []))) state.old ≡ Some state.new) }
-    ensures kept { IfOk result (λ c. c ≡ Some (CloseAction.EndTable own state.old.in_table)) }
+    ensures kept { IfOk result (λ c. c ≡ Some (CloseAction.EndTable own.old state.old.in_table)) }
     ensures err { IfErr result (λ e. Refuses e (perform_all (by_tags D.decoration G.annotated) state.old
         (StartBlock ∷ (Fence ∷ (BeginTable grid.now.cells grid.now.needs ∷ []))) state.old)) }
 {
     let in_table = state.in_table;
     begin_table(grid, state)?;
-    Ok(Some(CloseAction::EndTable(own, in_table)))
+    Ok(Some(CloseAction::EndTable(mem::replace(own, Suspended::NoBlock), in_table)))
 }
 
 /// Opens the next row of a table. Returns its closing action.
@@ -211,20 +212,21 @@ fn block_of<D: TextDecorator, G: Tagging<D::Annotation>>(
     }
 }
 
-/// Opens a node of a kind in its block, where `own` is the block that this suspends. Returns its closing action. Returns
-/// `None` if the node is finished: the state is then the one after it, and its children are skipped.
+/// Opens a node of a kind in its block, where `own` is the block that this suspends. Returns its closing action, into which
+/// that block is moved. Returns `None` if the node is finished: the state is then the one after it, and its children are
+/// skipped.
 fn open_kind<D: TextDecorator, G: Tagging<D::Annotation>>(
     alloc: Global,
-    own: Suspended<D, G::Tag, BoxedBlock<G::Tag, usize>>,
+    own: &mut Suspended<D, G::Tag, BoxedBlock<G::Tag, usize>>,
     kind: &NodeKind,
     estimate: &Estimate,
     children: &[Entry<RenderNode>],
     state: &mut State<D, G>,
 ) -> Result<Option<KindKept<D, G>>, Error>
     requires { flatten (forest_of children.now) ≡ children.now }
-    ensures ok { IfOk result (λ c. kind_opened (by_tags D.decoration G.annotated) own kind.now estimate.now (forest_of children.now)
+    ensures ok { IfOk result (λ c. kind_opened (by_tags D.decoration G.annotated) own.old kind.now estimate.now (forest_of children.now)
         state.old ≡ Some (way state.new c)) }
-    ensures err { IfErr result (λ e. Refuses e (kind_opened (by_tags D.decoration G.annotated) own kind.now estimate.now (forest_of children.now)
+    ensures err { IfErr result (λ e. Refuses e (kind_opened (by_tags D.decoration G.annotated) own.old kind.now estimate.now (forest_of children.now)
         state.old)) }
 {
     match kind {
@@ -236,7 +238,10 @@ fn open_kind<D: TextDecorator, G: Tagging<D::Annotation>>(
         | NodeKind::Header(_)
         | NodeKind::BlockQuote
         | NodeKind::Dd
-        | NodeKind::TableCell => Ok(Some(CloseAction::Nothing(own))),
+        | NodeKind::TableCell => Ok(Some(CloseAction::Nothing(mem::replace(
+            own,
+            Suspended::NoBlock,
+        )))),
         NodeKind::Table(grid) => open_table(own, grid, state),
         NodeKind::TableRow => open_row(state),
         NodeKind::Break => {
@@ -259,7 +264,7 @@ fn open_kind<D: TextDecorator, G: Tagging<D::Annotation>>(
         NodeKind::Ol(first) => open_numbers::<D, G>(alloc, &state.decorator, *first, estimate),
         NodeKind::Dl => {
             state.block.as_mut().start_block()?;
-            Ok(Some(CloseAction::Nothing(own)))
+            Ok(Some(CloseAction::Nothing(mem::replace(own, Suspended::NoBlock))))
         }
         NodeKind::Dt => {
             begin_term(alloc, state)?;
@@ -371,6 +376,26 @@ fn close_kind<D: TextDecorator, G: Tagging<D::Annotation>>(
     }
 }
 
+/// Opens a node in its style and its block. Returns the closing action of its kind; `None` if the node is finished.
+#[inline]
+fn open_own<D: TextDecorator, G: Tagging<D::Annotation>>(
+    alloc: Global,
+    node: &RenderNode,
+    children: &[Entry<RenderNode>],
+    state: &mut State<D, G>,
+) -> Result<Option<KindKept<D, G>>, Error>
+    requires { flatten (forest_of children.now) ≡ children.now }
+    ensures ok { IfOk result (λ c. (item : _) → opened_in (by_tags D.decoration G.annotated) item node.now (forest_of children.now) state.old
+        ≡ keeping (by_tags D.decoration G.annotated) item state.old.text (way state.new c)) }
+    ensures err { IfErr result (λ e. (item : _) → Refuses e (opened_in (by_tags D.decoration G.annotated) item node.now
+        (forest_of children.now) state.old)) }
+{
+    begin_style(alloc, &node.style, state)?;
+    let block = block_of(alloc, &node.kind, &node.estimate, state)?;
+    let mut own = begin_block(alloc, block, state)?;
+    open_kind(alloc, &mut own, &node.kind, &node.estimate, children, state)
+}
+
 /// Opens a node in its style and its block, where `item` is the block that it suspends as an item or as a cell. Returns its
 /// pending work. Returns `None` if the node is finished: the state is then the one after it, and its children are skipped.
 #[inline]
@@ -387,10 +412,8 @@ fn open_in<D: TextDecorator, G: Tagging<D::Annotation>>(
     ensures err { IfErr result (λ e. Refuses e (opened_in (by_tags D.decoration G.annotated) item node.now (forest_of children.now)
         state.old)) }
 {
-    let text = begin_style(alloc, &node.style, state)?;
-    let block = block_of(alloc, &node.kind, &node.estimate, state)?;
-    let own = begin_block(alloc, block, state)?;
-    match open_kind(alloc, own, &node.kind, &node.estimate, children, state)? {
+    let text = state.text;
+    match open_own(alloc, node, children, state)? {
         Some(kind) => Ok(Some(OpenNode { item, text, kind })),
         None => {
             state.text = text;

@@ -10,11 +10,9 @@ use Rattle.std.proofs.lemmas.List.Sums.{sum_by-cons}
 use Rattle.html_render_layout_lines.specs.declared.character.Item.{Item}
 use Rattle.html_render_layout_lines.specs.Line.{Line, columns, AllWithinWidth}
 use Rattle.html_render_layout_paragraphs.specs.CutText.{text_lines}
-use Rattle.html_render_layout_paragraphs.specs.Paragraph.{without_overflow, with_overflow, paragraph, all_lines}
+use Rattle.html_render_layout_paragraphs.specs.Paragraph.{LineBuffer, with_overflow, paragraph, all_lines}
 use Rattle.html_render_layout_paragraphs.specs.laws.Answers.{Both, Both-weaken}
-use Rattle.html_render_layout_paragraphs.specs.laws.Beside.{paragraph-beside, cut-beside}
-use Rattle.html_render_layout_paragraphs.specs.laws.Overflow.{answers, refines}
-use Rattle.html_render_layout_paragraphs.specs.laws.Within.{IsWithin, all_lines_within, within}
+use Rattle.html_render_layout_paragraphs.specs.laws.Beside.{IsWithin, all_lines_within, paragraph-beside, cut-beside}
 use Rattle.html_render_parts_widths.specs.laws.Needs.{across_within}
 use Rattle.html_render_layout_buffer.specs.Padding.{filled, repeated}
 use Rattle.html_render_layout_pictures.specs.Picture.{KeptCell}
@@ -87,44 +85,30 @@ module _ (T W : Type 0) (o cut : Bool) where
   chosen R false true x e on met = met refl
   chosen R false false x e on met = sym e
 
-  -- A result that depends on overflow. With overflow on there is one. It equals that of overflow off, of which P holds, if
-  -- there is one.
-  by_overflow : {X : Type 0} (P Q : X → Type 0) (f : Bool → Option X) → Both ⊥ ⊥ (λ x y. (y ≡ x) × Unit {0}) (f true) (f true) →
-      Both (Unit {0}) (Unit {0}) (λ x y. (y ≡ x) × Unit {0}) (f false) (f true) → Both (Unit {0}) ⊥ (λ x y. (y ≡ x) × P x) (f false) (f false) →
-      ((x : X) → P x → Q x) → (z : Bool) → z ≡ o → Both (o ≡ false) (o ≡ false) (λ x y. (y ≡ x) × (Limited → Q x)) (f z) (f true)
-  by_overflow {X} P Q f some same holds so true e = by (f true) some
-    where
-      by : (a : Option X) → Both ⊥ ⊥ (λ x y. (y ≡ x) × Unit {0}) a a → Both (o ≡ false) (o ≡ false) (λ x y. (y ≡ x) × (Limited → Q x)) a a
-      by None k = absurd k
-      by (Some x) k = (refl, λ n. absurd (let off = n.0 in cc))
-  by_overflow {X} P Q f some same holds so false e = by (f false) (f true) same holds
-    where
-      by : (a b : Option X) → Both (Unit {0}) (Unit {0}) (λ x y. (y ≡ x) × Unit {0}) a b → Both (Unit {0}) ⊥ (λ x y. (y ≡ x) × P x) a a →
-          Both (o ≡ false) (o ≡ false) (λ x y. (y ≡ x) × (Limited → Q x)) a b
-      by None None k l = sym e
-      by None (Some y) k l = sym e
-      by (Some x) None k l = absurd k
-      by (Some x) (Some y) k l = (k.0, λ n. so x l.1)
+  abbrev Pages : ℕ → LineBuffer T ℕ → LineBuffer T ℕ → Type 0
+  Pages v p q = (q ≡ p) × (Limited → (padding : Option T) → AllWithinWidth v (filled padding v (all_lines p)))
 
   pages : (v w : ℕ) (z : Bool) (ms : List ℕ) (xs : List (Item T ℕ)) → w ≤ v → z ≡ o →
-      Both (o ≡ false) (o ≡ false) (λ p q. (q ≡ p) × (Limited → (padding : Option T) → AllWithinWidth v (filled padding v (all_lines p))))
-      (paragraph (record { width = w; overflow = z }) ms xs) (paragraph (with_overflow w) ms xs)
-  pages v w z ms xs le =
-      by_overflow (IsWithin w) _ (λ z. paragraph (record { width = w; overflow = z }) ms xs)
-      (paragraph-beside (λ o. o) ⊥ ⊥ (λ x. x) (with_overflow w) (λ p. Unit {0}) (answers w) ms xs)
-      (paragraph-beside (λ o. true) (Unit {0}) (Unit {0}) (λ x. x) (without_overflow w) (λ p. Unit {0}) (refines w false) ms xs)
-      (paragraph-beside (λ o. o) (Unit {0}) ⊥ (λ x. tt) (without_overflow w) (IsWithin w) (within w) ms xs)
-      (λ p k padding. filled-within padding v (all_lines p) (All-weaker (λ (l : Line T ℕ). columns l ≤ w) (λ (l : Line T ℕ). columns l ≤ v)
-      (λ l n. omega (arith, n, le)) (all_lines p) (all_lines_within w p k))) z
+      Both (o ≡ false) (o ≡ false) (Pages v) (paragraph (record { width = w; overflow = z }) ms xs) (paragraph (with_overflow w) ms xs)
+  pages v w z ms xs le e =
+      subst (λ y. Both (o ≡ false) (o ≡ false) (Pages v) (paragraph (record { width = w; overflow = y }) ms xs) (paragraph (with_overflow w) ms xs)) (sym e)
+      (Both-weaken (o ≡ false) (o ≡ false) (λ p q. (q ≡ p) × (o ≡ false → IsWithin w p)) (Pages v) (paragraph (record { width = w; overflow = o }) ms xs)
+      (paragraph (with_overflow w) ms xs) (paragraph-beside w o ms xs) (λ p q k. (
+        k.0,
+        λ n padding. filled-within padding v (all_lines p)
+            (All-weaker (λ (l : Line T ℕ). columns l ≤ w) (λ (l : Line T ℕ). columns l ≤ v) (λ l n. omega (arith, n, le)) (all_lines p)
+            (all_lines_within w p (k.1 n.0))),
+      )))
 
-  texts : (v : ℕ) (z c : Bool) (t : T) (cs : List ℕ) → c ≡ cut → z ≡ o → Both (o ≡ false) (o ≡ false) (λ a b. (b ≡ a) × (Limited → AllWithinWidth v a))
-      (text_lines {M = ℕ} (record { width = v; overflow = z }) c t cs) (text_lines (with_overflow v) c t cs)
+  abbrev Cuts : ℕ → List (Line T ℕ) → List (Line T ℕ) → Type 0
+  Cuts v a b = (b ≡ a) × (Limited → AllWithinWidth v a)
+
+  texts : (v : ℕ) (z c : Bool) (t : T) (cs : List ℕ) → c ≡ cut → z ≡ o →
+      Both (o ≡ false) (o ≡ false) (Cuts v) (text_lines (record { width = v; overflow = z }) c t cs) (text_lines (with_overflow v) c t cs)
   texts v z true t cs c e =
-      by_overflow (AllWithinWidth v) (AllWithinWidth v) (λ z. text_lines (record { width = v; overflow = z }) true t cs)
-      (cut-beside (λ o. o) ⊥ ⊥ (λ x. x) (with_overflow v) (λ p. Unit {0}) (answers v) (λ ls. Unit {0}) (λ p k. tt) t cs)
-      (cut-beside (λ o. true) (Unit {0}) (Unit {0}) (λ x. x) (without_overflow v) (λ p. Unit {0}) (refines v false) (λ ls. Unit {0}) (λ p k. tt) t cs)
-      (cut-beside (λ o. o) (Unit {0}) ⊥ (λ x. tt) (without_overflow v) (IsWithin v) (within v) (AllWithinWidth v) (λ p k.
-      All-push (λ (l : Line T ℕ). columns l ≤ v) p.lines p.line k.lines k.line) t cs) (λ ls k. k) z e
+      subst (λ y. Both (o ≡ false) (o ≡ false) (Cuts v) (text_lines (record { width = v; overflow = y }) true t cs) (text_lines (with_overflow v) true t cs)) (sym e)
+      (Both-weaken (o ≡ false) (o ≡ false) (λ a b. (b ≡ a) × (o ≡ false → AllWithinWidth v a)) (Cuts v)
+      (text_lines (record { width = v; overflow = o }) true t cs) (text_lines (with_overflow v) true t cs) (cut-beside ℕ v o t cs) (λ a b k. (k.0, λ n. k.1 n.0)))
   texts v z false t cs c e = (refl, λ n. absurd (let whole = n.1 in cc))
 
   pub parts-beside : RelatesParts definition definition (o ≡ false) (o ≡ false) Tags Settings Lines Paragraphs Clear Pictures OpenRows

@@ -11,11 +11,10 @@ ghost use Rattle.html_render_layout_blocks.specs.Machine.{machine};
 
 use super::Block;
 use super::rows::{OpenRow, Widths};
-use super::tables::OpenTable;
+use super::tables::{OpenTable, add_open};
 use html_render_dom_values::Error;
 use html_render_layout_buffer::finished::FinishedLines;
 use html_render_layout_lines::tag::Tag;
-use html_render_layout_pictures::cells::RowCells;
 use html_render_layout_pictures::gaps::Filler;
 use html_render_layout_pictures::picture::Picture;
 use html_render_parts::table::cells::RowsAhead;
@@ -37,22 +36,23 @@ pub enum CellPlace<T> {
     },
 }
 
-/// Opens the next of the rows ahead, or an empty row if there is none. Its kept cells are those of `row`, which has none yet.
+/// Opens the next of the rows ahead, or an empty row if there is none. Its kept cells have the memory of a row that `picture`
+/// has drawn.
 fn next_row<T: Tag, M: Copy>(
     alloc: Global,
+    picture: &mut Picture<T, M>,
     widths: &Widths,
     ahead: &mut RowsAhead,
-    row: RowCells<T, M>,
 ) -> Result<OpenRow<T, M>, Error>
-    requires { row ≡ [] }
+    ensures picture { OnOk result (picture.new ≡ picture.old) }
     ensures row { IfOk result (λ row. row ≡ open_row widths.now (slice_index_or ahead.old 0 [])) }
     ensures ahead { OnOk result (ahead.new ≡ drop 1 ahead.old) }
     ensures err { OnlyOutOfMemory result }
 {
     let Some(cells) = ahead.next(alloc)? else {
-        return Ok(OpenRow::new(alloc, widths, &[], row)?);
+        return Ok(OpenRow::new(alloc, widths, &[], picture.take_row())?);
     };
-    Ok(OpenRow::new(alloc, widths, cells.as_slice(), row)?)
+    Ok(OpenRow::new(alloc, widths, cells.as_slice(), picture.take_row())?)
 }
 
 impl<T: Tag, M: Copy> OpenTable<Picture<T, M>, T, M> {
@@ -69,7 +69,7 @@ impl<T: Tag, M: Copy> OpenTable<Picture<T, M>, T, M> {
                 row,
             } => {
                 if row.is_none() {
-                    *row = Some(next_row(alloc, widths, ahead, picture.take_row())?);
+                    *row = Some(next_row(alloc, picture, widths, ahead)?);
                 }
             }
             OpenTable::Stacked { has_lines, .. } => *has_lines = false,
@@ -134,13 +134,7 @@ impl<T: Tag, M: Copy> OpenTable<Picture<T, M>, T, M> {
         ensures err { OnlyOutOfMemory result }
     {
         match self {
-            OpenTable::Across { picture, row, .. } => {
-                let Some(row) = row.take() else {
-                    return Ok(());
-                };
-                let row = row.finish(alloc)?;
-                picture.add_row(row)
-            }
+            OpenTable::Across { picture, row, .. } => add_open(alloc, picture, row.take()),
             OpenTable::Stacked { .. } => Ok(()),
         }
     }

@@ -1,6 +1,6 @@
 //! The beginning of a table in a block: whether its cells are side by side, and the borders of a stacked table.
 
-ghost use Rattle.std.specs.Prelude.{◌≡◌, ◌==◌, ◌&&◌, not, cond, Some, None, OnOk, IfOk, IfErr};
+ghost use Rattle.std.specs.Prelude.{◌≡◌, ◌==◌, ◌&&◌, not, cond, Some, None, OnOk, IfOk, IfErr, MatchBool};
 ghost use Rattle.html_render_dom_values.specs.Outcome.{OnlyOutOfMemory, Refuses};
 ghost use Rattle.html_render_parts_widths.specs.Shares.{widths_across};
 ghost use Rattle.html_render_parts.specs.TableCells.{rows_on};
@@ -92,6 +92,16 @@ impl<T: Tag, M: Copy> Block<T, M> {
         self.lines.append_buffer(&mut last)
     }
 
+    /// Changes the open table if it is stacked. Reports whether it is.
+    fn change_stacked(&mut self, border: Option<T>, has_lines: bool) -> bool
+        ensures { MatchBool result (self.new ≡ record self.old { table = Some (Stacked border has_lines) }) (self.new ≡ self.old) }
+    {
+        match &mut self.table {
+            Some(table) => table.change_stacked(border, has_lines),
+            None => false,
+        }
+    }
+
     /// Makes a stacked table the open one.
     pub(super) fn set_stacked(
         &mut self,
@@ -100,8 +110,7 @@ impl<T: Tag, M: Copy> Block<T, M> {
     ) -> Result<(), AllocError>
         ensures { OnOk result (self.new ≡ record self.old { table = Some (Stacked border has_lines) }) }
     {
-        if let Some(table) = &mut self.table {
-            table.become_stacked(border, has_lines);
+        if self.change_stacked(border, has_lines) {
             return Ok(());
         }
         let stacked = OpenTable::Stacked { border, has_lines };

@@ -1,6 +1,6 @@
 //! The open table of a block.
 
-ghost use Rattle.std.specs.Prelude.{◌≡◌, ◌++◌, Some, None, OnOk, IfOk, IfErr, option_map};
+ghost use Rattle.std.specs.Prelude.{◌≡◌, ◌++◌, Some, None, OnOk, IfOk, IfErr, MatchBool, option_map};
 ghost use Rattle.html_render_dom_values.specs.Outcome.{OnlyOutOfMemory, Refuses};
 ghost use Rattle.html_render_layout_pictures.specs.Picture.{TableRow};
 ghost use Rattle.html_render_layout_blocks.specs.declared.block.tables.OpenTable.TheVariants.{Stacked};
@@ -43,74 +43,66 @@ pub enum OpenTable<P, T, M> {
 }
 
 impl<T: Tag, M: Copy> OpenTable<Picture<T, M>, T, M> {
-    /// Makes this a stacked table. One that is stacked already is changed in place.
-    pub(super) fn become_stacked(&mut self, new_border: Option<T>, new_has_lines: bool)
-        ensures { self.new ≡ Stacked new_border new_has_lines }
+    /// Changes a stacked table. Reports whether the table is stacked.
+    pub(super) fn change_stacked(&mut self, new_border: Option<T>, new_has_lines: bool) -> bool
+        ensures { MatchBool result (self.new ≡ Stacked new_border new_has_lines) (self.new ≡ self.old) }
     {
-        if let OpenTable::Stacked { border, has_lines } = self {
-            *border = new_border;
-            *has_lines = new_has_lines;
-            return;
-        }
-        *self = OpenTable::Stacked {
-            border: new_border,
-            has_lines: new_has_lines,
+        let OpenTable::Stacked { border, has_lines } = self else {
+            return false;
         };
+        *border = new_border;
+        *has_lines = new_has_lines;
+        true
     }
 }
 
 /// Adds the open row to a picture, if there is one.
-fn with_open<T: Tag, M: Copy>(
+pub(super) fn add_open<T: Tag, M: Copy>(
     alloc: Global,
-    picture: Picture<T, M>,
+    picture: &mut Picture<T, M>,
     row: Option<OpenRow<T, M>>,
-) -> Result<Picture<T, M>, Error>
-    ensures ok { IfOk result (λ p. p ≡ with_open machine picture row) }
+) -> Result<(), Error>
+    ensures ok { OnOk result (picture.new ≡ with_open machine picture.old row) }
     ensures err { OnlyOutOfMemory result }
 {
-    let Some(row) = row else {
-        return Ok(picture);
-    };
-    let mut picture = picture;
-    let row = row.finish(alloc)?;
-    picture.add_row(row)?;
-    Ok(picture)
+    match row {
+        Some(row) => picture.add_row(row.finish(alloc)?),
+        None => Ok(()),
+    }
 }
 
-/// Adds the rows ahead to a picture, with empty cells. After all of the table's own rows, these are the rows below
-/// them, in which no cell begins.
-fn with_ahead<T: Tag, M: Copy>(
+/// Adds the remaining rows to a picture: the open one, if there is one, and those ahead, with empty cells. After all of the
+/// table's own rows, the latter are the rows below them, in which no cell begins.
+fn add_rest<T: Tag, M: Copy>(
     alloc: Global,
-    picture: Picture<T, M>,
+    picture: &mut Picture<T, M>,
     widths: &Widths,
-    ahead: RowsAhead,
-) -> Result<Picture<T, M>, Error>
-    ensures ok { IfOk result (λ p. p ≡ with_ahead machine widths.now ahead picture) }
+    ahead: &mut RowsAhead,
+    row: Option<OpenRow<T, M>>,
+) -> Result<(), Error>
+    ensures ok { OnOk result (picture.new ≡ with_ahead machine widths.now ahead.old (with_open machine picture.old row)) }
     ensures err { OnlyOutOfMemory result }
 {
-    let mut picture = picture;
-    let mut ahead = ahead;
+    add_open(alloc, picture, row)?;
     while let Some(cells) = ahead.next(alloc)? {
         let row = OpenRow::new(alloc, widths, cells.as_slice(), picture.take_row())?;
-        let row = row.finish(alloc)?;
-        picture.add_row(row)?;
+        add_open(alloc, picture, Some(row))?;
     }
-    Ok(picture)
+    Ok(())
 }
 
 /// Draws the remaining rows. Returns the lines of the table, and the marks that wait after them.
 fn picture_of<T: Tag, M: Copy>(
     alloc: Global,
-    picture: Picture<T, M>,
+    mut picture: Picture<T, M>,
     widths: &Widths,
-    ahead: RowsAhead,
+    ahead: &mut RowsAhead,
     row: Option<OpenRow<T, M>>,
 ) -> Result<Drawn<T, M>, Error>
-    ensures ok { IfOk result (λ d. (d.lines, d.waiting.items) ≡ (machine).drawn (with_ahead machine widths.now ahead (with_open machine picture row))) }
+    ensures ok { IfOk result (λ d. (d.lines, d.waiting.items) ≡ (machine).drawn (with_ahead machine widths.now ahead.old (with_open machine picture row))) }
     ensures err { OnlyOutOfMemory result }
 {
-    let picture = with_open(alloc, picture, row)?;
-    let picture = with_ahead(alloc, picture, widths, ahead)?;
+    add_rest(alloc, &mut picture, widths, ahead, row)?;
     picture.finish()
 }
 
@@ -145,10 +137,10 @@ impl<T: Tag, M: Copy> Block<T, M> {
             OpenTable::Across {
                 picture,
                 widths,
-                ahead,
+                mut ahead,
                 row,
             } => {
-                let drawn = picture_of(self.alloc, picture, &widths, ahead, row)?;
+                let drawn = picture_of(self.alloc, picture, &widths, &mut ahead, row)?;
                 self.add_drawn(drawn)
             }
             OpenTable::Stacked { .. } => Ok(()),

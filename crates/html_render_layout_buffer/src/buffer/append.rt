@@ -86,6 +86,27 @@ impl<T: Tag, M: Copy> LineBuffer<T, M> {
         put
     }
 
+    /// Appends a copy of another buffer's ended line `n` to the open line, and ends that.
+    ///
+    /// # Errors
+    ///
+    /// `AllocError`. The buffer then has no lines.
+    pub(crate) fn append_ended(
+        &mut self,
+        other: &LineBuffer<T, M>,
+        n: usize,
+    ) -> Result<(), AllocError>
+        requires { n < length other.now.lines }
+        ensures ok { OnOk result (self.new ≡ record {
+          lines = self.old.lines ++ (self.old.line ++ slice_index_or other.now.lines n []) ∷ [];
+          line = [];
+        }) }
+        ensures err { OnErr result (self.new ≡ no_lines) }
+    {
+        self.append_line(other, n)?;
+        self.end_line()
+    }
+
     /// Appends a prefix and a copy of another buffer's ended line `n` to the open line, and ends that.
     ///
     /// # Errors
@@ -227,8 +248,7 @@ impl<T: Tag, M: Copy> LineBuffer<T, M> {
         let bytes = other.text.as_str().len().saturating_add(prefixes);
         self.reserve_or_clear(bytes.saturating_add(first.text.len()), lines)?;
         self.append_line_after(first, other, 0)?;
-        self.append_each_behind(other, 1, later)?;
-        Ok(())
+        self.append_each_behind(other, 1, later)
     }
 }
 

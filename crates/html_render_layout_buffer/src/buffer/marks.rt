@@ -29,19 +29,6 @@ impl<T: Tag, M: Copy> LineBuffer<T, M> {
         self.columns = columns;
     }
 
-    /// Appends marks to the last ended line.
-    fn mark_line(&mut self, marks: &[M]) -> Result<(), AllocError>
-        requires open { self.old.line ≡ [] }
-        requires some { 0 < length self.old.lines }
-        ensures ok { OnOk result (self.new ≡ record { lines = marked_behind marks.now self.old.lines; line = [] }) }
-        ensures err { OnErr result (self.new ≡ no_lines) }
-    {
-        self.reopen();
-        self.push_marks(marks)?;
-        self.end_line()?;
-        Ok(())
-    }
-
     /// Appends marks to the last ended line. Does nothing without lines.
     ///
     /// # Errors
@@ -56,7 +43,9 @@ impl<T: Tag, M: Copy> LineBuffer<T, M> {
         if self.line_count() == 0 {
             return Ok(());
         }
-        self.mark_line(marks)
+        self.reopen();
+        self.push_marks(marks)?;
+        self.end_line()
     }
 
     /// Appends copies of another buffer's ended lines from line 1 on.
@@ -66,8 +55,7 @@ impl<T: Tag, M: Copy> LineBuffer<T, M> {
         ensures { OnOk result (self.new ≡ record { lines = self.old.lines ++ drop 1 other.now.lines; line = [] }) }
     {
         for n in 1..other.line_count() {
-            self.append_line(other, n)?;
-            self.end_line()?;
+            self.append_ended(other, n)?;
         }
         Ok(())
     }
@@ -79,10 +67,8 @@ impl<T: Tag, M: Copy> LineBuffer<T, M> {
         ensures { OnOk result (self.new ≡ record { lines = marked_before marks.now other.now.lines; line = [] }) }
     {
         self.push_marks(marks)?;
-        self.append_line(other, 0)?;
-        self.end_line()?;
-        self.append_rest(other)?;
-        Ok(())
+        self.append_ended(other, 0)?;
+        self.append_rest(other)
     }
 
     /// Inserts marks at the front of the first ended line. Does nothing without lines.

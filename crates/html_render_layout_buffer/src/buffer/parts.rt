@@ -1,6 +1,6 @@
 //! The runs of an ended line.
 
-ghost use Rattle.std.specs.Prelude.{◌≡◌, ◌<◌, ◌≤◌, [], ◌∷◌, ◌++◌, take, drop, length, encode_utf8, IfSome, IfNone, OnSome};
+ghost use Rattle.std.specs.Prelude.{◌≡◌, ◌<◌, ◌≤◌, [], ◌++◌, take, drop, length, IfSome, IfNone, OnSome};
 ghost use Rattle.std.specs.List.{slice_index_or};
 ghost use Rattle.std.specs.Str.{chars, IsUtf8};
 ghost use Rattle.html_render_layout_lines.specs.TaggedText.{under};
@@ -9,6 +9,7 @@ ghost use Rattle.html_render_layout_buffer.specs.Parts.{part_elements, IsTagged,
 use super::LineBuffer;
 use crate::runs::TagRuns;
 use crate::slot::Slot;
+use html_render_layout_lines::character::split_first_character;
 use html_render_layout_lines::tag::Tag;
 use std::marker::Model;
 
@@ -111,18 +112,4 @@ fn reach(text: &str, limit: usize) -> usize
         rest = behind;
     }
     count
-}
-
-/// Returns the first character of a text, and the rest. The text must not be empty.
-fn split_first_character(text: &str) -> (char, &str)
-    requires { 0 < length text.now }
-    ensures characters { chars text.now ≡ result.0 ∷ chars result.1.now }
-    ensures bytes { text.now ≡ encode_utf8 result.0 ++ result.1.now }
-    ensures text { IsUtf8 result.1.now }
-{
-    let mut chars = text.chars();
-    let Some(c) = chars.next() else {
-        unreachable!()
-    };
-    (c, chars.as_str())
 }

@@ -29,8 +29,7 @@ impl<T: Tag, M: Copy> LineBuffer<T, M> {
         ensures ok { OnOk result (self.new ≡ with_spaces self.old tag count) }
         ensures err { OnErr result (self.new ≡ no_lines) }
     {
-        self.push_str(few_spaces(SPACES, count), count, tag)?;
-        Ok(())
+        self.push_str(few_spaces(SPACES, count), count, tag)
     }
 
     /// Appends `count` spaces to the open line, under a tag.
@@ -81,8 +80,7 @@ impl<T: Tag, M: Copy> LineBuffer<T, M> {
         let missing = columns_missing(other.line_columns(n), width);
         self.append_line(other, n)?;
         self.push_spaces(missing, tag)?;
-        self.end_line()?;
-        Ok(())
+        self.end_line()
     }
 
     /// Appends copies of another buffer's ended lines, each filled with spaces up to `width` columns, under a tag.

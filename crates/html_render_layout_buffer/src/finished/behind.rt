@@ -15,7 +15,6 @@ use crate::prefix::Prefix;
 use html_render_layout_lines::tag::Tag;
 use std::alloc::AllocError;
 use std::collections::VecDeque;
-use std::mem;
 
 impl<T: Tag, M: Copy> FinishedLines<T, M> {
     /// Appends a copy of a buffer's ended line `n`.
@@ -24,16 +23,19 @@ impl<T: Tag, M: Copy> FinishedLines<T, M> {
         ensures { OnOk result (self.new ≡ self.old ++ slice_index_or lines.now.lines n [] ∷ []) }
     {
         if lines.line_bytes(n) <= LONG {
-            self.last.append_line(lines, n)?;
-            self.last.end_line()?;
-            return Ok(());
+            return self.last.append_ended(lines, n);
         }
-        settle(&mut self.pieces, &mut self.last)?;
         let mut line = LineBuffer::new(lines.alloc());
-        line.append_line(lines, n)?;
-        line.end_line()?;
-        self.pieces.push(Piece::new(line))?;
-        Ok(())
+        line.append_ended(lines, n)?;
+        self.push_piece(Piece::new(line))
+    }
+
+    /// Appends a piece.
+    fn push_piece(&mut self, piece: Piece<T, M>) -> Result<(), AllocError>
+        ensures { OnOk result (self.new ≡ self.old ++ piece) }
+    {
+        settle(&mut self.pieces, &mut self.last)?;
+        self.pieces.push(piece)
     }
 
     /// Makes each long line of the last lines a piece of its own.
@@ -43,8 +45,7 @@ impl<T: Tag, M: Copy> FinishedLines<T, M> {
         if !self.last.has_longer_line(LONG) {
             return Ok(());
         }
-        let none = LineBuffer::new(self.last.alloc());
-        let lines = mem::replace(&mut self.last, none);
+        let lines = self.take_last();
         self.push_copies(&lines)
     }
 
@@ -71,14 +72,38 @@ impl<T: Tag, M: Copy> FinishedLines<T, M> {
             (under later.now.tag (chars later.now.text.now)) piece) }
     {
         if piece.is_long() {
-            let piece = piece.with_prefix(first)?;
-            settle(&mut self.pieces, &mut self.last)?;
-            return self.pieces.push(piece.marked_first(marks)?);
+            return self.push_piece(piece.with_prefix(first)?.marked_first(marks)?);
         }
-        let lines = piece.into_buffer()?;
+        piece.has_line();
+        self.push_lines_behind(&piece.into_buffer()?, marks, first, later)
+    }
+
+    /// Appends copies of a buffer's ended lines: the first after marks and the prefix `first`, and each other one after the
+    /// prefix `later`.
+    fn push_lines_behind(
+        &mut self,
+        lines: &LineBuffer<T, M>,
+        marks: &[M],
+        first: &Prefix<'_, T>,
+        later: &Prefix<'_, T>,
+    ) -> Result<(), AllocError>
+        requires { 0 < length lines.now.lines }
+        ensures { OnOk result (self.new ≡ self.old ++ prefixed (marks_line marks.now ++ under first.now.tag (chars first.now.text.now))
+            (under later.now.tag (chars later.now.text.now)) lines.now.lines) }
+    {
         self.last.push_marks(marks)?;
-        self.last.append_behind(&lines, first, later)?;
-        Ok(())
+        self.last.append_behind(lines, first, later)
+    }
+
+    /// Appends copies of a buffer's ended lines, each after a prefix.
+    fn push_each_line_behind(
+        &mut self,
+        lines: &LineBuffer<T, M>,
+        prefix: &Prefix<'_, T>,
+    ) -> Result<(), AllocError>
+        ensures { OnOk result (self.new ≡ self.old ++ map (λ l. under prefix.now.tag (chars prefix.now.text.now) ++ l) lines.now.lines) }
+    {
+        self.last.append_each_behind(lines, 0, prefix)
     }
 
     /// Appends the lines of a piece, each after a prefix.
@@ -86,12 +111,9 @@ impl<T: Tag, M: Copy> FinishedLines<T, M> {
         ensures { OnOk result (self.new ≡ self.old ++ map (λ l. under prefix.now.tag (chars prefix.now.text.now) ++ l) piece) }
     {
         if piece.is_long() {
-            settle(&mut self.pieces, &mut self.last)?;
-            return self.pieces.push(piece.with_prefix(prefix)?);
+            return self.push_piece(piece.with_prefix(prefix)?);
         }
-        let lines = piece.into_buffer()?;
-        self.last.append_each_behind(&lines, 0, prefix)?;
-        Ok(())
+        self.push_each_line_behind(&piece.into_buffer()?, prefix)
     }
 
     /// Appends the lines of pieces, each after a prefix.
@@ -128,12 +150,11 @@ impl<T: Tag, M: Copy> FinishedLines<T, M> {
         other.separate()?;
         let mut pieces = other.pieces.take();
         let Some(piece) = pieces.pop_front() else {
-            self.last.push_marks(marks)?;
-            return self.last.append_behind(&other.last, first, later);
+            return self.push_lines_behind(&other.last, marks, first, later);
         };
         piece.has_line();
         self.push_first_behind(piece, marks, first, later)?;
         self.push_each_behind(pieces, later)?;
-        self.last.append_each_behind(&other.last, 0, later)
+        self.push_each_line_behind(&other.last, later)
     }
 }

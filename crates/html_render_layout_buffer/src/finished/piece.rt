@@ -59,7 +59,7 @@ impl<T: Tag, M: Copy> Piece<T, M> {
     pub(super) fn is_long(&self) -> bool
         ensures { OnTrue result (length self.now ≡ 1) }
     {
-        self.lines.line_count() == 1 && self.lines.byte_count() > LONG
+        self.line_count() == 1 && self.lines.byte_count() > LONG
     }
 
     /// States that there is a line.
@@ -186,8 +186,7 @@ impl<T: Tag, M: Copy> Piece<T, M> {
             return to.append_all(&self.lines);
         }
         to.push_reversed(self.front.as_slice())?;
-        to.append_line(&self.lines, 0)?;
-        to.end_line()?;
+        to.append_ended(&self.lines, 0)?;
         to.append_rest(&self.lines)
     }
 

@@ -1,6 +1,6 @@
 //! Pieces of finished lines.
 
-ghost use Rattle.std.specs.Prelude.{◌≡◌, ℕ, List, ◌==◌, ◌<◌, ◌≤◌, ◌+◌, ◌++◌, [], Some, drop, take, map, length, nat_le, OnOk, IfOk, IfSome};
+ghost use Rattle.std.specs.Prelude.{◌≡◌, ℕ, List, ◌==◌, ◌<◌, ◌≤◌, ◌+◌, ◌++◌, [], Some, drop, take, map, length, nat_le, OnOk, IfOk};
 ghost use Rattle.std.specs.List.{list_all};
 ghost use Rattle.html_render_layout_lines.specs.Line.{Line, columns};
 ghost use Rattle.html_render_layout_lines.specs.TaggedText.{counted};
@@ -10,6 +10,7 @@ ghost use Rattle.html_render_layout_buffer.specs.Pieces.{fits_after, lines_of, I
 
 use crate::buffer::LineBuffer;
 use crate::finished::piece::Piece;
+use crate::runs::longer;
 use html_render_layout_lines::tag::Tag;
 use std::alloc::{AllocError, Global};
 use std::collections::VecDeque;
@@ -359,14 +360,4 @@ fn fill_in_turn<T: Tag, M: Copy>(
         pieces.push_back(piece.filled(width, tag)?)?;
     }
     Ok(())
-}
-
-/// Returns the sum of two numbers of lines. `AllocError` if it passes a machine word.
-pub(super) fn longer(count: usize, more: usize) -> Result<usize, AllocError>
-    ensures { IfOk result (λ n. n ≡ count + more) }
-{
-    match count.checked_add(more) {
-        Some(sum) => Ok(sum),
-        None => Err(AllocError),
-    }
 }

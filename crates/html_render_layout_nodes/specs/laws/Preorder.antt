@@ -2,7 +2,7 @@
 use Rattle.std.specs.Prelude.{ℕ, ◌+◌, ◌-◌, ◌≤◌, ◌≡◌, List, ◌∷◌, ◌++◌, length, take, drop, refl}
 use Rattle.std.proofs.Common.{suc, zero, arith, ap, ◌∙◌, sym, length-append, append_assoc}
 use Rattle.std.proofs.Math.Seq.{take-append_seam, drop-append_seam}
-use Rattle.html_render_dom_values.specs.Forest.{Forest, none, node, count, followed_by}
+use Rattle.html_render_dom_values.specs.Forest.{Forest, none, node, followed_by}
 use Rattle.html_render_layout_nodes.specs.declared.tree.Entry.{Entry}
 use Rattle.html_render_layout_nodes.specs.Preorder.{flatten, forest_within, forest_of}
 
@@ -25,11 +25,6 @@ forest_within-flatten (suc n) (node k children beside) h =
 
 pub forest_of-flatten : {K : Type 0} (t : Forest K) → forest_of (flatten t) ≡ t
 forest_of-flatten t = forest_within-flatten (length (flatten t)) t (omega arith)
-
-pub length-flatten : {K : Type 0} (t : Forest K) → length (flatten t) ≡ count t
-length-flatten none = refl
-length-flatten (node k children beside) =
-    omega (arith, length-append (flatten children) (flatten beside), length-flatten children, length-flatten beside)
 
 pub flatten-followed_by : {K : Type 0} (t u : Forest K) → flatten (followed_by t u) ≡ flatten t ++ flatten u
 flatten-followed_by none u = refl

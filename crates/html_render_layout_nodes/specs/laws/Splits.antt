@@ -1,8 +1,7 @@
 -- Joined forests, and where a forest can be split.
-use Rattle.std.specs.Prelude.{◌+◌, ◌≡◌, refl}
-use Rattle.std.proofs.Common.{arith, ap, sym}
-use Rattle.html_render_dom_values.specs.Forest.{Forest, none, node, count, followed_by}
-use Rattle.html_render_layout_nodes.specs.Splits.{SplitAt}
+use Rattle.std.specs.Prelude.{◌≡◌, refl}
+use Rattle.std.proofs.Common.{ap}
+use Rattle.html_render_dom_values.specs.Forest.{Forest, none, node, followed_by}
 
 module _ {K : Type 0} where
   pub followed_by-none : (t : Forest K) → followed_by t none ≡ t
@@ -12,11 +11,3 @@ module _ {K : Type 0} where
   pub followed_by-followed_by : (t u v : Forest K) → followed_by (followed_by t u) v ≡ followed_by t (followed_by u v)
   followed_by-followed_by none u v = refl
   followed_by-followed_by (node k children beside) u v = ap (λ w. node k children w) (followed_by-followed_by beside u v)
-
-  pub count-followed_by : (t u : Forest K) → count (followed_by t u) ≡ count t + count u
-  count-followed_by none u = omega arith
-  count-followed_by (node k children beside) u = omega (arith, count-followed_by beside u)
-
-  -- at the mark 0, all trees of a forest are in the first part
-  pub SplitAt-none : (t : Forest K) → SplitAt t 0
-  SplitAt-none t = record { children = t; beside = none; is = sym (followed_by-none t); mark_is = refl }

@@ -8,8 +8,6 @@ pub mod Standing
 pub mod Placed
 -- Parts whose lines are the laid ones.
 pub mod Behind
--- A word from the start of a line on.
-pub mod Cutting
 -- Placed lines are the paragraph's.
 pub mod Meant
 -- The width of a paragraph's lines.

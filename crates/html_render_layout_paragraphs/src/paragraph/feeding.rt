@@ -14,11 +14,13 @@ ghost use Rattle.html_render_layout_paragraphs.specs.Stream.{after, step, letter
 ghost use Rattle.html_render_layout_paragraphs.specs.Stream.{with_pending, joins, styled};
 ghost use Rattle.html_render_layout_lines.specs.TaggedText.{text_columns};
 
-use crate::paragraph::word::{character_of, split_first_character};
+use crate::paragraph::word::character_of;
 use crate::paragraph::{OpenWord, Paragraph};
 use html_render_dom_values::Error;
 use html_render_dom_values::white_space::WhiteSpace;
-use html_render_layout_lines::character::{Character, Class, Item, Kind, TextStyle, class_of};
+use html_render_layout_lines::character::{
+    Character, Class, Item, Kind, TextStyle, class_of, split_first_character,
+};
 use html_render_layout_lines::tag::Tag;
 use std::alloc::AllocError;
 

@@ -1,6 +1,6 @@
 //! The open word, and placing of words: as a whole if they fit on the line, otherwise character by character.
 
-ghost use Rattle.std.specs.Prelude.{IfErr, IfOk, ◌≤◌, length, ◌≡◌, ◌+◌, ◌<◌, [], ◌∷◌, ◌++◌, Some, None, OnOk, IfSome, encode_utf8, map, true, false};
+ghost use Rattle.std.specs.Prelude.{IfErr, IfOk, ◌≤◌, length, ◌≡◌, ◌+◌, ◌<◌, [], ◌++◌, Some, None, OnOk, IfSome, map, true, false};
 ghost use Rattle.std.specs.Bool.{OnTrue};
 ghost use Rattle.std.specs.Str.{chars, IsUtf8};
 ghost use Rattle.html_render_dom_values.specs.Outcome.{Refuses};
@@ -16,7 +16,7 @@ use crate::paragraph::feeding::plain_in_front;
 use crate::paragraph::{OpenWord, Paragraph};
 use crate::word::{Word, push_word};
 use html_render_dom_values::Error;
-use html_render_layout_lines::character::{Character, TextStyle, width_of};
+use html_render_layout_lines::character::{Character, TextStyle, split_first_character, width_of};
 use html_render_layout_lines::line::{Element, Run, style_tag};
 use html_render_layout_lines::tag::Tag;
 use std::alloc::AllocError;
@@ -98,7 +98,7 @@ impl<T: Tag, M: Copy> Paragraph<T, M> {
     }
 
     /// Places the open word: as a whole if it can be appended so, otherwise character by character.
-    #[tactic(auto, using(crate::proofs::Words::whole_words))]
+    #[tactic(auto, using(crate::proofs::WholeWords::whole_words))]
     fn put_word(&mut self) -> Result<(), Error>
         ensures ok { OnOk result (
             on_page (record self.old { word = []; open_word = None }) (put_items self.old.setting self.old.page self.old.word) ≡ Some self.new) }
@@ -194,7 +194,7 @@ impl<T: Tag, M: Copy> Paragraph<T, M> {
     }
 
     /// Begins a continuation line if the first character of a text doesn't fit on the open line, but on an empty one.
-    #[tactic(auto, using(crate::proofs::Words::next_lines))]
+    #[tactic(auto, using(crate::proofs::WholeWords::next_lines))]
     fn make_line_for(&mut self, text: &str, style: TextStyle<T>) -> Result<(), AllocError>
         requires { 0 < length text.now }
         ensures { OnOk result (on_page self.old (put_items self.old.setting self.old.page (styled style (chars text.now)))
@@ -300,7 +300,7 @@ impl<T: Tag, M: Copy> Paragraph<T, M> {
 
     /// Places a text of `width` columns and at least one character: as a whole if it fits on the line, otherwise
     /// character by character.
-    #[tactic(auto, using(html_render_dom_values::specs::laws::Outcome::refusals, crate::proofs::Words::text_words))]
+    #[tactic(auto, using(html_render_dom_values::specs::laws::Outcome::refusals, crate::proofs::WholeWords::text_words))]
     fn put_text(&mut self, text: &str, width: usize, style: TextStyle<T>) -> Result<(), Error>
         requires width { width ≡ text_columns (chars text.now) }
         requires some { 0 < length text.now }
@@ -411,19 +411,4 @@ fn longest_front(text: &str, room: usize) -> Front
         columns += next.columns;
     }
     Front { bytes, columns }
-}
-
-/// Returns the first character of a text, and the rest. The text must not be empty.
-pub(super) fn split_first_character(text: &str) -> (char, &str)
-    requires { 0 < length text.now }
-    ensures characters { chars text.now ≡ result.0 ∷ chars result.1.now }
-    ensures bytes { text.now ≡ encode_utf8 result.0 ++ result.1.now }
-    ensures shorter { length result.1.now < length text.now }
-    ensures text { IsUtf8 result.1.now }
-{
-    let mut chars = text.chars();
-    let Some(c) = chars.next() else {
-        unreachable!()
-    };
-    (c, chars.as_str())
 }

@@ -2,11 +2,10 @@
 -- widths.
 use Rattle.std.proofs.Common.{◌≡◌, ℕ, ◌+◌, ◌-◌, ◌*◌, ◌/◌, ◌<◌, ◌≤◌, ◌==◌, Bool, true, false, not}
 use Rattle.std.proofs.Common.{zero, suc, cond, ◌&&◌, leb, List, [], ◌∷◌, length, sum, sum_by, map, min, max, refl, ap, sym, ◌∙◌, arith}
-use Rattle.std.proofs.Math.Nat.{add-mul, div-zero, div-mul-le_self, div-le_of_le-mul, le-div_iff_mul-le}
+use Rattle.std.proofs.Math.Nat.{add-mul, div-zero, div-mul-le_self, le-div_iff_mul-le}
 use Rattle.std.proofs.lemmas.Bool.{leb-true, eqb-true}
 use Rattle.std.proofs.lemmas.List.{get_or-map, length-map}
 use Rattle.std.proofs.lemmas.List.Elements.{All-head, All-tail}
-use Rattle.std.proofs.lemmas.List.Sums.{sum_by-cons}
 use Rattle.html_render_parts_widths.specs.declared.shares.ColumnNeed.{ColumnNeed}
 use Rattle.html_render_parts_widths.specs.Cuts.{CutFits}
 use Rattle.html_render_parts_widths.specs.Shares.{least_widths, share, share_by_size, shares, stand_side_by_side}
@@ -41,29 +40,6 @@ div-both a b zero = omega (arith, div-zero a, div-zero b)
 div-both a b (suc t) =
     (le-div_iff_mul-le {k = suc t} {x = a / suc t + b / suc t} {y = a + b} (omega arith)).1
     (omega (arith, add-mul (a / suc t) (b / suc t) (suc t), div-mul-le_self a (suc t), div-mul-le_self b (suc t)))
-
-shares-most : (w t : ℕ) (needs : List ColumnNeed) → sum (map (share w t) needs) ≤ sum (least_widths needs) + sum_by (λ m. m.preferred_width) needs * w / t
-shares-most w t [] = omega arith
-shares-most w t (n ∷ ns) =
-    let one : share w t n ≤ n.min_width + n.preferred_width * w / t = omega arith in
-    let rest = shares-most w t ns in
-    let both = div-both (n.preferred_width * w) (sum_by (λ m. m.preferred_width) ns * w) t in
-    omega (
-      arith,
-      one,
-      rest,
-      both,
-      ap (λ x. x / t) (ap (λ x. x * w) (sum_by-cons (λ (m : ColumnNeed). m.preferred_width) n ns) ∙ add-mul n.preferred_width (sum_by (λ m. m.preferred_width) ns) w),
-      sum_by-cons (λ x. x) (share w t n) (map (share w t) ns),
-      sum_by-cons (λ x. x) n.min_width (least_widths ns),
-    )
-
-pub shares_keep : (w : ℕ) (needs : List ColumnNeed) → sum (shares w needs) ≤ sum (least_widths needs) + w
-shares_keep w needs =
-    let most = shares-most w (sum_by (λ (m : ColumnNeed). m.preferred_width) needs) needs in
-    let total = sum_by (λ (m : ColumnNeed). m.preferred_width) needs in
-    let whole : total * w / total ≤ w = div-le_of_le-mul total {m = total * w} {n = w} (omega arith) in
-    omega (arith, most, whole)
 
 -- if a column's minimum width is at most its preferred width, its share is `share_by_size`
 pub share_is : (w t : ℕ) (n : ColumnNeed) → n.min_width ≤ n.preferred_width → share w t n ≡ share_by_size w t n

@@ -7,11 +7,11 @@ use Rattle.html_render_parts.specs.TableCells.{on_columns}
 use Rattle.html_render_parts.specs.declared.table.Span.{Span}
 use Rattle.html_render_parts.specs.declared.table.cells.GridCell.{GridCell}
 use Rattle.html_render_parts.specs.declared.table.placement.PositionedCell.{PositionedCell}
-use Rattle.html_render_tree_mapping.specs.declared.tables.CellSpan.{CellSpan}
+use Rattle.html_render_tree_convert.specs.declared.tables.CellSpan.{CellSpan}
 use Rattle.html_render_layout_nodes.specs.declared.tree.NodeKind.{NodeKind}
 use Rattle.html_render_layout_nodes.specs.declared.tree.NodeKind.TheVariants.{Table, TableRow, TableCell}
-use Rattle.html_render_tree_mapping.specs.Tables.{spanned, spanned_in, width_of}
-use Rattle.html_render_tree_mapping.specs.Results.{Nodes, in_first}
+use Rattle.html_render_tree_convert.specs.Tables.{spanned, spanned_in, width_of}
+use Rattle.html_render_tree_convert.specs.Results.{Nodes, in_first}
 use Rattle.html_render_tree.specs.GoodTrees.{TreePlace, Anywhere, Nowhere, InTable, InRow, is_leaf, places_around, are_good_below, are_good}
 
 -- two tests, each of which follows from another

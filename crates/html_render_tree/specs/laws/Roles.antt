@@ -6,9 +6,9 @@ use Rattle.html_render_layout_nodes.specs.declared.tree.NodeKind.TheVariants.{Bl
 use Rattle.html_render_layout_nodes.specs.declared.tree.NodeStyle.{NodeStyle}
 use Rattle.html_render_layout_nodes.specs.declared.tree.RenderNode.{RenderNode}
 use Rattle.html_render_layout_nodes.specs.RenderNodes.{unmeasured}
-use Rattle.html_render_tree_mapping.specs.declared.tables.CellSpan.{CellSpan}
-use Rattle.html_render_tree_mapping.specs.Results.{Nodes, Result, Role, cell_of, row_of}
-use Rattle.html_render_tree_mapping.specs.Results as new
+use Rattle.html_render_tree_convert.specs.declared.tables.CellSpan.{CellSpan}
+use Rattle.html_render_tree_convert.specs.Results.{Nodes, Result, Role, cell_of, row_of}
+use Rattle.html_render_tree_convert.specs.Results as new
 
 abbrev pub is_cell : Role → Bool
 is_cell x = is_some (cell_of x)

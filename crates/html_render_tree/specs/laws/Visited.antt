@@ -43,30 +43,57 @@ nothing-below : (t : Forest RenderNode) → are_good Nowhere t ≡ true → t �
 nothing-below none h = refl
 nothing-below (node n children beside) h = cc
 
+abbrev is_row_kind : NodeKind → Bool
+is_row_kind TableRow = true
+is_row_kind kind = false
+
+abbrev is_row_place : TreePlace → Bool
+is_row_place (InRow cells) = true
+is_row_place p = false
+
+-- places in which a node's children and its later siblings are good
+record Places_of (p : TreePlace) (kind : NodeKind) (children others : Forest RenderNode) : Type 0 where
+  below : TreePlace
+  beside : TreePlace
+  children_good : are_good below children ≡ true
+  others_good : are_good beside others ≡ true
+  leaf : is_leaf kind ≡ true → below ≡ Nowhere
+  row_below : is_row_kind kind ≡ true → is_row_place below ≡ true
+  row_beside : is_row_place p ≡ true → is_row_place beside ≡ true
+
+places-good : (p : TreePlace) (kind : NodeKind) (children others : Forest RenderNode) →
+    are_good_below (λ q. are_good q children) (λ q. are_good q others) (places_around p kind) ≡ true → Places_of p kind children others
+places-good Anywhere (Table grid) children others h =
+    let both = and_parts (are_good (InTable grid.cells.rows) children) (are_good Anywhere others) h in
+    record { below = InTable grid.cells.rows; beside = Anywhere; children_good = both.0; others_good = both.1; leaf = λ l. cc; row_below = λ e. cc; row_beside = λ e. cc }
+places-good Anywhere TableRow children others h = cc
+places-good Anywhere TableCell children others h = cc
+places-good Anywhere kind children others h =
+    let below = if is_leaf kind then Nowhere else Anywhere in
+    let both = and_parts (are_good below children) (are_good Anywhere others) h in record {
+      below = below;
+      beside = Anywhere;
+      children_good = both.0;
+      others_good = both.1;
+      leaf = λ l. ap (λ b. if b then Nowhere else Anywhere) l;
+      row_below = λ e. cc;
+      row_beside = λ e. cc;
+    }
+places-good (InTable (c ∷ cs)) TableRow children others h =
+    let both = and_parts (are_good (InRow c) children) (are_good (InTable cs) others) h in
+    record { below = InRow c; beside = InTable cs; children_good = both.0; others_good = both.1; leaf = λ l. cc; row_below = λ e. refl; row_beside = λ e. cc }
+places-good (InRow (c ∷ cs)) TableCell children others h =
+    let both = and_parts (are_good Anywhere children) (are_good (InRow cs) others) h in
+    record { below = Anywhere; beside = InRow cs; children_good = both.0; others_good = both.1; leaf = λ l. cc; row_below = λ e. cc; row_beside = λ e. refl }
+places-good p kind children others h = cc
+
 pub good-bare : (p : TreePlace) (t : Forest RenderNode) → are_good p t ≡ true → LeavesBare t
 good-bare p none h = tt
-good-bare p (node n children others) h = by p n.kind h (λ q k. good-bare q children k) (λ q k. good-bare q others k)
-  where
-    by : (p : TreePlace) (kind : NodeKind) → are_good_below (λ q. are_good q children) (λ q. are_good q others) (places_around p kind) ≡ true →
-        ((q : TreePlace) → are_good q children ≡ true → LeavesBare children) → ((q : TreePlace) → are_good q others ≡ true → LeavesBare others) →
-        (is_leaf kind ≡ true → children ≡ none) × (LeavesBare children × LeavesBare others)
-    by Anywhere (Table grid) h below beside =
-        let both = and_parts (are_good (InTable grid.cells.rows) children) (are_good Anywhere others) h in
-        (λ l. cc, (below (InTable grid.cells.rows) both.0, beside Anywhere both.1))
-    by Anywhere TableRow h below beside = cc
-    by Anywhere TableCell h below beside = cc
-    by Anywhere kind h below beside =
-        let both = and_parts (are_good (if is_leaf kind then Nowhere else Anywhere) children) (are_good Anywhere others) h in (
-          λ l. nothing-below children (subst (λ b. are_good (if b then Nowhere else Anywhere) children ≡ true) l both.0),
-          (below (if is_leaf kind then Nowhere else Anywhere) both.0, beside Anywhere both.1),
-        )
-    by (InTable (c ∷ cs)) TableRow h below beside =
-        let both = and_parts (are_good (InRow c) children) (are_good (InTable cs) others) h in
-        (λ l. cc, (below (InRow c) both.0, beside (InTable cs) both.1))
-    by (InRow (c ∷ cs)) TableCell h below beside =
-        let both = and_parts (are_good Anywhere children) (are_good (InRow cs) others) h in
-        (λ l. cc, (below Anywhere both.0, beside (InRow cs) both.1))
-    by p kind h below beside = cc
+good-bare p (node n children others) h =
+    let g = places-good p n.kind children others h in (
+      λ l. nothing-below children (subst (λ q. are_good q children ≡ true) (g.leaf l) g.children_good),
+      (good-bare g.below children g.children_good, good-bare g.beside others g.others_good),
+    )
 
 -- ---- visited nodes
 
@@ -129,33 +156,47 @@ module _ {S A K T B : Type 0} (m : Algebra S A K T B) where
   abbrev State : Type 0
   State = LayoutState S K T B
 
+  -- whether a visit past the children has P, and one of the children their places Q
+  abbrev OnVisit : (P : Type 0) (Q : Places State → Type 0) → Visit State → Type 0
+  OnVisit P Q (Leaf behind) = IfSome behind (λ s. P)
+  OnVisit P Q (Inner before places after) = Q places
+
+  module _ (P : Type 0) (Q : Places State → Type 0) where
+    followed-has : (v : Visit State) (next : State → Option State) → OnVisit P Q v → OnVisit P Q (followed v next)
+    followed-has (Leaf behind) next h = bind_some (λ s. P) (λ s. P) next behind h (λ x k. always P (next x) k)
+    followed-has (Inner before places after) next h = h
+
+    within-has : (s : State) (before : Option State) (after : State → Option State) (visit : State → Visit State) →
+        ((q : State) → OnVisit P Q (visit q)) → OnVisit P Q (placed (Within before after) visit s)
+    within-has s None after visit h = tt
+    within-has s (Some q) after visit h = followed-has (visit q) after (h q)
+
+    block-has : (b : OwnBlock) (s : State) (visit : State → Visit State) → ((q : State) → OnVisit P Q (visit q)) →
+        OnVisit P Q (placed (block_place m b s) visit s)
+    block-has Shared s visit h = h s
+    block-has (Prefixed prefix min_width) s visit h = within-has s _ _ visit h
+    block-has (Indented prefix columns min_width) s visit h = within-has s _ _ visit h
+
+    node-has : (n : RenderNode) (children : Forest RenderNode) (s : State) →
+        ((q : State) → OnVisit P Q (kind_layout m n.kind n.estimate children q)) → OnVisit P Q (layout_of m n children s)
+    node-has n children s h = by (perform_all m s (style_steps m.decoration n.style) s)
+      where
+        by : (o : Option State) →
+            OnVisit P Q (from_state o (λ q. followed (kind_layout m n.kind n.estimate children q) (λ r. Some (record r { text = s.text }))))
+        by None = tt
+        by (Some q) = followed-has (kind_layout m n.kind n.estimate children q) _ (h q)
+
+  -- whether children are left out, or there are none
+  abbrev NoneIn : (leaves : Bool) → Forest RenderNode → Type 0
+  NoneIn leaves children = (leaves ≡ true) ⊎ (children ≡ none)
+
   -- whether a visit agrees with `leaves`: if it goes past the children, they are left out or there are none; otherwise none
   -- is left out
   abbrev Enters : (leaves : Bool) → Forest RenderNode → Visit State → Type 0
-  Enters leaves children (Leaf behind) = IfSome behind (λ s. (leaves ≡ true) ⊎ (children ≡ none))
-  Enters leaves children (Inner before places after) = leaves ≡ false
-
-  followed-enters : (leaves : Bool) (children : Forest RenderNode) (v : Visit State) (next : State → Option State) → Enters leaves children v →
-      Enters leaves children (followed v next)
-  followed-enters leaves children (Leaf behind) next h =
-      bind_some (λ s. (leaves ≡ true) ⊎ (children ≡ none)) (λ s. (leaves ≡ true) ⊎ (children ≡ none)) next behind h
-      (λ x k. always ((leaves ≡ true) ⊎ (children ≡ none)) (next x) k)
-  followed-enters leaves children (Inner before places after) next h = h
-
-  within-enters : (leaves : Bool) (children : Forest RenderNode) (s : State) (before : Option State) (after : State → Option State)
-      (visit : State → Visit State) → ((q : State) → Enters leaves children (visit q)) →
-      Enters leaves children (placed (Within before after) visit s)
-  within-enters leaves children s None after visit h = tt
-  within-enters leaves children s (Some q) after visit h = followed-enters leaves children (visit q) after (h q)
-
-  block-enters : (leaves : Bool) (children : Forest RenderNode) (b : OwnBlock) (s : State) (visit : State → Visit State) →
-      ((q : State) → Enters leaves children (visit q)) → Enters leaves children (placed (block_place m b s) visit s)
-  block-enters leaves children Shared s visit h = h s
-  block-enters leaves children (Prefixed prefix min_width) s visit h = within-enters leaves children s _ _ visit h
-  block-enters leaves children (Indented prefix columns min_width) s visit h = within-enters leaves children s _ _ visit h
+  Enters leaves children v = OnVisit (NoneIn leaves children) (λ places. leaves ≡ false) v
 
   shape-enters : (children : Forest RenderNode) (x : Shape S A) (s : State) → children ≡ none → Enters false children (shape_layout m x s)
-  shape-enters children (Steps xs) s h = always ((false ≡ true) ⊎ (children ≡ none)) (perform_all m s xs s) (inr h)
+  shape-enters children (Steps xs) s h = always (NoneIn false children) (perform_all m s xs s) (inr h)
   shape-enters children (Around xs ys) s h = refl
   shape-enters children x s h = refl
 
@@ -163,7 +204,7 @@ module _ {S A K T B : Type 0} (m : Algebra S A K T B) where
       Enters (is_some o) children (shape_layout m (superscript m.decoration o) s)
   raised-enters children None s = refl
   raised-enters children (Some digits) s =
-      always ((true ≡ true) ⊎ (children ≡ none)) (perform_all m s (Write (λ x. map raised digits) ∷ []) s) (inl refl)
+      always (NoneIn true children) (perform_all m s (Write (λ x. map raised digits) ∷ []) s) (inl refl)
 
   kind-enters : (kind : NodeKind) (e : Estimate) (children : Forest RenderNode) (s : State) → (is_leaf kind ≡ true → children ≡ none) →
       Enters (is_raised kind children) children (kind_layout m kind e children s)
@@ -175,29 +216,24 @@ module _ {S A K T B : Type 0} (m : Algebra S A K T B) where
       shape-enters children (shape_of m.decoration s.settings (FragmentStart name) e children) s (h refl)
   kind-enters Superscript e children s h = raised-enters children (digits_of children) s
   kind-enters kind e children s h =
-      block-enters (is_raised kind children) children (block_of m.decoration s.settings s.decorator kind e) s
-      (λ q. shape_layout m (shape_of m.decoration q.settings kind e children) q) (λ q. refl)
+      block-has (NoneIn (is_raised kind children) children) (λ places. is_raised kind children ≡ false)
+      (block_of m.decoration s.settings s.decorator kind e) s (λ q. shape_layout m (shape_of m.decoration q.settings kind e children) q) (λ q. refl)
 
   node-enters : (n : RenderNode) (children : Forest RenderNode) (s : State) → (is_leaf n.kind ≡ true → children ≡ none) →
       Enters (is_raised n.kind children) children (layout_of m n children s)
-  node-enters n children s h = by (perform_all m s (style_steps m.decoration n.style) s)
-    where
-      by : (o : Option State) → Enters (is_raised n.kind children) children
-          (from_state o (λ q. followed (kind_layout m n.kind n.estimate children q) (λ r. Some (record r { text = s.text }))))
-      by None = tt
-      by (Some q) =
-          followed-enters (is_raised n.kind children) children (kind_layout m n.kind n.estimate children q) _
-          (kind-enters n.kind n.estimate children q h)
+  node-enters n children s h =
+      node-has (NoneIn (is_raised n.kind children) children) (λ places. is_raised n.kind children ≡ false) n children s (λ q. kind-enters n.kind n.estimate children q h)
 
   place-enters : (p : NodePlace State) (n : RenderNode) (children : Forest RenderNode) (s : State) → (is_leaf n.kind ≡ true → children ≡ none) →
       Enters (is_skipped p || is_raised n.kind children) children (placed p (layout_of m n children) s)
   place-enters Bare n children s h = node-enters n children s h
   place-enters (Skipped t) n children s h = inl refl
   place-enters (Within before after) n children s h =
-      within-enters (is_raised n.kind children) children s before after (layout_of m n children) (λ q. node-enters n children q h)
+      within-has (NoneIn (is_raised n.kind children) children) (λ places. is_raised n.kind children ≡ false) s before after (layout_of m n children)
+      (λ q. node-enters n children q h)
 
   -- all nodes below a node are visited or left out
-  past-all : (leaves : Bool) (children : Forest RenderNode) → (leaves ≡ true) ⊎ (children ≡ none) →
+  past-all : (leaves : Bool) (children : Forest RenderNode) → NoneIn leaves children →
       all_nodes children ≡ (if leaves then all_nodes children else []) ++ flat_map with_left_out []
   past-all true children (inl e) = sym (append-nil (all_nodes children))
   past-all false children (inl e) = cc
@@ -264,29 +300,9 @@ module _ {S A K T B : Type 0} (m : Algebra S A K T B) where
   abbrev MayBeSkipped : Bool → Places State → Type 0
   MayBeSkipped cells places = (number : ℕ) (s : State) → is_skipped (places number s) ≡ true → cells ≡ true
 
-  abbrev is_row_kind : NodeKind → Bool
-  is_row_kind TableRow = true
-  is_row_kind kind = false
-
   -- whether a visit skips children in a row alone
   abbrev SkipsBelow : (row : Bool) → Visit State → Type 0
-  SkipsBelow row (Leaf behind) = Unit {0}
-  SkipsBelow row (Inner before places after) = MayBeSkipped row places
-
-  followed-skips : (row : Bool) (v : Visit State) (next : State → Option State) → SkipsBelow row v → SkipsBelow row (followed v next)
-  followed-skips row (Leaf behind) next h = tt
-  followed-skips row (Inner before places after) next h = h
-
-  within-skips : (row : Bool) (s : State) (before : Option State) (after : State → Option State) (visit : State → Visit State) →
-      ((q : State) → SkipsBelow row (visit q)) → SkipsBelow row (placed (Within before after) visit s)
-  within-skips row s None after visit h = tt
-  within-skips row s (Some q) after visit h = followed-skips row (visit q) after (h q)
-
-  block-skips : (row : Bool) (b : OwnBlock) (s : State) (visit : State → Visit State) → ((q : State) → SkipsBelow row (visit q)) →
-      SkipsBelow row (placed (block_place m b s) visit s)
-  block-skips row Shared s visit h = h s
-  block-skips row (Prefixed prefix min_width) s visit h = within-skips row s _ _ visit h
-  block-skips row (Indented prefix columns min_width) s visit h = within-skips row s _ _ visit h
+  SkipsBelow row v = OnVisit (Unit {0}) (MayBeSkipped row) v
 
   -- whether a shape has cells
   abbrev has_cells : Shape S A → Bool
@@ -294,7 +310,7 @@ module _ {S A K T B : Type 0} (m : Algebra S A K T B) where
   has_cells x = false
 
   shape-skips : (x : Shape S A) (s : State) → SkipsBelow (has_cells x) (shape_layout m x s)
-  shape-skips (Steps xs) s = tt
+  shape-skips (Steps xs) s = always (Unit {0}) (perform_all m s xs s) tt
   shape-skips (Around xs ys) s = λ number q e. e
   shape-skips (Items prefix columns min_width) s = λ number q e. e
   shape-skips Cells s = λ number q e. refl
@@ -311,29 +327,20 @@ module _ {S A K T B : Type 0} (m : Algebra S A K T B) where
   kind-skips : (kind : NodeKind) (e : Estimate) (children : Forest RenderNode) (s : State) →
       SkipsBelow (is_row_kind kind) (kind_layout m kind e children s)
   kind-skips kind e children s =
-      block-skips (is_row_kind kind) (block_of m.decoration s.settings s.decorator kind e) s
+      block-has (Unit {0}) (MayBeSkipped (is_row_kind kind)) (block_of m.decoration s.settings s.decorator kind e) s
       (λ q. shape_layout m (shape_of m.decoration q.settings kind e children) q)
       (λ q. subst (λ b. SkipsBelow b (shape_layout m (shape_of m.decoration q.settings kind e children) q)) (kind-cells q.settings kind e children)
       (shape-skips (shape_of m.decoration q.settings kind e children) q))
 
   node-skips : (n : RenderNode) (children : Forest RenderNode) (s : State) → SkipsBelow (is_row_kind n.kind) (layout_of m n children s)
-  node-skips n children s = by (perform_all m s (style_steps m.decoration n.style) s)
-    where
-      by : (o : Option State) → SkipsBelow (is_row_kind n.kind)
-          (from_state o (λ q. followed (kind_layout m n.kind n.estimate children q) (λ r. Some (record r { text = s.text }))))
-      by None = tt
-      by (Some q) = followed-skips (is_row_kind n.kind) (kind_layout m n.kind n.estimate children q) _ (kind-skips n.kind n.estimate children q)
+  node-skips n children s = node-has (Unit {0}) (MayBeSkipped (is_row_kind n.kind)) n children s (kind-skips n.kind n.estimate children)
 
   place-skips : (p : NodePlace State) (n : RenderNode) (children : Forest RenderNode) (s : State) →
       SkipsBelow (is_row_kind n.kind) (placed p (layout_of m n children) s)
   place-skips Bare n children s = node-skips n children s
   place-skips (Skipped t) n children s = tt
   place-skips (Within before after) n children s =
-      within-skips (is_row_kind n.kind) s before after (layout_of m n children) (λ q. node-skips n children q)
-
-  abbrev is_row_place : TreePlace → Bool
-  is_row_place (InRow cells) = true
-  is_row_place p = false
+      within-has (Unit {0}) (MayBeSkipped (is_row_kind n.kind)) s before after (layout_of m n children) (λ q. node-skips n children q)
 
   abbrev IsCellIfSkipped : VisitedNode RenderNode → Type 0
   IsCellIfSkipped v = v.skipped ≡ true → v.node.kind ≡ TableCell
@@ -345,27 +352,6 @@ module _ {S A K T B : Type 0} (m : Algebra S A K T B) where
   row-cell (InRow (c ∷ cs)) kind children others h e = cc
   row-cell (InRow []) kind children others h e = cc
   row-cell p kind children others h e = cc
-
-  -- the places in which a node's children and its later siblings are good
-  pub places-good : (p : TreePlace) (kind : NodeKind) (children others : Forest RenderNode) →
-      are_good_below (λ q. are_good q children) (λ q. are_good q others) (places_around p kind) ≡ true →
-      (below beside : TreePlace) × ((are_good below children ≡ true) × (are_good beside others ≡ true)
-      × ((is_row_kind kind ≡ true → is_row_place below ≡ true) × (is_row_place p ≡ true → is_row_place beside ≡ true)))
-  places-good Anywhere (Table grid) children others h =
-      let both = and_parts (are_good (InTable grid.cells.rows) children) (are_good Anywhere others) h in
-      (InTable grid.cells.rows, Anywhere, (both.0, both.1, (λ e. cc, λ e. cc)))
-  places-good Anywhere TableRow children others h = cc
-  places-good Anywhere TableCell children others h = cc
-  places-good Anywhere kind children others h =
-      let both = and_parts (are_good (if is_leaf kind then Nowhere else Anywhere) children) (are_good Anywhere others) h in
-      (if is_leaf kind then Nowhere else Anywhere, Anywhere, (both.0, both.1, (λ e. cc, λ e. cc)))
-  places-good (InTable (c ∷ cs)) TableRow children others h =
-      let both = and_parts (are_good (InRow c) children) (are_good (InTable cs) others) h in
-      (InRow c, InTable cs, (both.0, both.1, (λ e. refl, λ e. cc)))
-  places-good (InRow (c ∷ cs)) TableCell children others h =
-      let both = and_parts (are_good Anywhere children) (are_good (InRow cs) others) h in
-      (Anywhere, InRow cs, (both.0, both.1, (λ e. cc, λ e. refl)))
-  places-good p kind children others h = cc
 
   from-cells : {X : Type 0} (P : X → Type 0) (nodes : X → List (VisitedNode RenderNode)) (o : Option X) → IfSome o P →
       ((x : X) → P x → All IsCellIfSkipped (nodes x)) → All IsCellIfSkipped (from nodes o)
@@ -387,9 +373,9 @@ module _ {S A K T B : Type 0} (m : Algebra S A K T B) where
       (All-append IsCellIfSkipped _ _
       (from-cells (λ x. MayBeSkipped (is_row_kind n.kind) x.0) (λ x. visits_at (layout_of m) x.0 0 children x.1) (inside visit)
       (inside-skips (is_row_kind n.kind) visit (place-skips (places number s) n children s))
-      (λ x f. all-cells children good.0 x.0 0 x.1 good.2.0 (λ j q e. good.2.2.0 (f j q e))))
+      (λ x f. all-cells children good.below x.0 0 x.1 good.children_good (λ j q e. good.row_below (f j q e))))
       (from-cells (λ t. Unit {0}) (λ t. visits_at (layout_of m) places (number + 1) beside t) next (always (Unit {0}) next tt)
-      (λ t u. all-cells beside good.1 places (number + 1) t good.2.1 (λ j q e. good.2.2.1 (k j q e)))))
+      (λ t u. all-cells beside good.beside places (number + 1) t good.others_good (λ j q e. good.row_beside (k j q e)))))
 
   visits-all : (t : Forest RenderNode) (s : State) → are_good Anywhere t ≡ true →
       IfSome (run (layout_of m) t s) (λ r. VisitsAllBut (layout_of m) t s)
@@ -421,7 +407,6 @@ module _ {D A : Type 0} (d : Decoration D A) (x : D) (settings : LayoutSettings)
   around-measured Anywhere (Table grid) below = refl
   around-measured (InTable (c ∷ cs)) (Table grid) below = refl
   around-measured (InRow (c ∷ cs)) (Table grid) below = refl
-  around-measured p (Table grid) below = refl
   around-measured p kind below = refl
 
   measured-good : (p : TreePlace) (t : Forest RenderNode) → are_good p (measured d x settings t) ≡ are_good p t
@@ -443,7 +428,6 @@ module _ (settings : LayoutSettings) where
   around-worded Anywhere (Table grid) below = refl
   around-worded (InTable (c ∷ cs)) (Table grid) below = refl
   around-worded (InRow (c ∷ cs)) (Table grid) below = refl
-  around-worded p (Table grid) below = refl
   around-worded p kind below = refl
 
   worded-good : (p : TreePlace) (t : Forest RenderNode) → are_good p (worded settings t) ≡ are_good p t
@@ -452,26 +436,22 @@ module _ (settings : LayoutSettings) where
       λ i. are_good_below (λ q. worded-good q children i) (λ q. worded-good q beside i)
       (around-worded p n.kind (shapes settings children) i)
 
-  pub words_count : (t : Forest RenderNode) → count (with_words settings t) ≡ count t
-  words_count t = by (settings.whole_words && has_table t)
+  -- what words leave as it is
+  words-same : {X : Type 0} (f : Forest RenderNode → X) (t : Forest RenderNode) → f (worded settings t) ≡ f t → f (with_words settings t) ≡ f t
+  words-same f t same = by (settings.whole_words && has_table t)
     where
-      by : (b : Bool) → count (if b then worded settings t else t) ≡ count t
-      by true = worded_count t
+      by : (b : Bool) → f (if b then worded settings t else t) ≡ f t
+      by true = same
       by false = refl
+
+  pub words_count : (t : Forest RenderNode) → count (with_words settings t) ≡ count t
+  words_count t = words-same count t (worded_count t)
 
   pub words_depth : (t : Forest RenderNode) → depth (with_words settings t) ≡ depth t
-  words_depth t = by (settings.whole_words && has_table t)
-    where
-      by : (b : Bool) → depth (if b then worded settings t else t) ≡ depth t
-      by true = worded_depth t
-      by false = refl
+  words_depth t = words-same depth t (worded_depth t)
 
   words-good : (p : TreePlace) (t : Forest RenderNode) → are_good p (with_words settings t) ≡ are_good p t
-  words-good p t = by (settings.whole_words && has_table t)
-    where
-      by : (b : Bool) → are_good p (if b then worded settings t else t) ≡ are_good p t
-      by true = worded-good p t
-      by false = refl
+  words-good p t = words-same (are_good p) t (worded-good p t)
 
 -- WHERE A GOOD TREE has lines, all of its nodes are visited, except those that are left out
 pub lines_visit_all : {S A : Type 0} (d : Decoration S A) (settings : LayoutSettings) (t : Forest RenderNode) (decorator : S) (block : BlockSetting) →

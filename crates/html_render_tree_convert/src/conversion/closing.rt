@@ -183,14 +183,7 @@ fn close_rows(
         tree.truncate(start);
         return put_mark(element.due.into_mark(), parent, tree);
     }
-    let has_children = element.has_children;
-    let is_stray = element.is_stray;
-    let role = role_left(element.kind);
-    if parent.receive(role, &NodeKind::Container, has_children, is_stray)? {
-        return Ok(());
-    }
-    tree.truncate(start);
-    Ok(())
+    keep_rows(element, parent, tree)
 }
 
 /// Gives its insertion back to a table of which a part had no row.
@@ -199,6 +192,7 @@ fn close_rows(
 ///
 /// `OutOfMemory` if an allocation is refused.
 fn give_back(alloc: Global, element: &mut Open, parent: &mut Open) -> Result<(), Error>
+    requires { is_rows element.old.kind ≡ true }
     ensures element { OnOk result (element.new ≡ without_given element.old parent.old) }
     ensures parent { OnOk result (parent.new ≡ with_given_of element.old parent.old) }
     ensures err { OnlyOutOfMemory result }
@@ -206,6 +200,26 @@ fn give_back(alloc: Global, element: &mut Open, parent: &mut Open) -> Result<(),
     if element.is_given && matches!(parent.kind, OpenKind::Parts(_)) {
         let outer = element.due.take_outer(alloc);
         parent.due.set_insertion(alloc, outer)?;
+    }
+    Ok(())
+}
+
+/// Closes a part of a table that doesn't vanish: it has no node of its own.
+///
+/// # Errors
+///
+/// `OutOfMemory` if an allocation is refused.
+fn keep_rows(element: Open, parent: &mut Open, tree: &mut Tree) -> Result<(), Error>
+    requires { is_rows element.kind ≡ true }
+    ensures ok { OnOk result (ClosesStanding element parent.old tree.old.items parent.new tree.new.items) }
+    ensures err { OnlyOutOfMemory result }
+{
+    let start = element.start;
+    let has_children = element.has_children;
+    let is_stray = element.is_stray;
+    let role = role_left(element.kind);
+    if !parent.receive(role, &NodeKind::Container, has_children, is_stray)? {
+        tree.truncate(start);
     }
     Ok(())
 }

@@ -6,26 +6,26 @@ ghost use Rattle.html_render_dom.specs.ElementStyle.{style_of};
 ghost use Rattle.html_render_tree_convert.specs.Keeping.{keeping_of};
 ghost use Rattle.html_render_tree_convert.specs.Held.{due_of, insertion_in, nothing_held};
 ghost use Rattle.html_render_tree_convert.specs.OpenElements.{holder, leaf, leaves, node_in, nothing, text_nodes};
-ghost use Rattle.html_render_tree_convert.specs.Opening.{Becomes, due_in, has_result, wrote};
+ghost use Rattle.html_render_tree_convert.specs.Opening.{Becomes, due_in, wrote};
 ghost use Rattle.html_render_tree_convert.specs.Seen.{Holds, element_seen, is_root};
-ghost use Rattle.html_render_tree_convert.specs.Steps.{all_parted, caption_kind, innermost, is_in, left_once, opened};
-ghost use Rattle.html_render_tree_convert.specs.Steps.{table_in_container, taken, with_captions, without_captions};
-ghost use Rattle.html_render_tree_mapping.specs.ElementTexts.{has_any, no_texts};
-ghost use Rattle.html_render_tree_mapping.specs.Plans.{element_of};
+ghost use Rattle.html_render_tree_convert.specs.Steps.{all_parted, caption_kind, is_in, left_once, opened};
+ghost use Rattle.html_render_tree_convert.specs.Steps.{table_in_container, taken, without_captions};
+ghost use Rattle.html_render_tree_convert.specs.ElementTexts.{has_any, no_texts};
+ghost use Rattle.html_render_tree_convert.specs.Plans.{element_of};
 
 use super::Conversion;
 use crate::builder::{Tree, take_inside};
 use crate::due::{Due, DueParts, InsertedNodes, copy_of, put_all, put_texts};
 use crate::elements::{Open, OpenKind, Place};
 use crate::kinds::Keeping;
+use crate::mapping::{ElementKind, IfEmpty, node_style};
+use crate::plans::{Element, ElementTexts};
 use crate::spans::{PartRows, RowCells, TableSpans};
+use crate::tables::{CellSpan, Part};
 use html_render_dom::style::ComputedStyle;
 use html_render_dom_values::Error;
 use html_render_layout_nodes::text::NodeText;
 use html_render_layout_nodes::tree::{Estimate, NodeKind, NodeStyle, RenderNode};
-use html_render_tree_mapping::mapping::{ElementKind, IfEmpty, node_style};
-use html_render_tree_mapping::plans::{Element, ElementTexts};
-use html_render_tree_mapping::tables::{CellSpan, Part};
 use std::alloc::Global;
 
 /// Returns an unmeasured node of a style.
@@ -469,7 +469,6 @@ impl Conversion {
         match part {
             Part::Table => self.open_table(alloc, style, if_empty, texts),
             Part::Body => self.open_rows(alloc, if_empty, texts),
-            Part::Foot => self.open_rows(alloc, if_empty, texts),
             Part::Row => self.open_row(alloc, style, texts),
             Part::Cell(span) => self.open_cell(alloc, span, style, texts),
             Part::Caption => self.open_caption(alloc, style, if_empty, texts),
@@ -556,32 +555,19 @@ impl Conversion {
         if !self.is_in(Place::Captions) {
             return Ok(());
         }
-        if self.has_result() {
-            self.keep_captions();
+        let Some(table) = self.elements.last_mut() else {
+            return Ok(());
+        };
+        if table.has_results {
+            make_container(table);
             return self.open_parts(alloc);
         }
-        self.become_parts(alloc)
-    }
-
-    /// Reports whether a result that counts has come in the innermost open element.
-    fn has_result(&self) -> bool
-        ensures { result ≡ has_result self.now }
-    {
-        match self.innermost() {
-            Some(parent) => parent.has_results,
-            None => false,
+        // what is written in a table without a caption is due in its first cell
+        if let Err(error) = make_parts(alloc, table, &mut self.tree) {
+            self.elements.clear();
+            return Err(error);
         }
-    }
-
-    /// Makes a table with a caption a container.
-    fn keep_captions(&mut self)
-        requires { is_in Place.Captions self.old ≡ true }
-        ensures { self.new ≡ innermost with_captions self.old }
-    {
-        let Some(table) = self.elements.last_mut() else {
-            return;
-        };
-        make_container(table);
+        Ok(())
     }
 
     /// Opens a table whose captions have come, in a container that closes with it.
@@ -597,25 +583,5 @@ impl Conversion {
         let mut open = Open::new(parts, Due::none(), IfEmpty::Vanishes, false);
         open.is_wrapped = true;
         self.begin(open, RenderNode::from(NodeKind::Container))
-    }
-
-    /// Begins the rows of a table without a caption. What is written in it is due in its first cell.
-    ///
-    /// # Errors
-    ///
-    /// `OutOfMemory` if an allocation is refused.
-    fn become_parts(&mut self, alloc: Global) -> Result<(), Error>
-        requires { is_in Place.Captions self.old ≡ true }
-        ensures ok { OnOk result (self.new ≡ innermost without_captions self.old) }
-        ensures err { OnlyOutOfMemory result }
-    {
-        let Some(table) = self.elements.last_mut() else {
-            return Ok(());
-        };
-        if let Err(error) = make_parts(alloc, table, &mut self.tree) {
-            self.elements.clear();
-            return Err(error);
-        }
-        Ok(())
     }
 }

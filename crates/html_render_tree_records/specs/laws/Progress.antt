@@ -1,7 +1,6 @@
 -- Steps that are taken one after another.
 use Rattle.std.specs.Prelude.{◌≡◌, ℕ, ◌-◌, List, [], ◌∷◌, ◌++◌, length, take, slice_get, Some}
 use Rattle.std.proofs.Common.{refl, sym, ap, ◌∙◌, subst, arith, append_assoc, length-append}
-use Rattle.std.proofs.lemmas.List.{append-nil}
 use Rattle.html_render_tree_records.specs.declared.step.Step.{Step}
 use Rattle.html_render_tree_records.specs.Steps.{Build, Built, CanTake, DoesKind, IsFaultyStep, begun, kind_of}
 
@@ -10,9 +9,6 @@ pub record IsProgress (text : List ℕ) (steps ahead : List Step) (built : Built
   pub taken : List Step
   pub parts : steps ≡ taken ++ ahead
   pub build : Build text taken begun built
-
-pub progress_begun : (text : List ℕ) (steps : List Step) → IsProgress text steps steps begun
-progress_begun text steps = record { taken = []; parts = refl; build = refl }
 
 Build-push : (text : List ℕ) (steps : List Step) (step : Step) (old between new : Built) → Build text steps old between →
     DoesKind text step (kind_of step.kind) between new → Build text (steps ++ step ∷ []) old new
@@ -51,9 +47,3 @@ progress_faulty text steps ahead old step behind p first not_taken =
       is_step = ap (λ xs. slice_get xs (length p.taken)) all ∙ get-front p.taken step behind;
       not_taken = not_taken;
     }
-
--- all steps are taken
-pub progress_done : (text : List ℕ) (steps ahead : List Step) (built : Built) → IsProgress text steps ahead built → length ahead ≡ 0 →
-    Build text steps begun built
-progress_done text steps [] built p none = subst (λ xs. Build text xs begun built) (sym (p.parts ∙ append-nil p.taken)) p.build
-progress_done text steps (a ∷ ahead) built p none = absurd (omega (arith, none))

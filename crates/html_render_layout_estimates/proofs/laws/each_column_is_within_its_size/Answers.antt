@@ -1,4 +1,4 @@
-use Rattle.html_render_layout_estimates.specs.laws.Columns.{each_share_by_size}
+use Rattle.html_render_layout_estimates.specs.laws.Least.{each_share_by_size}
 use Rattle.html_render_layout_estimates.proofs.laws.each_column_is_within_its_size.Goals as goal
 
 pub returns-clause-shares : goal.returns-clause-shares

@@ -1,12 +1,11 @@
-use Rattle.std.proofs.Common.{◌≡◌, ℕ, List, ◌+◌, ◌-◌, ◌++◌, ◌∷◌, [], Some, length, max, refl, sym, ap, ◌∙◌, subst, arith, length-append, rules}
+use Rattle.std.proofs.Common.{◌≡◌, ℕ, List, ◌+◌, ◌-◌, ◌++◌, ◌∷◌, [], Option, Some, length, max, refl, sym, ap, ◌∙◌, subst, arith, length-append, rules}
 use Rattle.html_render_layout_nodes.specs.declared.visitor.Frame.{Frame}
-use Rattle.html_render_layout_nodes.specs.Visitor.{run, way}
+use Rattle.html_render_layout_nodes.specs.Visitor.{way}
 use Rattle.html_render_layout_nodes.specs.Preorder.{flatten}
 use Rattle.html_render_layout_nodes.specs.Walk.{innermost}
 use Rattle.html_render_layout_nodes.specs.laws.Visits.{visited-at_most, most_open-at_most}
-use Rattle.html_render_layout_nodes.proofs.Walking.{Walking, Done, nodes_visited, nodes_open, counted-refused, Walking-start, Walking-close, Walking-within}
-use Rattle.html_render_layout_nodes.proofs.Walking.{Walking-done, Closing-done, Closing-refuses, Walking-open, Opening-into, Opening-past, Opening-end}
-use Rattle.html_render_layout_nodes.proofs.Walking.{Opening-part, Opening-refuses}
+use Rattle.html_render_layout_nodes.proofs.Walking.{Walking, Opening, whole, outcome, counted-refused, Walking-start, Walking-close, Walking-within, Walking-done}
+use Rattle.html_render_layout_nodes.proofs.Walking.{Closing-done, Closing-refuses, Walking-open, Opening-into, Opening-past, Opening-end, Opening-part, Opening-refuses}
 use Rattle.html_render_layout_nodes.proofs.visitor.walk.Invariants.{how}
 use Rattle.html_render_layout_nodes.proofs.visitor.walk.Given.{Over}
 use Rattle.html_render_layout_nodes.proofs.visitor.walk.Goals as goal
@@ -17,8 +16,7 @@ walk-init g c =
     let s = c.args.state.now in
     record {
       entries_are = c.entries-entries.ensures;
-      walking = subst (λ fs. Walking (how g) (flatten f) (run g.P.Visitor.visits f s) (length (nodes_visited (how g) f s)) (nodes_open (how g) f s) fs 0 0 0 0 s)
-          (sym c.new-frames.ensures.items) (Walking-start (how g) f s);
+      walking = subst (λ fs. Walking (how g) (flatten f) (whole (how g) f s) fs 0 0 0 0 s) (sym c.new-frames.ensures.items) (Walking-start f s);
       numbered = omega arith;
       within = omega arith;
       visits = omega arith;
@@ -29,10 +27,10 @@ walk-init g c =
 pub walk-preserved-in-Some : goal.walk-preserved-in-Some
 walk-preserved-in-Some g c =
     let over = c.in-Some.ensures.over in
-    let closing = Walking-close (how g) _ _ _ _ _ _ _ _ _ _ _ _ c.walk.invariant.walking over.0 over.1 in
+    let closing = Walking-close c.walk.invariant.walking over.0 over.1 in
     record {
       entries_are = c.entries-entries.ensures;
-      walking = Closing-done (how g) _ _ _ _ _ _ _ _ _ _ _ _ closing c.in_ok-close-in-Some.ensures.ok;
+      walking = Closing-done _ closing c.in_ok-close-in-Some.ensures.ok;
       numbered = closing.numbered;
       within = c.walk.invariant.within;
       visits = c.walk.invariant.visits;
@@ -46,31 +44,30 @@ walk-preserved-in-Some g c =
 
 pub returns-in_err-close-in-Some-clause-err : goal.returns-in_err-close-in-Some-clause-err
 returns-in_err-close-in-Some-clause-err g c =
-    let closing = Walking-close (how g) _ _ _ _ _ _ _ _ _ _ _ _ c.walk.invariant.walking c.in-Some.ensures.over.0 c.in-Some.ensures.over.1 in
-    let refuses = Closing-refuses (how g) _ _ _ _ _ _ _ _ _ _ _ _ closing c.in_err-close-in-Some.ensures.err in
+    let closing = Walking-close c.walk.invariant.walking c.in-Some.ensures.over.0 c.in-Some.ensures.over.1 in
+    let refuses = Closing-refuses _ closing c.in_err-close-in-Some.ensures.err in
     search rules
 
 -- at the end of the walk all nodes are closed
 done : (g : Over) (c : goal.After-drop-frames-then-next-entries g) →
-    Done (run g.P.Visitor.visits c.args.forest.now c.args.state.now) (length (nodes_visited (how g) c.args.forest.now c.args.state.now))
-    (nodes_open (how g) c.args.forest.now c.args.state.now) c.walk.frames.items c.walk.meter.entered c.walk.meter.frames c.walk.state
-done g c = Walking-done (how g) _ _ _ _ _ _ _ _ _ _ c.walk.invariant.walking c.in-None.ensures.not_over (c.if-next-entries.true
-    ∙ ap length c.entries-entries.ensures)
+    (c.walk.frames.items ≡ []) × (outcome (Some c.walk.state) c.walk.meter.entered c.walk.meter.frames ≡ whole (how g) c.args.forest.now c.args.state.now)
+done g c = Walking-done c.walk.invariant.walking c.in-None.ensures.not_over (c.if-next-entries.true ∙ ap length c.entries-entries.ensures)
 
 pub returns-then-next-entries-clause-ok : goal.returns-then-next-entries-clause-ok
-returns-then-next-entries-clause-ok g c = (done g c).result
+returns-then-next-entries-clause-ok g c = sym (ap (λ o. o.state) (done g c).1)
 
 pub returns-then-next-entries-clause-counts : goal.returns-then-next-entries-clause-counts
 returns-then-next-entries-clause-counts g c =
     let d = done g c in
-    let within = Walking-within (how g) _ _ _ _ _ _ _ _ _ _ c.walk.invariant.walking in
+    let visited = ap (λ o. o.visited) d.1 in
+    let within = Walking-within c.walk.invariant.walking in
     record {
-      entered = d.counted;
-      left = omega (arith, c.walk.invariant.left, d.counted, ap length d.empty);
+      entered = visited;
+      left = omega (arith, c.walk.invariant.left, visited, ap length d.0);
       entered_at_most = within.1;
       left_at_most = omega (arith, c.walk.invariant.left);
       visited_at_most = visited-at_most g.P.Visitor.visits c.args.forest.now c.args.state.now;
-      frames = d.peaks;
+      frames = ap (λ o. o.peak) d.1;
       frames_at_most = within.0;
       open_at_most = most_open-at_most g.P.Visitor.visits c.args.forest.now c.args.state.now;
       probes = c.walk.invariant.probes;
@@ -78,75 +75,60 @@ returns-then-next-entries-clause-counts g c =
 
 pub returns-in_err-close-in-Some-clause-counts : goal.returns-in_err-close-in-Some-clause-counts
 returns-in_err-close-in-Some-clause-counts g c =
-    counted-refused (how g) _ _ c.from_residual.ensures.1 _ _ _ _ _ _ _ _ _ _ c.walk.invariant.walking
-    (omega (arith, c.walk.invariant.left)) c.walk.invariant.probes
+    counted-refused _ c.from_residual.ensures.1 _ _ c.walk.invariant.walking (omega (arith, c.walk.invariant.left)) c.walk.invariant.probes
 
 pub returns-in_err-kept-in-None-clause-counts : goal.returns-in_err-kept-in-None-clause-counts
 returns-in_err-kept-in-None-clause-counts g c =
-    counted-refused (how g) _ _ c.from_residual-in_err-kept-in-None.ensures.1 _ _ _ _ _ _ _ _ _ _ c.walk.invariant.walking
-    (omega (arith, c.walk.invariant.left)) c.walk.invariant.probes
+    counted-refused _ c.from_residual-in_err-kept-in-None.ensures.1 _ _ c.walk.invariant.walking (omega (arith, c.walk.invariant.left)) c.walk.invariant.probes
 
 pub returns-in_err-push-in-Some-2-clause-counts : goal.returns-in_err-push-in-Some-2-clause-counts
 returns-in_err-push-in-Some-2-clause-counts g c =
-    counted-refused (how g) _ _ c.from_residual-in_err-push-in-Some-2.ensures.1 _ _ _ _ _ _ _ _ _ _ c.walk.invariant.walking
-    (omega (arith, c.walk.invariant.left)) c.walk.invariant.probes
+    counted-refused _ c.from_residual-in_err-push-in-Some-2.ensures.1 _ _ c.walk.invariant.walking (omega (arith, c.walk.invariant.left)) c.walk.invariant.probes
 
 pub overflow_add-end : goal.overflow_add-end
 overflow_add-end g c =
-    let e = c.index-entries-next.result in
-    let o = Walking-open (how g) _ _ _ _ _ _ _ _ _ _ e _ c.entries-entries.ensures c.walk.invariant.walking c.in-None.ensures.not_over
-    (omega arith) c.index-entries-next.is in
-    omega (arith, Opening-end (how g) _ _ _ _ _ _ _ _ _ _ e o, ap length c.entries-entries.ensures, c.entries-entries.type_inv)
+    let o = Walking-open c.walk.invariant.walking c.entries-entries.ensures c.in-None.ensures.not_over (omega arith) c.index-entries-next.is in
+    omega (arith, Opening-end o, ap length c.entries-entries.ensures, c.entries-entries.type_inv)
 
 pub slice_bounds-children-count : goal.slice_bounds-children-count
 slice_bounds-children-count g c =
-    let e = c.index-entries-next.result in
-    let o = Walking-open (how g) _ _ _ _ _ _ _ _ _ _ e _ c.entries-entries.ensures c.walk.invariant.walking c.in-None.ensures.not_over
-    (omega arith) c.index-entries-next.is in
+    let o = Walking-open c.walk.invariant.walking c.entries-entries.ensures c.in-None.ensures.not_over (omega arith) c.index-entries-next.is in
     omega (arith, o.subtree_len)
 
 pub slice_bounds-children-start : goal.slice_bounds-children-start
 slice_bounds-children-start g c =
-    let e = c.index-entries-next.result in
-    let o = Walking-open (how g) _ _ _ _ _ _ _ _ _ _ e _ c.entries-entries.ensures c.walk.invariant.walking c.in-None.ensures.not_over
-    (omega arith) c.index-entries-next.is in
+    let o = Walking-open c.walk.invariant.walking c.entries-entries.ensures c.in-None.ensures.not_over (omega arith) c.index-entries-next.is in
     omega (arith, o.subtree_len)
 
 pub slice_bounds-children-end : goal.slice_bounds-children-end
 slice_bounds-children-end g c =
-    let e = c.index-entries-next.result in
-    let o = Walking-open (how g) _ _ _ _ _ _ _ _ _ _ e _ c.entries-entries.ensures c.walk.invariant.walking c.in-None.ensures.not_over
-    (omega arith) c.index-entries-next.is in
-    omega (arith, Opening-end (how g) _ _ _ _ _ _ _ _ _ _ e o, ap length c.entries-entries.ensures)
+    let o = Walking-open c.walk.invariant.walking c.entries-entries.ensures c.in-None.ensures.not_over (omega arith) c.index-entries-next.is in
+    omega (arith, Opening-end o, ap length c.entries-entries.ensures)
 
 pub open-requires : goal.open-requires
 open-requires g c =
-    let e = c.index-entries-next.result in
-    let o = Walking-open (how g) _ _ _ _ _ _ _ _ _ _ e _ c.entries-entries.ensures c.walk.invariant.walking c.in-None.ensures.not_over
-    (omega arith) c.index-entries-next.is in
-    (Opening-part (how g) _ _ _ _ _ _ _ _ _ _ e _ _ c.entries-entries.ensures (omega arith) o).kept
+    let o = Walking-open c.walk.invariant.walking c.entries-entries.ensures c.in-None.ensures.not_over (omega arith) c.index-entries-next.is in
+    (Opening-part o _ c.entries-entries.ensures (omega arith)).kept
+
+-- what the innermost open node keeps is the given data
+abbrev given : {T : Type 0} {p : Option T} {frames now then : List (Frame T)} → p ≡ innermost frames → frames ≡ now → now ≡ then → p ≡ innermost then
+given parent value same = parent ∙ ap (λ fs. innermost fs) (value ∙ same)
 
 pub returns-in_err-kept-in-None-clause-err : goal.returns-in_err-kept-in-None-clause-err
 returns-in_err-kept-in-None-clause-err g c =
-    let e = c.index-entries-next.result in
-    let o = Walking-open (how g) _ _ _ _ _ _ _ _ _ _ e _ c.entries-entries.ensures c.walk.invariant.walking c.in-None.ensures.not_over
-    (omega arith) c.index-entries-next.is in
-    let part = Opening-part (how g) _ _ _ _ _ _ _ _ _ _ e _ (c.walk.next + e.subtree_len - (c.walk.next + 1)) c.entries-entries.ensures
-    (omega arith) o in
-    let refuses = Opening-refuses (how g) _ _ _ _ _ _ _ _ _ _ e _ o _ part.is _ (c.innermost-parent.ensures ∙ ap (λ fs. innermost fs) (c.deref.ensures.value ∙ c.in-None.ensures.same)) c.in_err-kept-in-None.ensures.err in
+    let o = Walking-open c.walk.invariant.walking c.entries-entries.ensures c.in-None.ensures.not_over (omega arith) c.index-entries-next.is in
+    let part = Opening-part o (c.walk.next + c.index-entries-next.result.subtree_len - (c.walk.next + 1)) c.entries-entries.ensures (omega arith) in
+    let refuses = Opening-refuses o part.is (given c.innermost-parent.ensures c.deref.ensures.value c.in-None.ensures.same) _ c.in_err-kept-in-None.ensures.err in
     search rules
 
 pub walk-preserved-in-Some-2 : goal.walk-preserved-in-Some-2
 walk-preserved-in-Some-2 g c =
     let e = c.index-entries-next.result in
     let f = c.args.forest.now in
-    let s = c.args.state.now in
     let kept = c.in-Some-2.kept in
-    let o = Walking-open (how g) _ _ _ _ _ _ _ _ _ _ e _ c.entries-entries.ensures c.walk.invariant.walking c.in-None.ensures.not_over
-    (omega arith) c.index-entries-next.is in
-    let part = Opening-part (how g) _ _ _ _ _ _ _ _ _ _ e _ (c.walk.next + e.subtree_len - (c.walk.next + 1)) c.entries-entries.ensures
-    (omega arith) o in
-    let w = Opening-into (how g) _ _ _ _ _ _ _ _ _ _ _ kept e o _ part.is c.walk.invariant.numbered _ (c.innermost-parent.ensures ∙ ap (λ fs. innermost fs) (c.deref.ensures.value ∙ c.in-None.ensures.same))
+    let o = Walking-open c.walk.invariant.walking c.entries-entries.ensures c.in-None.ensures.not_over (omega arith) c.index-entries-next.is in
+    let part = Opening-part o (c.walk.next + e.subtree_len - (c.walk.next + 1)) c.entries-entries.ensures (omega arith) in
+    let w = Opening-into o part.is (given c.innermost-parent.ensures c.deref.ensures.value c.in-None.ensures.same) c.walk.invariant.numbered
     (c.in_ok-kept-in-None.ensures.ok ∙ ap (λ k. Some (way c.open.new.state k)) c.in-Some-2.is) in
     let pushed : c.push.new.self.items ≡ c.walk.frames.items ++ record { end = c.walk.next + e.subtree_len; next = c.walk.number + 1; kept = kept } ∷ [] =
     cc (c.in_ok-push-in-Some-2.ensures.items, c.in-None.ensures.same) in
@@ -154,8 +136,7 @@ walk-preserved-in-Some-2 g c =
     let most : max c.walk.meter.frames (length c.walk.frames.items + 1) ≡ c.max-meter.result =
     omega (arith, c.max-meter.ensures, c.len.ensures, c.push.new.self.ok.0, ap length pushed, longer) in
     let stands = λ (fs : List (Frame g.row.P-Kept.Denot)) (m : ℕ).
-    Walking (how g) (flatten f) (run g.P.Visitor.visits f s) (length (nodes_visited (how g) f s)) (nodes_open (how g) f s) fs
-    (c.walk.meter.entered + 1) m (c.walk.next + 1) 0 c.open.new.state in
+    Walking (how g) (flatten f) (whole (how g) f c.args.state.now) fs (c.walk.meter.entered + 1) m (c.walk.next + 1) 0 c.open.new.state in
     record {
       entries_are = c.entries-entries.ensures;
       walking = subst (λ m. stands c.push.new.self.items m) most
@@ -171,21 +152,17 @@ pub walk-preserved : goal.walk-preserved
 walk-preserved g c =
     let e = c.index-entries-next.result in
     let f = c.args.forest.now in
-    let s = c.args.state.now in
-    let o = Walking-open (how g) _ _ _ _ _ _ _ _ _ _ e _ c.entries-entries.ensures c.walk.invariant.walking c.in-None.ensures.not_over
-    (omega arith) c.index-entries-next.is in
-    let part = Opening-part (how g) _ _ _ _ _ _ _ _ _ _ e _ (c.walk.next + e.subtree_len - (c.walk.next + 1)) c.entries-entries.ensures
-    (omega arith) o in
-    let w = Opening-past (how g) _ _ _ _ _ _ _ _ _ _ _ e o _ part.is _ (c.innermost-parent.ensures ∙ ap (λ fs. innermost fs) (c.deref.ensures.value ∙ c.in-None.ensures.same))
+    let o = Walking-open c.walk.invariant.walking c.entries-entries.ensures c.in-None.ensures.not_over (omega arith) c.index-entries-next.is in
+    let part = Opening-part o (c.walk.next + e.subtree_len - (c.walk.next + 1)) c.entries-entries.ensures (omega arith) in
+    let w = Opening-past o part.is (given c.innermost-parent.ensures c.deref.ensures.value c.in-None.ensures.same)
     (c.in_ok-kept-in-None.ensures.ok ∙ ap (λ k. Some (way c.open.new.state k)) c.in-None-2.is) in
-    let stands = λ (fs : List (Frame g.row.P-Kept.Denot)).
-    Walking (how g) (flatten f) (run g.P.Visitor.visits f s) (length (nodes_visited (how g) f s)) (nodes_open (how g) f s) fs
-    (c.walk.meter.entered + 1) c.walk.meter.frames (c.walk.next + e.subtree_len) (c.walk.number + 1) c.open.new.state in
+    let stands = λ (fs : List (Frame g.row.P-Kept.Denot)). Walking (how g) (flatten f) (whole (how g) f c.args.state.now) fs (c.walk.meter.entered + 1)
+    c.walk.meter.frames (c.walk.next + e.subtree_len) (c.walk.number + 1) c.open.new.state in
     record {
       entries_are = c.entries-entries.ensures;
       walking = subst stands (sym c.in-None.ensures.same) w;
       numbered = omega (arith, c.walk.invariant.numbered, o.subtree_len);
-      within = omega (arith, Opening-end (how g) _ _ _ _ _ _ _ _ _ _ e o, ap length c.entries-entries.ensures);
+      within = omega (arith, Opening-end o, ap length c.entries-entries.ensures);
       visits = omega (arith, o.subtree_len);
       left = omega (arith, ap length c.in-None.ensures.same);
       probes = c.walk.invariant.probes;
@@ -193,13 +170,5 @@ walk-preserved g c =
 
 pub walk-smaller : goal.walk-smaller
 walk-smaller g c =
-    let e = c.index-entries-next.result in
-    let o = Walking-open (how g) _ _ _ _ _ _ _ _ _ _ e _ c.entries-entries.ensures c.walk.invariant.walking c.in-None.ensures.not_over
-    (omega arith) c.index-entries-next.is in
-    omega (
-      arith,
-      Opening-end (how g) _ _ _ _ _ _ _ _ _ _ e o,
-      ap length c.entries-entries.ensures,
-      o.subtree_len,
-      ap length c.in-None.ensures.same,
-    )
+    let o = Walking-open c.walk.invariant.walking c.entries-entries.ensures c.in-None.ensures.not_over (omega arith) c.index-entries-next.is in
+    omega (arith, Opening-end o, ap length c.entries-entries.ensures, o.subtree_len, ap length c.in-None.ensures.same)

@@ -1,7 +1,6 @@
 use Rattle.std.proofs.Common.{◌≡◌, ◌+◌, ◌-◌, ◌*◌, ◌≤◌, length}
-use Rattle.html_render_layout_nodes.specs.Visitor.{run}
 use Rattle.html_render_layout_nodes.specs.Preorder.{flatten}
-use Rattle.html_render_layout_nodes.proofs.Walking.{Walking, How, nodes_visited, nodes_open}
+use Rattle.html_render_layout_nodes.proofs.Walking.{Walking, How, whole}
 use Rattle.html_render_layout_nodes.proofs.visitor.walk.Given as goal
 
 -- the visitor that the walk calls
@@ -13,9 +12,7 @@ abbrev pub invariant-walk : goal.invariant-walk
 invariant-walk g l =
     record {
       entries_are : l.entries ≡ flatten l.forest;
-      walking : Walking (how g) (flatten l.forest) (run g.P.Visitor.visits l.forest l.fn.state)
-          (length (nodes_visited (how g) l.forest l.fn.state)) (nodes_open (how g) l.forest l.fn.state) l.frames.items l.meter.entered l.meter.frames l.next l.number
-          l.state;
+      walking : Walking (how g) (flatten l.forest) (whole (how g) l.forest l.fn.state) l.frames.items l.meter.entered l.meter.frames l.next l.number l.state;
       numbered : l.number ≤ l.next;
       within : l.next ≤ length l.entries;
       visits : l.meter.entered ≤ l.next;

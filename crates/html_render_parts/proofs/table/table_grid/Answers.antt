@@ -4,7 +4,7 @@ use Rattle.html_render_parts.specs.Placement.{lists, placed_rows}
 use Rattle.html_render_parts.specs.Grid.{edges_of, numbered}
 use Rattle.html_render_parts.proofs.EdgeRanks.{rank-least, rank-less}
 use Rattle.html_render_parts.proofs.EdgesOfCells.{edge-is, is-edge}
-use Rattle.html_render_parts.proofs.GridMade.{grid-parts, made, refused}
+use Rattle.html_render_parts.proofs.GridMade.{made, refused}
 use Rattle.html_render_parts.proofs.SideBySide.{are-ordered, fit-columns, have-columns, stand-side_by_side}
 use Rattle.html_render_parts.proofs.table.table_grid.Goals as goal
 
@@ -19,38 +19,23 @@ numbered_rows-requires-clause-ordered c =
     let done = made rows _ c.in_ok-placed.ensures.ok in
     rw (c.deref-3.ensures.value, done.0) (are-ordered rows c.requires)
 
-pub returns-clause-ok : goal.returns-clause-ok
-returns-clause-ok c =
+pub returns : goal.returns
+returns c =
     let rows = lists c.args.rows.now in
+    let placed = placed_rows rows in
     let done = made rows _ c.in_ok-placed.ensures.ok in
-    let edges : c.in_ok-edges.edges.items ≡ edges_of (placed_rows rows) =
+    let edges : c.in_ok-edges.edges.items ≡ edges_of placed =
     c.in_ok-edges.ensures.edges ∙ ap (λ x. edges_of (lists x)) c.deref.ensures.value ∙ ap edges_of done.0 in
-    let cells : lists c.in_ok-rows.rows.items ≡ map (map (numbered (edges_of (placed_rows rows)))) (placed_rows rows) =
+    let cells : lists c.in_ok-rows.rows.items ≡ map (map (numbered (edges_of placed))) placed =
     rw (c.deref-2.ensures.value, edges, c.deref-3.ensures.value, done.0) at c.in_ok-rows.ensures in
-    rw (edges, cells) done.1
-
-pub returns-clause-side_by_side : goal.returns-clause-side_by_side
-returns-clause-side_by_side c =
-    let rows = lists c.args.rows.now in rw (grid-parts rows _ (returns-clause-ok c)).1 (stand-side_by_side rows c.requires)
-
-pub returns-clause-columns : goal.returns-clause-columns
-returns-clause-columns c = let rows = lists c.args.rows.now in rw (grid-parts rows _ (returns-clause-ok c)).1 (have-columns rows c.requires)
-
-pub returns-clause-in_table : goal.returns-clause-in_table
-returns-clause-in_table c =
-    let rows = lists c.args.rows.now in
-    let parts = grid-parts rows _ (returns-clause-ok c) in
-    rw (parts.0, parts.1) (fit-columns rows c.requires)
-
-pub returns-clause-edges : goal.returns-clause-edges
-returns-clause-edges c =
-    let rows = lists c.args.rows.now in
-    let parts = grid-parts rows _ (returns-clause-ok c) in
-    let es = edges_of (placed_rows rows) in
-    rw (parts.0, parts.1) (λ e. (edge-is es (placed_rows rows) e, is-edge es (placed_rows rows) e))
-
-pub returns-clause-numbering : goal.returns-clause-numbering
-returns-clause-numbering c = λ a b in_a in_b less. rank-less c.in_ok-edges.edges.items a b in_a less
-
-pub returns-clause-least : goal.returns-clause-least
-returns-clause-least c = rank-least c.in_ok-edges.edges.items c.in_ok-edges.ensures.rising
+    record {
+      ok = rw (edges, cells) done.1;
+      err = tt;
+      side_by_side = rw cells (stand-side_by_side rows c.requires);
+      columns = rw cells (have-columns rows c.requires);
+      in_table = rw (edges, cells) (fit-columns rows c.requires);
+      edges = rw (edges, cells) (λ e. (edge-is (edges_of placed) placed e, is-edge (edges_of placed) placed e));
+      rising = c.in_ok-edges.ensures.rising;
+      numbering = λ a b in_a in_b less. rank-less c.in_ok-edges.edges.items a b in_a less;
+      least = rank-least c.in_ok-edges.edges.items c.in_ok-edges.ensures.rising;
+    }

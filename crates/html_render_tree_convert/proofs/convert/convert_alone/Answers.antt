@@ -3,7 +3,7 @@ use Rattle.std.proofs.lemmas.Result.{on_ok_weaker}
 use Rattle.html_render_parts.specs.Refusal.{Fails}
 use Rattle.html_render_tree_convert.specs.Events.{element_events, nothing_inside}
 use Rattle.html_render_tree_convert.specs.Steps.{closed, run}
-use Rattle.html_render_tree_convert.specs.Walk.{first_pick}
+use Rattle.html_render_tree_convert.specs.Visits.{first_pick}
 use Rattle.html_render_tree_convert.proofs.VisitRuns.{alone-run, before_end, unparted}
 use Rattle.html_render_tree_convert.proofs.convert.convert_alone.Goals as goal
 use Rattle.html_render_tree_convert.proofs.convert.convert_alone.Goals.{After-close, in-Captions+in_ok-part, in_default}

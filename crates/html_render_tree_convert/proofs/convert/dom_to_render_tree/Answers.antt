@@ -1,7 +1,7 @@
 use Rattle.std.proofs.Common.{ap, Some, sym, ◌∙◌, map}
 use Rattle.html_render_dom_styles.specs.Rules.{rule_of}
 use Rattle.html_render_parts.specs.laws.Refusal.{Fails-same}
-use Rattle.html_render_tree_mapping.specs.Results.{render_tree_of}
+use Rattle.html_render_tree_convert.specs.Results.{render_tree_of}
 use Rattle.html_render_tree_convert.proofs.Running.{documents_convert}
 use Rattle.html_render_tree_convert.proofs.VisitRuns.{Written, fails-handed, fails-tree, written}
 use Rattle.html_render_tree_convert.proofs.convert.dom_to_render_tree.Goals as goal

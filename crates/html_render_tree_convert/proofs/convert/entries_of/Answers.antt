@@ -4,10 +4,11 @@ use Rattle.std.proofs.lemmas.Result.{IfErr-weaker, IfOk-weaker}
 use Rattle.html_render_dom_styles.specs.Rules.{rule_of}
 use Rattle.html_render_dom.specs.Dom.{IsNode, tree_of}
 use Rattle.html_render_parts.specs.laws.Refusal.{Fails-same}
-use Rattle.html_render_tree_mapping.specs.Plans.{plan_at}
-use Rattle.html_render_tree_convert.specs.Walk.{coming, followed}
-use Rattle.html_render_tree_convert.specs.declared.cursor.Position.{Position}
-use Rattle.html_render_tree_convert.specs.declared.cursor.Visit.TheVariants.{Node}
+use Rattle.html_render_tree_convert.specs.Plans.{plan_at}
+use Rattle.html_render_tree_convert.specs.Visits.{followed}
+use Rattle.html_render_tree_walk.specs.Walk.{coming}
+use Rattle.html_render_tree_walk.specs.declared.cursor.Position.{Position}
+use Rattle.html_render_tree_walk.specs.declared.cursor.Visit.TheVariants.{Node}
 use Rattle.html_render_tree_convert.proofs.VisitRuns.{ended, fails-whole, followed-nodes, goes-on, one_left, starts, visits-close, visits-node}
 use Rattle.html_render_tree_convert.proofs.VisitsLeft.{node-less, work}
 use Rattle.html_render_tree_convert.proofs.convert.entries_of.Goals as goal

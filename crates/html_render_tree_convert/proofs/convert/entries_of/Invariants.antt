@@ -1,7 +1,7 @@
 use Rattle.std.proofs.Common.{◌≡◌, All, map}
 use Rattle.html_render_dom_styles.specs.Rules.{rule_of}
 use Rattle.html_render_dom.specs.Dom.{IsNode}
-use Rattle.html_render_tree_convert.specs.Walk.{coming}
+use Rattle.html_render_tree_walk.specs.Walk.{coming}
 use Rattle.html_render_tree_convert.proofs.VisitRuns.{rest_run, whole_run}
 use Rattle.html_render_tree_convert.proofs.VisitsLeft.{work}
 use Rattle.html_render_tree_convert.proofs.convert.entries_of.Given as goal

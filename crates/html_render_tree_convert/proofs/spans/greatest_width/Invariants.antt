@@ -1,5 +1,5 @@
 use Rattle.std.proofs.Common.{◌≡◌, ◌+◌, ◌<◌, ◌^◌, drop, max}
-use Rattle.html_render_tree_mapping.specs.Tables.{greatest_width}
+use Rattle.html_render_tree_convert.specs.Tables.{greatest_width}
 use Rattle.html_render_tree_convert.proofs.spans.greatest_width.Given as goal
 
 -- the greatest so far, with those of the rows that are left

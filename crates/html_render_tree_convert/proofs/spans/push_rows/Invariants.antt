@@ -1,6 +1,6 @@
 use Rattle.std.proofs.Common.{◌≡◌, ◌++◌, take}
 use Rattle.html_render_parts.specs.Placement.{lists}
-use Rattle.html_render_tree_mapping.specs.Tables.{spanned_in}
+use Rattle.html_render_tree_convert.specs.Tables.{spanned_in}
 use Rattle.html_render_tree_convert.proofs.spans.push_rows.Given as goal
 
 -- the rows so far

@@ -1,5 +1,5 @@
 use Rattle.std.proofs.Common.{◌≡◌, ◌≤◌, ◌*◌, take}
-use Rattle.html_render_tree_mapping.specs.Tables.{width_of}
+use Rattle.html_render_tree_convert.specs.Tables.{width_of}
 use Rattle.html_render_tree_convert.proofs.spans.width_of.Given as goal
 
 -- the cells so far, each of which asks for fewer than 2 ^ 64 columns

@@ -1,17 +1,16 @@
-use Rattle.std.proofs.Common.{rules, ◌≡◌, ◌<◌, List, length, ap, ◌∙◌, arith}
-use Rattle.std.proofs.lemmas.Bool.Decides.{nat_tests}
+use Rattle.std.proofs.Common.{◌≡◌, List, length, ap, ◌∙◌, arith}
 use Rattle.std.proofs.lemmas.Result.{on_ok_weaker, IfErr-weaker}
 use Rattle.std.specs.Str.{chars}
 use Rattle.html_render_layout_lines.specs.TaggedText.{under}
 use Rattle.html_render_layout_lines.specs.Line.{Line}
 use Rattle.html_render_layout_buffer.specs.Marked.{marked_behind}
 use Rattle.html_render_layout_pictures.specs.laws.Heights.{marked_behind-length}
-use Rattle.html_render_layout_blocks.proofs.Appending.{moved_put, refused-mapped}
+use Rattle.html_render_layout_blocks.proofs.Appending.{moved_put, refused-mapped, some_lines}
 use Rattle.html_render_layout_blocks.proofs.block.Block.append_lines.Goals as goal
 
 pub returns-clause-ok : goal.returns-clause-ok
 returns-clause-ok g c =
-    let h : 0 < length c.args.lines.now = first_of (search rules, grind (arith, nat_tests)) in
+    let h = some_lines c.args.lines.now _ c.is_empty.ensures c.if-is_empty.false in
     on_ok_weaker c.move_lines.result
     (λ e. moved_put c.args.self.now c.take_waiting-waiting.new.self (under c.args.tag (chars c.args.first.now)) (under c.args.tag (chars c.args.later.now))
     _ _ c.args.lines.now c.mark_last.new.self c.args.end.now c.as_slice.result.now h c.in_ok-mark_last.ensures
@@ -21,7 +20,7 @@ returns-clause-ok g c =
 
 pub returns-clause-err : goal.returns-clause-err
 returns-clause-err g c =
-    let h : 0 < length c.args.lines.now = first_of (search rules, grind (arith, nat_tests)) in
+    let h = some_lines c.args.lines.now _ c.is_empty.ensures c.if-is_empty.false in
     IfErr-weaker c.move_lines.result _ _
     (λ e k. refused-mapped e _ _ _
     (moved_put c.args.self.now c.take_waiting-waiting.new.self (under c.args.tag (chars c.args.first.now)) (under c.args.tag (chars c.args.later.now))
@@ -32,7 +31,7 @@ returns-clause-err g c =
 
 pub move_lines-requires : goal.move_lines-requires
 move_lines-requires g c =
-    let h : 0 < length c.args.lines.now = first_of (search rules, grind (arith, nat_tests)) in
+    let h = some_lines c.args.lines.now _ c.is_empty.ensures c.if-is_empty.false in
     let count : length c.mark_last.new.self ≡ length (marked_behind c.args.end.now c.args.lines.now) =
     ap (λ (ls : List (Line g.row.T.Denot g.row.M.Denot)). length ls) c.in_ok-mark_last.ensures in
     omega (arith, h, count, marked_behind-length c.args.end.now c.args.lines.now)

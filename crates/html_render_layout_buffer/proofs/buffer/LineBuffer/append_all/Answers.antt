@@ -1,7 +1,4 @@
-use Rattle.std.proofs.Common.{subst}
-use Rattle.std.specs.String.{string_bytes}
-use Rattle.html_render_layout_buffer.specs.Fields.{IsStored}
-use Rattle.html_render_layout_buffer.proofs.Stored.{made, is-stored, opened, appended-to, ends-within, start-is, slot-start-is}
+use Rattle.html_render_layout_buffer.proofs.Stored.{made, is-stored, opened, closed, appended-to, ends-within, start-is, slot-start-is}
 use Rattle.html_render_layout_buffer.proofs.buffer.LineBuffer.append_all.Goals as goal
 
 pub put_all-put-requires-clause-text : goal.put_all-put-requires-clause-text
@@ -12,34 +9,16 @@ put_all-put-requires-clause-slots g c = λ k d h. (ends-within _ _ _ _ c.other.i
 
 pub invariant_of-self : goal.invariant_of-self
 invariant_of-self g c =
-    let was = opened _ _ c.self.invariant c.self.view_is in
-    let none = subst (λ l. IsStored (record {
-      text = string_bytes c.self.inside.text;
-      slots = c.self.inside.slots;
-      ends = c.self.inside.ends.items;
-      start = c.self.inside.start;
-      slot_start = c.self.inside.slot_start;
-      columns = c.self.inside.columns;
-    }) c.args.self.now.lines l) c.requires was in
+    let was = closed _ _ c.self.invariant c.self.view_is c.requires in
     let other = opened _ _ c.other.invariant c.other.view_is in
-    let slot_start = slot-start-is _ _ _ _ c.other.inside.slot_start c.len.ensures c.len-in-Ok.ensures in
-    let lines = appended-to _ _ _ _ _ _ _ _ _ _ _ _ none other c.in-Ok.ensures.text c.as_str-text.ensures.value c.in-Ok.ensures.slots
-    c.in-Ok.ensures.ends c.as_slice.ensures.value (start-is _ _ _ _ c.as_str.ensures.value) slot_start in
-    is-stored _ _ _ lines
+    is-stored _ _ _ (appended-to _ _ _ _ _ _ _ _ _ _ _ _ was other c.in-Ok.ensures.text c.as_str-text.ensures.value c.in-Ok.ensures.slots
+    c.in-Ok.ensures.ends c.as_slice.ensures.value (start-is _ _ _ _ c.as_str.ensures.value)
+    (slot-start-is _ _ _ _ c.other.inside.slot_start c.len.ensures c.len-in-Ok.ensures))
 
 pub returns-in-Ok-clause-ok : goal.returns-in-Ok-clause-ok
 returns-in-Ok-clause-ok g c =
-    let was = opened _ _ c.self.invariant c.self.view_is in
-    let none = subst (λ l. IsStored (record {
-      text = string_bytes c.self.inside.text;
-      slots = c.self.inside.slots;
-      ends = c.self.inside.ends.items;
-      start = c.self.inside.start;
-      slot_start = c.self.inside.slot_start;
-      columns = c.self.inside.columns;
-    }) c.args.self.now.lines l) c.requires was in
+    let was = closed _ _ c.self.invariant c.self.view_is c.requires in
     let other = opened _ _ c.other.invariant c.other.view_is in
-    let slot_start = slot-start-is _ _ _ _ c.other.inside.slot_start c.len.ensures c.len-in-Ok.ensures in
-    let lines = appended-to _ _ _ _ _ _ _ _ _ _ _ _ none other c.in-Ok.ensures.text c.as_str-text.ensures.value c.in-Ok.ensures.slots
-    c.in-Ok.ensures.ends c.as_slice.ensures.value (start-is _ _ _ _ c.as_str.ensures.value) slot_start in
-    rw c.in-Ok.is (made _ _ _ lines)
+    rw c.in-Ok.is (made _ _ _ (appended-to _ _ _ _ _ _ _ _ _ _ _ _ was other c.in-Ok.ensures.text c.as_str-text.ensures.value c.in-Ok.ensures.slots
+    c.in-Ok.ensures.ends c.as_slice.ensures.value (start-is _ _ _ _ c.as_str.ensures.value)
+    (slot-start-is _ _ _ _ c.other.inside.slot_start c.len.ensures c.len-in-Ok.ensures)))

@@ -1,10 +1,18 @@
-use Rattle.std.proofs.Common.{◌≡◌, [], refl}
+use Rattle.std.proofs.Common.{◌++◌, [], ap, ◌∙◌}
+use Rattle.std.proofs.lemmas.Result.{on_ok_weaker}
 use Rattle.html_render_layout_lines.specs.Line.{marks_line}
-use Rattle.html_render_layout_buffer.proofs.Growing.{first-marked}
+use Rattle.html_render_layout_buffer.specs.Pieces.{with_front}
+use Rattle.html_render_layout_buffer.proofs.Growing.{front-copied}
+use Rattle.html_render_layout_buffer.proofs.PieceLines.{front-marks}
 use Rattle.html_render_layout_buffer.proofs.buffer.LineBuffer.append_marked.Goals as goal
 
 pub returns : goal.returns
 returns g c =
-    let marks : c.push_marks.new.self ≡ record { lines = []; line = marks_line c.args.marks.now } = rw (c.in_ok-push_marks.ensures.ok, c.requires.open) refl in
-    first-marked c.push_marks.new.self c.append_line.new.self c.end_line.new.self c.append_rest.new.self c.args.marks.now c.args.other.now.lines
-    c.requires.some marks c.in_ok-append_line.ensures.ok c.in_ok-end_line.ensures.ok c.in_ok-append_rest.ensures
+    let ms = c.args.marks.now in
+    let ls = c.args.other.now.lines in
+    on_ok_weaker c.append_rest.result
+    (λ e. front-copied c.args.self.now c.push_marks.new.self c.append_ended.new.self c.append_rest.new.self (marks_line ms) ls
+    c.requires.some c.in_ok-push_marks.ensures.ok (ap (λ b. b.line) c.requires.open) c.in_ok-append_ended.ensures.ok e
+    ∙ ap (λ b. record { lines = b.lines ++ with_front (marks_line ms) ls; line = [] }) c.requires.open
+    ∙ ap (λ y. record { lines = y; line = [] }) (front-marks ms ls))
+    c.append_rest.ensures

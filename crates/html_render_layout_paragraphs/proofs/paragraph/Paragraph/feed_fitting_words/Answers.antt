@@ -1,18 +1,18 @@
 use Rattle.std.proofs.Common.{◌≡◌, ◌-◌, get_or, take, drop, sym, ap, ◌∙◌, arith}
+use Rattle.std.proofs.lemmas.Str.{IsCharBoundary-after_ascii}
 use Rattle.std.specs.Str.{chars}
 use Rattle.html_render_layout_paragraphs.specs.Feeding.{with_words}
 use Rattle.html_render_layout_paragraphs.specs.Stream.{after, styled}
-use Rattle.html_render_layout_paragraphs.proofs.Letters.{boundary-space}
 use Rattle.html_render_layout_paragraphs.proofs.SpacedWords.{no-words, put-words}
 use Rattle.html_render_layout_paragraphs.proofs.paragraph.Paragraph.feed_fitting_words.Goals as goal
 
 pub range_from-requires : goal.range_from-requires
-range_from-requires g c = λ _. boundary-space c.args.text.now 0 c.utf8.text c.requires.some c.requires.byte
+range_from-requires g c = λ _. IsCharBoundary-after_ascii c.args.text.now 0 c.utf8.text c.requires.some c.requires.byte
 
 pub range_from-requires-2 : goal.range_from-requires-2
 range_from-requires-2 g c =
     let words = c.fitting_words-words in
-    λ _. boundary-space c.args.text.now words.result.bytes c.utf8.text words.ensures.within words.ensures.byte
+    λ _. IsCharBoundary-after_ascii c.args.text.now words.result.bytes c.utf8.text words.ensures.within words.ensures.byte
 
 pub returns-clause-ok : goal.returns-clause-ok
 returns-clause-ok g c =

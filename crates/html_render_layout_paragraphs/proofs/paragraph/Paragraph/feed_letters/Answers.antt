@@ -1,4 +1,4 @@
-use Rattle.std.proofs.Common.{◌≡◌, ◌-◌, take, drop, ap, ◌∙◌, arith, option_and_then}
+use Rattle.std.proofs.Common.{drop, ap, ◌∙◌, option_and_then}
 use Rattle.std.proofs.lemmas.Result.{err_from_is_err_and}
 use Rattle.std.specs.Str.{chars}
 use Rattle.html_render_dom_values.specs.laws.Outcome.{Refuses-then, Refuses-same}
@@ -10,19 +10,15 @@ pub returns-clause-ok : goal.returns-clause-ok
 returns-clause-ok g c =
     let text = c.args.text.now in
     let n = c.args.letters.bytes in
-    let front = after-front c.args.self.now c.args.style text n c.args.letters.columns c.utf8.text c.requires.letters c.requires.some in
-    let whole : n - 0 ≡ n = omega arith in
-    let letters : c.range.result.now ≡ take n text = c.range.ensures.value ∙ ap (λ k. take k text) whole in
-    let done = rw letters at c.in_ok-add_letters.ensures.ok in
-    rw c.range_from.ensures.value (front ∙ ap (option_and_then (λ t. after t (styled c.args.style (chars (drop n text))))) done)
+    let front = after-front c.args.self.now c.args.style text c.range.result.now n c.args.letters.columns c.utf8.text c.requires.letters c.requires.some
+    c.range.ensures.value in
+    rw c.range_from.ensures.value (front ∙ ap (option_and_then (λ t. after t (styled c.args.style (chars (drop n text))))) c.in_ok-add_letters.ensures.ok)
 
 pub returns-in_err-add_letters-clause-err : goal.returns-in_err-add_letters-clause-err
 returns-in_err-add_letters-clause-err g c =
     let text = c.args.text.now in
     let n = c.args.letters.bytes in
-    let front = after-front c.args.self.now c.args.style text n c.args.letters.columns c.utf8.text c.requires.letters c.requires.some in
-    let whole : n - 0 ≡ n = omega arith in
-    let letters : c.range.result.now ≡ take n text = c.range.ensures.value ∙ ap (λ k. take k text) whole in
-    let refused = rw letters at c.in_err-add_letters.ensures.err in
+    let front = after-front c.args.self.now c.args.style text c.range.result.now n c.args.letters.columns c.utf8.text c.requires.letters c.requires.some
+    c.range.ensures.value in
     let p = err_from_is_err_and c.from_residual.result c.from_residual.ensures.1 in
-    rw (p.1, p.2) (Refuses-same _ _ _ front (Refuses-then _ (letters_step c.args.self.now c.args.style (chars (take n text))) _ refused))
+    rw (p.1, p.2) (Refuses-same _ _ _ front (Refuses-then _ (letters_step c.args.self.now c.args.style (chars c.range.result.now)) _ c.in_err-add_letters.ensures.err))

@@ -1,4 +1,4 @@
-use Rattle.std.proofs.Common.{◌≡◌, ◌+◌, ◌-◌, get_or, take, drop, Some, ap, sym, ◌∙◌, arith, option_and_then}
+use Rattle.std.proofs.Common.{◌≡◌, ◌+◌, get_or, drop, Some, ap, sym, ◌∙◌, arith, option_and_then}
 use Rattle.std.proofs.lemmas.List.{drop-drop, get_or-drop}
 use Rattle.std.proofs.lemmas.Result.{err_from_is_err_and}
 use Rattle.std.specs.Str.{chars}
@@ -38,13 +38,10 @@ pub returns-clause-ok : goal.returns-clause-ok
 returns-clause-ok g c =
     let text = c.args.text.now in
     let n = c.args.letters.bytes in
-    let front = after-word c.args.self.now c.args.style text n c.args.letters.columns c.utf8.text c.requires.mode c.requires.letters
-    c.requires.some
-    c.requires.within c.requires.byte c.requires.space c.requires.closed c.requires.word in
-    let whole : n - 0 ≡ n = omega arith in
-    let letters : c.range.result.now ≡ take n text = c.range.ensures.value ∙ ap (λ k. take k text) whole in
+    let front = after-word c.args.self.now c.args.style text c.range.result.now n c.args.letters.columns c.utf8.text c.requires.mode c.requires.letters
+    c.requires.some c.requires.within c.requires.byte c.requires.space c.requires.closed c.requires.word c.range.ensures.value in
     let space : c.from-space.result ≡ get_or text n 0 = c.from-space.ensures ∙ ap (λ t. get_or t n 0) c.as_bytes.ensures.value in
-    let done = rw (letters, space) at c.in_ok-add_word.ensures.ok in
+    let done = rw space at c.in_ok-add_word.ensures.ok in
     let rest : drop (n + 1) text ≡ drop 1 c.range_from.result.now = sym (ap (drop 1) c.range_from.ensures.value ∙ drop-drop 1 n text) in
     front ∙ ap (option_and_then (λ t. after t (styled c.args.style (chars (drop (n + 1) text))))) done
     ∙ ap (λ r. after c.add_word.new.self (styled c.args.style (chars r))) rest ∙ c.in_ok-feed_fitting_words.ensures.ok
@@ -53,13 +50,10 @@ pub returns-in_err-add_word-clause-err : goal.returns-in_err-add_word-clause-err
 returns-in_err-add_word-clause-err g c =
     let text = c.args.text.now in
     let n = c.args.letters.bytes in
-    let front = after-word c.args.self.now c.args.style text n c.args.letters.columns c.utf8.text c.requires.mode c.requires.letters
-    c.requires.some
-    c.requires.within c.requires.byte c.requires.space c.requires.closed c.requires.word in
-    let whole : n - 0 ≡ n = omega arith in
-    let letters : c.range.result.now ≡ take n text = c.range.ensures.value ∙ ap (λ k. take k text) whole in
+    let front = after-word c.args.self.now c.args.style text c.range.result.now n c.args.letters.columns c.utf8.text c.requires.mode c.requires.letters
+    c.requires.some c.requires.within c.requires.byte c.requires.space c.requires.closed c.requires.word c.range.ensures.value in
     let space : c.from-space.result ≡ get_or text n 0 = c.from-space.ensures ∙ ap (λ t. get_or t n 0) c.as_bytes.ensures.value in
-    let refused = rw (letters, space) at c.in_err-add_word.ensures.err in
+    let refused = rw space at c.in_err-add_word.ensures.err in
     let p = err_from_is_err_and c.from_residual.result c.from_residual.ensures.1 in
     rw (p.1, p.2) (Refuses-same _ _ _ front
-    (Refuses-then _ (placed_text_and_space c.args.self.now c.args.style (chars (take n text)) (get_or text n 0)) _ refused))
+    (Refuses-then _ (placed_text_and_space c.args.self.now c.args.style (chars c.range.result.now) (get_or text n 0)) _ refused))

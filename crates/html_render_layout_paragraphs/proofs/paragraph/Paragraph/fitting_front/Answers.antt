@@ -1,4 +1,4 @@
-use Rattle.html_render_layout_paragraphs.proofs.Fronts.{no-front}
+use Rattle.html_render_layout_paragraphs.proofs.SpacedWords.{no-front}
 use Rattle.html_render_layout_paragraphs.proofs.paragraph.Paragraph.fitting_front.Goals as goal
 
 pub returns-in_default-clause-front : goal.returns-in_default-clause-front

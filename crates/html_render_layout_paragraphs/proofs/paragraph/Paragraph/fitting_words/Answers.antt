@@ -1,8 +1,7 @@
 use Rattle.std.proofs.Common.{◌≡◌, ◌+◌, ◌<◌, drop, get_or, refl, sym, ap, ◌∙◌, arith}
+use Rattle.std.proofs.lemmas.Str.{IsCharBoundary-after_ascii}
 use Rattle.html_render_layout_paragraphs.specs.Feeding.{AreLetters}
-use Rattle.html_render_layout_paragraphs.proofs.Fronts.{no-front}
-use Rattle.html_render_layout_paragraphs.proofs.Letters.{boundary-space}
-use Rattle.html_render_layout_paragraphs.proofs.SpacedWords.{next-words, next-fed}
+use Rattle.html_render_layout_paragraphs.proofs.SpacedWords.{no-front, next-words, next-fed}
 use Rattle.html_render_layout_paragraphs.proofs.paragraph.Paragraph.fitting_words.Goals as goal
 
 pub loop-bytes-init : goal.loop-bytes-init
@@ -16,7 +15,7 @@ loop-bytes-init g c = record {
 }
 
 pub range_from-requires : goal.range_from-requires
-range_from-requires g c = λ _. boundary-space c.args.text.now c.loop-bytes.bytes c.utf8.text c.loop-bytes.invariant.within c.loop-bytes.invariant.byte
+range_from-requires g c = λ _. IsCharBoundary-after_ascii c.args.text.now c.loop-bytes.bytes c.utf8.text c.loop-bytes.invariant.within c.loop-bytes.invariant.byte
 
 pub loop-bytes-preserved : goal.loop-bytes-preserved
 loop-bytes-preserved g c =

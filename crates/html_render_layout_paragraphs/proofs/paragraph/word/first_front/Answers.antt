@@ -1,6 +1,6 @@
 use Rattle.std.proofs.Common.{◌≡◌, ◌+◌, ◌-◌, length, subst, arith}
 use Rattle.html_render_layout_paragraphs.specs.Feeding.{IsFront}
-use Rattle.html_render_layout_paragraphs.proofs.Fronts.{no-front, next-front}
+use Rattle.html_render_layout_paragraphs.proofs.SpacedWords.{no-front, next-front}
 use Rattle.html_render_layout_paragraphs.proofs.paragraph.word.first_front.Goals as goal
 
 pub returns-then-width-room-clause-front : goal.returns-then-width-room-clause-front

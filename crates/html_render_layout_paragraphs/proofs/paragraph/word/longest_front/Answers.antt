@@ -1,5 +1,5 @@
 use Rattle.std.proofs.Common.{arith}
-use Rattle.html_render_layout_paragraphs.proofs.Fronts.{no-front, more-front}
+use Rattle.html_render_layout_paragraphs.proofs.SpacedWords.{no-front, more-front}
 use Rattle.html_render_layout_paragraphs.proofs.paragraph.word.longest_front.Goals as goal
 
 pub loop-bytes-init : goal.loop-bytes-init

@@ -2,7 +2,7 @@ use Rattle.std.proofs.Common.{◌≤◌, sym, ap, ◌∙◌, length, arith}
 use Rattle.std.proofs.lemmas.List.{take-take, length-take}
 use Rattle.std.specs.List.{list_all}
 use Rattle.html_render_layout_lines.specs.Character.{is_plain}
-use Rattle.html_render_layout_paragraphs.proofs.Fronts.{plain-front}
+use Rattle.html_render_layout_paragraphs.proofs.SpacedWords.{plain-front}
 use Rattle.html_render_layout_paragraphs.proofs.paragraph.word.plain_front.Goals as goal
 
 pub returns-clause-front : goal.returns-clause-front

@@ -1,12 +1,28 @@
-use Rattle.std.proofs.Common.{◌≡◌, ◌+◌, ◌++◌, ◌∷◌, [], drop, length, ap, ◌∙◌, subst, refl, sym, append_assoc}
+use Rattle.std.proofs.Common.{◌≡◌, Contains, ◌+◌, ◌++◌, ◌∷◌, [], drop, length, ap, ◌∙◌, subst, refl, sym, append_assoc}
+use Rattle.std.proofs.lemmas.List.Elements.{All-nil}
 use Rattle.std.proofs.lemmas.List.{append-nil, drop_all, length-append, map_push}
-use Rattle.html_render_parts.specs.Placement.{lists, own_from, own_rows_from, placed_rows, row_from, rows_from}
+use Rattle.html_render_parts.specs.Placement.{bottom_rows, lists, own_from, own_rows_from, placed_rows, rising, row_from, rows_from}
+use Rattle.html_render_parts.specs.Grid.{ends, positions_fit}
 use Rattle.html_render_parts.specs.PlacementSteps.{Placing, row_told}
 use Rattle.html_render_parts.specs.SimpleRows.{own_or_simple, own_with_simple}
-use Rattle.html_render_parts.proofs.GatheringEnds.{IsGathered, gathered-bottom, gathered-next}
+use Rattle.html_render_parts.proofs.EdgeRanks.{Contains-here}
+use Rattle.html_render_parts.proofs.GatheringEnds.{Between, IsGathered, gathered-bottom, gathered-next}
 use Rattle.html_render_parts.proofs.RowAfterRow.{IsNext}
 use Rattle.html_render_parts.proofs.Vectors.{lists-drop}
 use Rattle.html_render_parts.proofs.table.cells.place_cells.Goals as goal
+
+pub loop-row-init : goal.loop-row-init
+loop-row-init c = rw (c.new-placer.ensures, c.in_ok-positions.ensures, c.in_ok-own.ensures.items) (record {
+  gathered = record {
+    fits = refl;
+    edges = refl;
+    in_order = refl;
+    zero = Contains-here 0 [];
+    between = All-nil (Between (Contains (0 ∷ [])));
+  };
+  own = λ rest e. e;
+  count = refl;
+})
 
 pub loop-row-preserved : goal.loop-row-preserved
 loop-row-preserved c =
@@ -47,11 +63,32 @@ loop-row-preserved c =
       count = ap length c.in_ok-push.ensures.items ∙ length-append c.loop-row.own.items (_ ∷ []) ∙ ap (λ n. n + 1) c.loop-row.invariant.count;
     }
 
+pub bottom-init : goal.bottom-init
+bottom-init c =
+    let rows = c.args.rows.now in
+    subst (λ rs. IsGathered (placed_rows (lists rows)) (rows_from c.loop-row.row c.loop-row.placer.hanging (lists rs)) c.loop-row.placer.hanging c.loop-row.positions)
+    (drop_all c.loop-row.row rows c.loop-row-test.false) c.loop-row.invariant.gathered
+
+pub bottom-smaller : goal.bottom-smaller
+bottom-smaller c = (rw c.if-branch.true at c.in_ok-place_bottom_row.ensures.ok).fewer
+
 pub bottom-preserved : goal.bottom-preserved
 bottom-preserved c =
     let is = rw c.if-branch.true at c.in_ok-place_bottom_row.ensures.ok in
     rw (c.in_ok-add.ensures, c.told.ensures)
     (gathered-bottom (placed_rows (lists c.args.rows.now)) c.bottom.placer c.place_bottom_row.new.self c.bottom.positions is c.bottom.invariant)
+
+pub returns-clause-fits : goal.returns-clause-fits
+returns-clause-fits c =
+    let over = rw c.if-branch.false at c.in_ok-place_bottom_row.ensures.ok in
+    c.bottom.invariant.fits ∙ ap (λ hs. positions_fit (bottom_rows hs)) over.0
+
+pub returns-clause-edges : goal.returns-clause-edges
+returns-clause-edges c =
+    let over = rw c.if-branch.false at c.in_ok-place_bottom_row.ensures.ok in
+    let was = c.bottom.invariant in
+    c.in_ok-edges.ensures ∙ sym was.in_order ∙ ap rising (sym (append-nil c.bottom.positions))
+    ∙ ap (λ hs. rising (c.bottom.positions ++ ends (bottom_rows hs))) (sym over.0) ∙ was.edges
 
 pub returns-clause-own : goal.returns-clause-own
 returns-clause-own c =

@@ -1,7 +1,7 @@
 use Rattle.std.proofs.Common.{Some, sym, ap, subst, ◌∙◌, reverse, arith}
 use Rattle.html_render_parts.specs.Refusal.{Fails}
 use Rattle.html_render_tree_convert.specs.Steps.{closed_once}
-use Rattle.html_render_tree_convert.proofs.ClosingElements.{ClosedOnce, closed-few, closed-innermost, fails-innermost}
+use Rattle.html_render_tree_convert.proofs.SeenLemmas.{ClosedOnce, closed-few, closed-innermost, fails-innermost}
 use Rattle.html_render_tree_convert.proofs.conversion.Conversion.close_once.Goals as goal
 use Rattle.html_render_tree_convert.proofs.conversion.Conversion.close_once.Goals.{In_default}
 

@@ -1,14 +1,14 @@
 use Rattle.std.proofs.Common.{◌≡◌, [], ◌∷◌, ◌++◌, false, ap, ◌∙◌}
 use Rattle.std.proofs.lemmas.Result.{on_ok_weaker}
 use Rattle.html_render_layout_nodes.specs.declared.tree.NodeKind.TheVariants.{FragmentStart, TableCell, Text}
-use Rattle.html_render_tree_mapping.specs.ElementTexts.{has_any}
-use Rattle.html_render_tree_mapping.specs.declared.mapping.IfEmpty.TheVariants.{Stands}
+use Rattle.html_render_tree_convert.specs.ElementTexts.{has_any}
+use Rattle.html_render_tree_convert.specs.declared.mapping.IfEmpty.TheVariants.{Stands}
 use Rattle.html_render_tree_convert.specs.Held.{Held, insertion_in}
 use Rattle.html_render_tree_convert.specs.OpenElements.{leaf, leaves, node_in, text_nodes}
-use Rattle.html_render_tree_convert.specs.Opening.{wrote}
+use Rattle.html_render_tree_convert.specs.Opening.{created, wrote}
 use Rattle.html_render_tree_convert.specs.Seen.{element_seen}
 use Rattle.html_render_tree_convert.specs.declared.elements.OpenKind.TheVariants.{Cell}
-use Rattle.html_render_tree_convert.proofs.OpeningLemmas.{cell-opens, created, own_front}
+use Rattle.html_render_tree_convert.proofs.OpeningLemmas.{cell-opens, own_front}
 use Rattle.html_render_tree_convert.proofs.conversion.Conversion.open_cell.Goals as goal
 
 pub returns-clause-ok : goal.returns-clause-ok

@@ -1,11 +1,12 @@
 use Rattle.std.proofs.Common.{[], ◌∷◌, false, ap, ◌∙◌}
 use Rattle.std.proofs.lemmas.Result.{on_ok_weaker}
 use Rattle.html_render_layout_nodes.specs.declared.tree.NodeKind.TheVariants.{TableCell}
-use Rattle.html_render_tree_mapping.specs.declared.mapping.IfEmpty.TheVariants.{Stands}
+use Rattle.html_render_tree_convert.specs.declared.mapping.IfEmpty.TheVariants.{Stands}
 use Rattle.html_render_tree_convert.specs.OpenElements.{leaf, node_in}
 use Rattle.html_render_tree_convert.specs.Seen.{element_seen}
 use Rattle.html_render_tree_convert.specs.declared.elements.OpenKind.TheVariants.{Cell}
-use Rattle.html_render_tree_convert.proofs.OpeningLemmas.{created, plain-cell-opens}
+use Rattle.html_render_tree_convert.specs.Opening.{created}
+use Rattle.html_render_tree_convert.proofs.OpeningLemmas.{plain-cell-opens}
 use Rattle.html_render_tree_convert.proofs.conversion.Conversion.open_plain_cell.Goals as goal
 
 pub returns-clause-ok : goal.returns-clause-ok

@@ -4,7 +4,8 @@ use Rattle.html_render_tree_convert.specs.Held.{insertion_in}
 use Rattle.html_render_tree_convert.specs.Seen.{element_seen}
 use Rattle.html_render_tree_convert.specs.declared.elements.Open.{Open}
 use Rattle.html_render_tree_convert.specs.declared.elements.OpenKind.TheVariants.{Rows}
-use Rattle.html_render_tree_convert.proofs.OpeningLemmas.{carried, created, rows-opened}
+use Rattle.html_render_tree_convert.specs.Opening.{created}
+use Rattle.html_render_tree_convert.proofs.OpeningLemmas.{carried, rows-opened}
 use Rattle.html_render_tree_convert.proofs.conversion.Conversion.open_rows.Goals as goal
 use Rattle.html_render_tree_convert.proofs.conversion.Conversion.open_rows.Goals.{After-begin_part}
 

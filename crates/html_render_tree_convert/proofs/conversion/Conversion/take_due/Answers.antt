@@ -1,7 +1,6 @@
 use Rattle.std.proofs.Common.{◌-◌, Bool, vec_len, set, refl, ap, sym, ◌∙◌, arith}
-use Rattle.html_render_tree_convert.specs.Opening.{Innermost}
 use Rattle.html_render_tree_convert.specs.Steps.{innermost, left_once, once}
-use Rattle.html_render_tree_convert.proofs.SeenLemmas.{Changed, becomes-emptied, changed-last, innermost-last}
+use Rattle.html_render_tree_convert.proofs.SeenLemmas.{Changed, becomes-emptied, changed-last}
 use Rattle.html_render_tree_convert.proofs.conversion.Conversion.take_due.Goals as goal
 use Rattle.html_render_tree_convert.proofs.conversion.Conversion.take_due.Goals.{In-Ok}
 
@@ -17,12 +16,6 @@ changed c =
 
 pub invariant_of-self-in-Ok : goal.invariant_of-self-in-Ok
 invariant_of-self-in-Ok c = (changed c).0
-
-top : (c : In-Ok) → Innermost c.in-Some.parent.now c.args.self.now
-top c =
-    let elements = c.self.inside.elements in
-    innermost-last elements.items elements.items (vec_len elements - 1) c.self.inside.tree.items c.in-Some.parent.now c.args.self.now refl
-    (omega (arith, c.in-Some.ensures.variant.0 refl, elements.ok.0)) c.in-Some.ensures.value c.self.view_is
 
 pub returns-in-Ok-clause-left : goal.returns-in-Ok-clause-left
 returns-in-Ok-clause-left c =

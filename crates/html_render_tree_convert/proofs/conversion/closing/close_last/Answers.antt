@@ -1,5 +1,5 @@
 use Rattle.std.proofs.Common.{◌-◌, vec_len, refl, arith}
-use Rattle.html_render_tree_convert.proofs.ClosingElements.{closed-last}
+use Rattle.html_render_tree_convert.proofs.SeenLemmas.{closed-last}
 use Rattle.html_render_tree_convert.proofs.conversion.closing.close_last.Goals as goal
 
 pub returns-clause-ok : goal.returns-clause-ok

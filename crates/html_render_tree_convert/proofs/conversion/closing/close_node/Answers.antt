@@ -1,7 +1,7 @@
 use Rattle.std.proofs.Common.{Bool, ◌++◌, if◌then◌else◌, take, drop, get_or, sym, ap, ◌∙◌}
 use Rattle.html_render_tree_convert.specs.OpenElements.{sized}
 use Rattle.html_render_tree_convert.specs.Seen.{meant}
-use Rattle.html_render_tree_convert.proofs.ClosingElements.{node-received}
+use Rattle.html_render_tree_convert.proofs.SeenLemmas.{node-received}
 use Rattle.html_render_tree_convert.proofs.conversion.closing.close_node.Goals as goal
 
 pub returns-then-branch-clause-ok : goal.returns-then-branch-clause-ok

@@ -1,5 +1,5 @@
 use Rattle.html_render_tree_convert.specs.Seen.{meant}
-use Rattle.html_render_tree_convert.proofs.ClosingElements.{node-standing}
+use Rattle.html_render_tree_convert.proofs.SeenLemmas.{node-standing}
 use Rattle.html_render_tree_convert.proofs.conversion.closing.close_part.Goals as goal
 
 pub returns-clause-ok : goal.returns-clause-ok

@@ -1,7 +1,7 @@
 use Rattle.std.proofs.Common.{◌||◌, sym, ap, ◌∙◌}
-use Rattle.html_render_tree_mapping.specs.Results.{Contents}
+use Rattle.html_render_tree_convert.specs.Results.{Contents}
 use Rattle.html_render_tree_convert.specs.Steps.{is_table, role_left}
-use Rattle.html_render_tree_convert.proofs.ClosingElements.{completed, node-standing}
+use Rattle.html_render_tree_convert.proofs.SeenLemmas.{completed, node-standing}
 use Rattle.html_render_tree_convert.proofs.conversion.closing.close_standing.Goals as goal
 
 pub returns-in-Node-clause-ok : goal.returns-in-Node-clause-ok

@@ -1,8 +1,6 @@
-use Rattle.std.proofs.Common.{◌≡◌, ◌+◌, ◌-◌, ◌++◌, take, length, sym, ap, ◌∙◌, arith}
-use Rattle.std.specs.Str.{chars}
+use Rattle.std.proofs.Common.{arith}
 use Rattle.std.proofs.lemmas.Str.{IsCharBoundary-from_drop}
-use Rattle.html_render_layout_lines.specs.TaggedText.{under}
-use Rattle.html_render_layout_buffer.proofs.PartLines.{characters-left, left-is, left-made, rest_after, rest-shorter}
+use Rattle.html_render_layout_buffer.proofs.PartLines.{characters-left}
 use Rattle.html_render_layout_buffer.proofs.buffer.parts.LineParts.take_characters.Goals as goal
 
 pub range-own-requires-clause-end_boundary : goal.range-own-requires-clause-end_boundary
@@ -15,35 +13,17 @@ range_from-self-inside-requires g c some =
 
 pub overflow_add-self : goal.overflow_add-self
 overflow_add-self g c =
-    let parts = characters-left c.self.inside.text.now c.self.inside.slots.now c.self.inside.from c.self.inside.to c.args.limit c.reach-count.result c.args.tag
-    c.args.self.now c.self.invariant c.self.view_is c.reach-count.ensures.count c.reach-count.ensures.front c.requires.tagged in
-    omega (arith, parts.3)
+    let left = (characters-left _ _ _ _ _ _ _ _ _ _ c.self.invariant c.self.view_is c.reach-count.ensures.count c.reach-count.ensures.front c.requires.tagged
+    c.requires.some c.range-own.ensures.value c.range_from-self-inside.ensures.value c.range_from-self-inside.utf8).left in
+    omega (arith, left.ordered)
 
 pub invariant_of-self : goal.invariant_of-self
 invariant_of-self g c =
-    let parts = characters-left c.self.inside.text.now c.self.inside.slots.now c.self.inside.from c.self.inside.to c.args.limit c.reach-count.result c.args.tag
-    c.args.self.now c.self.invariant c.self.view_is c.reach-count.ensures.count c.reach-count.ensures.front c.requires.tagged in
-    left-made _ _ _ _ (rest_after c.args.limit c.args.self.now) (c.range_from-self-inside.ensures.value ∙ parts.1) parts.2 c.range_from-self-inside.utf8 parts.3
-    c.self.invariant.within
+    (characters-left _ _ _ _ _ _ _ _ _ _ c.self.invariant c.self.view_is c.reach-count.ensures.count c.reach-count.ensures.front c.requires.tagged
+    c.requires.some c.range-own.ensures.value c.range_from-self-inside.ensures.value c.range_from-self-inside.utf8).left
 
-pub returns-clause-characters : goal.returns-clause-characters
-returns-clause-characters g c =
-    let parts = characters-left c.self.inside.text.now c.self.inside.slots.now c.self.inside.from c.self.inside.to c.args.limit c.reach-count.result c.args.tag
-    c.args.self.now c.self.invariant c.self.view_is c.reach-count.ensures.count c.reach-count.ensures.front c.requires.tagged in
-    let behind = rest_after c.args.limit c.args.self.now in
-    let n = c.reach-count.result in
-    let whole : n - 0 ≡ n = omega arith in
-    let own = c.range-own.ensures.value ∙ ap (λ k. take k c.self.inside.text.now) whole in
-    parts.0 ∙ ap (λ y. under c.args.tag (chars y) ++ behind) (sym own)
-    ∙ ap (λ y. under c.args.tag (chars c.range-own.result.now) ++ y)
-    (sym (left-is c.range_from-self-inside.result.now c.self.inside.slots.now (c.self.inside.from + n) c.self.inside.to behind
-    (c.range_from-self-inside.ensures.value ∙ parts.1) parts.2 c.range_from-self-inside.utf8))
-
-pub returns-clause-shorter : goal.returns-clause-shorter
-returns-clause-shorter g c =
-    let parts = characters-left c.self.inside.text.now c.self.inside.slots.now c.self.inside.from c.self.inside.to c.args.limit c.reach-count.result c.args.tag
-    c.args.self.now c.self.invariant c.self.view_is c.reach-count.ensures.count c.reach-count.ensures.front c.requires.tagged in
-    let behind = rest_after c.args.limit c.args.self.now in
-    let left = left-is c.range_from-self-inside.result.now c.self.inside.slots.now (c.self.inside.from + c.reach-count.result) c.self.inside.to behind
-    (c.range_from-self-inside.ensures.value ∙ parts.1) parts.2 c.range_from-self-inside.utf8 in
-    omega (arith, ap length left, rest-shorter c.args.limit c.args.self.now c.args.tag c.requires.some c.requires.tagged)
+pub returns : goal.returns
+returns g c =
+    let parts = characters-left _ _ _ _ _ _ _ _ _ _ c.self.invariant c.self.view_is c.reach-count.ensures.count c.reach-count.ensures.front c.requires.tagged
+    c.requires.some c.range-own.ensures.value c.range_from-self-inside.ensures.value c.range_from-self-inside.utf8 in
+    record { characters = parts.whole; shorter = parts.shorter }

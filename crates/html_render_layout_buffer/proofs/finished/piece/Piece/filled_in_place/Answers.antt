@@ -1,10 +1,25 @@
-use Rattle.std.proofs.Common.{◌≡◌, ◌+◌, ◌-◌, ◌++◌, ◌∷◌, [], Some, length, reverse, sym, ap, ◌∙◌}
+use Rattle.std.proofs.Common.{◌≡◌, ◌+◌, ◌-◌, ◌++◌, ◌∷◌, [], Some, length, reverse, sym, ap, ◌∙◌, arith, length-append}
 use Rattle.html_render_layout_lines.specs.Line.{columns}
 use Rattle.html_render_layout_lines.specs.laws.Columns.{columns-append}
 use Rattle.html_render_layout_buffer.specs.Padding.{filled}
 use Rattle.html_render_layout_buffer.specs.Pieces.{with_front}
 use Rattle.html_render_layout_buffer.proofs.PieceLines.{front-length, only-last, only-filled}
 use Rattle.html_render_layout_buffer.proofs.finished.piece.Piece.filled_in_place.Goals as goal
+
+pub line_columns-requires : goal.line_columns-requires
+line_columns-requires g c = c.self.invariant.some
+
+pub reopen-requires : goal.reopen-requires
+reopen-requires g c = record { «open» = c.self.invariant.closed; some = c.self.invariant.some }
+
+pub invariant_of-result : goal.invariant_of-result
+invariant_of-result g c =
+    let e = c.in_ok-end_line.ensures.ok in
+    record {
+      some = omega (arith, ap (λ q. length q.lines) e, length-append c.push_spaces.new.self.lines (c.push_spaces.new.self.line ∷ []));
+      closed = ap (λ q. q.line) e;
+      counts = c.self.invariant.counts;
+    }
 
 pub returns : goal.returns
 returns g c =

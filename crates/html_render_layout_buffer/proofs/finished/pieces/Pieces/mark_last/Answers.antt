@@ -1,4 +1,5 @@
-use Rattle.std.proofs.Common.{◌++◌, ap, sym, ◌∙◌, subst}
+use Rattle.std.proofs.Common.{rules, ◌≡◌, ◌++◌, length, ap, sym, ◌∙◌, subst}
+use Rattle.std.proofs.lemmas.List.{nil_from_length}
 use Rattle.html_render_layout_buffer.specs.Marked.{marked_behind}
 use Rattle.html_render_layout_buffer.specs.Pieces.{lines_of, ArePieces}
 use Rattle.html_render_layout_buffer.proofs.PieceLines.{lines_of-end, marked-behind}
@@ -7,6 +8,13 @@ use Rattle.html_render_layout_buffer.proofs.finished.pieces.Pieces.mark_last.Goa
 
 pub invariant_of-self : goal.invariant_of-self
 invariant_of-self g c = known-none c.taken-pieces.new.pieces.items c.taken-pieces.ensures.left
+
+pub returns-in_default : goal.returns-in_default
+returns-in_default g c =
+    let few : length c.taken-pieces.result.items ≡ 0 = search rules in
+    let none = sym c.taken-pieces.ensures.taken ∙ nil_from_length c.taken-pieces.result.items few in
+    ap (λ y. lines_of y) c.taken-pieces.ensures.left
+    ∙ ap (λ y. marked_behind c.args.marks.now y) (sym (ap (λ y. lines_of y) none) ∙ c.self.view_is)
 
 pub invariant_of-self-in_err-marked_last : goal.invariant_of-self-in_err-marked_last
 invariant_of-self-in_err-marked_last g c = known-none c.taken-pieces.new.pieces.items c.taken-pieces.ensures.left

@@ -1,0 +1,270 @@
+-- THE DEFINITION of the conversion: what the nodes of a document become, by recursion on the document.
+use Rattle.std.specs.Prelude.{ℕ, zero, suc, ◌==◌, Bool, true, false, not, ◌&&◌, ◌||◌, List, [], ◌∷◌, ◌++◌, filter, flat_map, map, Option, Some}
+use Rattle.std.specs.Prelude.{None, is_some, option_map, option_to_list, if◌then◌else◌}
+use Rattle.std.specs.List.{list_all, list_any}
+use Rattle.html_render_dom_values.specs.Forest.{Forest, none, node, followed_by}
+use Rattle.html_render_dom_values.specs.Outcome.{◌>>=◌}
+use Rattle.html_render_dom_nodes.specs.Content.{Content}
+use Rattle.html_render_dom.specs.Dom.{Dom, tree_of}
+use Rattle.html_render_dom_styles.specs.Rules.{Rule as StyleRule}
+use Rattle.html_render_dom_styles.specs.Selectors.{is_filled}
+use Rattle.html_render_parts.specs.TableCells.{cell_grid_of}
+use Rattle.html_render_parts.specs.declared.table.Span.{Span}
+use Rattle.html_render_layout_nodes.specs.declared.tree.NodeKind.{NodeKind}
+use Rattle.html_render_layout_nodes.specs.declared.tree.NodeKind.TheVariants.{Text, Container, Break, Block, Ol, ListItem, Dl, Dt, Dd, Link}
+use Rattle.html_render_layout_nodes.specs.declared.tree.NodeKind.TheVariants.{Image, Svg, FragmentStart, Table, TableRow, TableCell}
+use Rattle.html_render_layout_nodes.specs.declared.tree.NodeStyle.{NodeStyle}
+use Rattle.html_render_layout_nodes.specs.declared.tree.RenderNode.{RenderNode}
+use Rattle.html_render_layout_nodes.specs.Kinds.{holds_insertions}
+use Rattle.html_render_layout_nodes.specs.RenderNodes.{unmeasured, no_style, without_style}
+use Rattle.html_render_layout_nodes.specs.Tables.{TableParts, unmeasured_table}
+use Rattle.html_render_tree_walk.specs.Walk.{picks}
+use Rattle.html_render_tree_walk.specs.declared.cursor.Pick.{Pick}
+use Rattle.html_render_tree_walk.specs.declared.cursor.Pick.TheVariants.{All, Captions, Others, Feet}
+use Rattle.html_render_tree_convert.specs.declared.mapping.ElementKind.{ElementKind}
+use Rattle.html_render_tree_convert.specs.declared.mapping.ElementKind.TheVariants.{Node, Part}
+use Rattle.html_render_tree_convert.specs.declared.mapping.IfEmpty.{IfEmpty}
+use Rattle.html_render_tree_convert.specs.declared.plans.Element.{Element}
+use Rattle.html_render_tree_convert.specs.declared.plans.Plan.{Plan}
+use Rattle.html_render_tree_convert.specs.declared.plans.Plan.TheVariants as plan
+use Rattle.html_render_tree_convert.specs.declared.tables.CellSpan.{CellSpan}
+use Rattle.html_render_tree_convert.specs.declared.tables.Part.TheVariants as part
+use Rattle.html_render_tree_convert.specs.Conversion.{is_blank, vanishes}
+use Rattle.html_render_tree_convert.specs.Plans.{inserts, insertion_of, plan_of}
+use Rattle.html_render_tree_convert.specs.Tables.{greatest_width, spanned_in}
+
+abbrev pub Nodes : Type 0
+Nodes = Forest RenderNode
+
+-- ---- results
+
+-- what a result is to a table: its caption; rows; a row; a cell; or no part of it
+pub data Role : Type 0 where
+  Contents Caption : Role
+  Rows : List (List CellSpan) → Role
+  Row : List CellSpan → Role
+  Cell : CellSpan → Role
+
+-- WHAT A NODE of a document became: its role, its node (that of rows counts for nothing), whether there is anything below, and
+-- what; none where a part of a table stands below that is in no table
+pub record Result : Type 0 where
+  pub role : Role
+  pub node : RenderNode
+  pub has_children : Bool
+  pub below : Option Nodes
+
+-- the trees of results one after another, each made of a node and what is below it
+abbrev pub joined : (tree : RenderNode → Nodes → Nodes) → List Result → Option Nodes
+joined tree [] = Some none
+joined tree (r ∷ rs) = do
+  below ← r.below
+  others ← joined tree rs
+  Some (followed_by (tree r.node below) others)
+
+-- the nodes of results beside each other, each over what is below it
+abbrev pub beside : List Result → Option Nodes
+beside results = joined (λ n below. node n below none) results
+
+abbrev pub is_caption : Role → Bool
+is_caption Caption = true
+is_caption _ = false
+
+-- what a cell spans
+abbrev pub cell_of : Role → Option CellSpan
+cell_of (Cell span) = Some span
+cell_of _ = None
+
+-- and the cells of a row
+abbrev pub row_of : Role → Option (List CellSpan)
+row_of (Row cells) = Some cells
+row_of _ = None
+
+-- whether a result is that of rows
+abbrev pub are_rows : Role → Bool
+are_rows (Rows rows) = true
+are_rows _ = false
+
+-- whether a result may stand in no table: a caption is a container there
+abbrev pub stands_alone : Role → Bool
+stands_alone Contents = true
+stands_alone Caption = true
+stands_alone _ = false
+
+abbrev pub of_role : (Role → Bool) → List Result → List Result
+of_role is results = filter (λ r. is r.role) results
+
+-- the trees of results that stand in no table, or none where a part of one is among them
+abbrev pub trees_of : List Result → Option Nodes
+trees_of results = if list_all (λ r. stands_alone r.role) results then beside results else None
+
+-- ---- nodes over results
+
+abbrev pub over : NodeStyle → NodeKind → List Result → Result
+over style kind results =
+    let n : RenderNode = record { kind = kind; style = style; estimate = unmeasured } in
+    record { role = Contents; node = n; has_children = is_filled results; below = trees_of results }
+
+-- a row over its cells
+abbrev pub row_over : NodeStyle → (cells : List Result) → Result
+row_over style cells = record (over style TableRow cells) { role = Row (flat_map (λ r. option_to_list (cell_of r.role)) cells); below = beside cells }
+
+-- rows beside each other
+abbrev pub rows_over : (rows : List Result) → Result
+rows_over rows =
+    record (over no_style Container rows) { role = Rows (flat_map (λ r. option_to_list (row_of r.role)) rows); below = beside rows }
+
+-- ---- tables
+
+-- what the cells of rows span
+abbrev pub spans_of : Role → List (List Span)
+spans_of (Rows rows) = spanned_in (greatest_width rows) rows
+spans_of _ = []
+
+-- a table over these parts
+abbrev pub table_over : NodeStyle → TableParts → (parts : List Result) → Result
+table_over style grid parts = record (over style (Table grid) parts) { has_children = true; below = joined (λ n below. below) parts }
+
+-- a table below its captions, which are blocks: there is none without a row
+abbrev pub captioned : NodeStyle → TableParts → (captions parts : List Result) → Result
+captioned style grid captions parts =
+    let blocks : List Result = map (λ (r : Result). record r { node = record r.node { kind = Block } }) captions in
+    let table = if list_any (λ r. r.has_children) parts then table_over no_style grid parts ∷ [] else [] in
+    record (over style Container captions) { has_children = true; below = beside (blocks ++ table) }
+
+-- A TABLE over its parts; none where a cell would end past the last position
+abbrev pub table_of : NodeStyle → (captions parts : List Result) → Option Result
+table_of style captions parts = do
+  grid ← option_map unmeasured_table (cell_grid_of (flat_map (λ r. spans_of r.role) parts))
+  Some (if is_filled captions then captioned style grid captions parts else table_over style grid parts)
+
+-- ---- which results a node keeps, and which it counts
+
+-- an ordered list keeps items, and a list of descriptions terms and descriptions
+abbrev pub keeps : (parent child : NodeKind) → Bool
+keeps (Ol start) ListItem = true
+keeps (Ol start) child = false
+keeps Dl Dt = true
+keeps Dl Dd = true
+keeps Dl child = false
+keeps _ child = true
+
+-- whether a node shows nothing, as far as is seen without going into its children
+abbrev pub shows_nothing : NodeKind → (has_children : Bool) → Bool
+shows_nothing (Text contents) has_children = is_blank contents
+shows_nothing Break has_children = true
+shows_nothing (Image image) has_children = is_blank image.title
+shows_nothing (Svg title) has_children = is_blank title
+shows_nothing (FragmentStart name) has_children = true
+shows_nothing (Table grid) has_children = false
+shows_nothing _ has_children = not has_children
+
+-- a link counts what shows something, and any other node all
+abbrev pub counts : (parent : NodeKind) → Role → NodeKind → (has_children : Bool) → Bool
+counts (Link target) role kind has_children = not (stands_alone role && shows_nothing kind has_children)
+counts _ role kind has_children = true
+
+-- ---- what an element becomes, over its captions, which only a table has, and the results of its other children
+
+-- its node, or its part of a table; none where a table has no grid
+abbrev pub built : ElementKind → NodeStyle → (captions others : List Result) → Option Result
+built (Part part.Table) style captions others = table_of style captions (of_role are_rows others)
+built (Part part.Body) style captions others = Some (rows_over (of_role (λ x. is_some (row_of x)) others))
+built (Part part.Row) style captions others = Some (row_over style (of_role (λ x. is_some (cell_of x)) others))
+built (Part (part.Cell span)) style captions others = Some (record (over style TableCell others) { role = Cell span })
+built (Part part.Caption) style captions others = Some (record (over style Container others) { role = Caption })
+built (Node kind) style captions others = Some (over style kind (filter (λ r. keeps kind r.node.kind) others))
+
+-- whether it becomes nothing, where it has no results that count: a table counts its captions, and rows where there are any; a row
+-- and a cell always stand
+abbrev pub is_nothing : ElementKind → IfEmpty → (captions others : List Result) → Bool
+is_nothing (Part part.Table) if_empty captions others =
+    vanishes if_empty (is_filled captions || list_any (λ r. r.has_children) (of_role are_rows others))
+is_nothing (Part part.Row) if_empty captions others = false
+is_nothing (Part (part.Cell span)) if_empty captions others = false
+is_nothing (Node kind) if_empty captions others = vanishes if_empty (list_any (λ r. counts kind r.role r.node.kind r.has_children) others)
+is_nothing _ if_empty captions others = vanishes if_empty (is_filled others)
+
+-- ---- what is inserted
+
+-- how many levels down an element inserts, at the first of each: in its node, in its first cell, in the first cell of its first
+-- row; none where it inserts beside its node
+abbrev pub level_in : ElementKind → (has_texts has_captions : Bool) → Option ℕ
+level_in (Node kind) has_texts has_captions = if not has_texts || holds_insertions kind then Some 0 else None
+level_in (Part part.Table) has_texts has_captions = Some (if has_captions then 0 else 2)
+level_in (Part part.Body) has_texts has_captions = Some 2
+level_in (Part part.Row) has_texts has_captions = Some 1
+level_in (Part _) has_texts has_captions = Some 0
+
+-- nodes without children beside each other
+abbrev pub trees : List RenderNode → Nodes
+trees [] = none
+trees (n ∷ ns) = node n none (trees ns)
+
+-- nodes before and behind what stands so many levels down in the first of some trees; where there is no such tree they are lost
+abbrev pub in_first : (level : ℕ) → (front back : Nodes) → Nodes → Nodes
+in_first zero front back t = followed_by front (followed_by t back)
+in_first (suc level) front back none = none
+in_first (suc level) front back (node n children others) = node n (in_first level front back children) others
+
+-- a node without children
+abbrev pub alone : RenderNode → Result
+alone n = record { role = Contents; node = n; has_children = false; below = Some none }
+
+-- a result with what an element inserts
+abbrev pub inserted : (level : Option ℕ) → Element → Result → Result
+inserted (Some level) e r =
+    let i = insertion_of e in
+    record r { has_children = (level == 0 && inserts e) || r.has_children; below = option_map (in_first level (trees i.front) (trees i.back)) r.below }
+inserted None e r =
+    let around : Nodes → Nodes = λ t. followed_by (trees (insertion_of e).front) (node r.node t (trees (insertion_of e).back)) in
+    record (alone (without_style Container)) { has_children = true; below = option_map around r.below }
+
+-- what is left of an element: its result with what it inserts, or its mark where it becomes nothing
+abbrev pub left_of : Element → (is_nothing has_captions : Bool) → Result → Option Result
+left_of e true has_captions r = option_map (λ name. alone (without_style (FragmentStart name))) e.texts.mark
+left_of e false has_captions r = Some (inserted (level_in e.kind (inserts e) has_captions) e r)
+
+-- ---- documents
+
+-- WHAT AN ELEMENT BECOMES
+abbrev pub made : Element → (captions others : List Result) → Option (Option Result)
+made e captions others =
+    option_map (left_of e (is_nothing e.kind e.if_empty captions others) (is_filled captions)) (built e.kind e.style captions others)
+
+-- an element's captions, and the results of its other children, of which a table's feet come last; `inside` has the results of
+-- the children of each pick
+abbrev pub captions_in : ElementKind → (inside : Pick → Option (List Result)) → Option (List Result)
+captions_in (Part part.Table) inside = option_map (of_role is_caption) (inside Captions)
+captions_in _ inside = Some []
+
+abbrev pub others_in : ElementKind → (inside : Pick → Option (List Result)) → Option (List Result)
+others_in (Part part.Table) inside = do
+  others ← inside Others
+  feet ← inside Feet
+  Some (others ++ feet)
+others_in _ inside = inside All
+
+abbrev pub over_children : Element → (inside : Pick → Option (List Result)) → Option (Option Result)
+over_children e inside = do
+  captions ← captions_in e.kind inside
+  others ← others_in e.kind inside
+  made e captions others
+
+-- what a node becomes, by its plan
+abbrev pub result_of : Plan → (inside : Pick → Option (List Result)) → Option (Option Result)
+result_of plan.Nothing inside = Some None
+result_of (plan.Alone n) inside = Some (Some (alone n))
+result_of (plan.Over e false) inside = over_children e (λ pick. Some [])
+result_of (plan.Over e true) inside = over_children e inside
+
+-- WHAT THE NODES of a document BECOME that are picked, in order; none where a table has no grid
+abbrev pub results : List StyleRule → Forest Content → Pick → Option (List Result)
+results rules none pick = Some []
+results rules (node content children others) pick = do
+  r ← if picks pick content then result_of (plan_of rules content children) (λ p. results rules children p) else Some None
+  rest ← results rules others pick
+  Some (option_to_list r ++ rest)
+
+-- THE RENDER TREE of a document; none where a table has no grid, or a part of a table stands in none
+abbrev pub render_tree_of : List StyleRule → Dom → Option Nodes
+render_tree_of rules dom = results rules (tree_of dom 0) All >>= trees_of

@@ -1,0 +1,116 @@
+//! What an image and a drawing are called, and where an image lies.
+
+ghost use Rattle.std.specs.Prelude.{◌≡◌, IfOk, IfSome, map, option_map, unwrap_or, string_bytes};
+ghost use Rattle.html_render_dom_values.specs.Outcome.{OnlyOutOfMemory};
+ghost use Rattle.html_render_dom_nodes.specs.Content.{content_of, property_of};
+ghost use Rattle.html_render_dom.specs.Dom.{IsForest, IsNode, below, children_at, node_count, trees_of};
+ghost use Rattle.html_render_dom_values.specs.Forest.{none};
+ghost use Rattle.html_render_tree_convert.specs.Images.{read, image_parts, is_title, text_in, direct_texts, in_last_title, drawing_title};
+
+use html_render_dom::Error;
+use html_render_dom::dom::{Attribute, Handle, Namespace, NodeData, RcDom};
+use html_render_layout_nodes::text::NodeText;
+use std::alloc::{AllocError, Global};
+
+/// An image's source and title, once an attribute more is read.
+fn read<'a>(attribute: &'a Attribute, source: &'a str, title: &'a str) -> (&'a str, &'a str)
+    ensures { record { source = result.0.now; title = result.1.now }
+        ≡ read (property_of attribute.now) (record { source = source.now; title = title.now }) }
+{
+    let value = attribute.value.as_str();
+    if value.is_empty() {
+        return (source, title);
+    }
+    match attribute.name.local.as_str() {
+        "alt" => (source, value),
+        "src" => (value, title),
+        _ => (source, title),
+    }
+}
+
+/// The source and the title of an image, each empty where it isn't given.
+pub fn image_parts(attributes: &[Attribute]) -> (&str, &str)
+    ensures { record { source = result.0.now; title = result.1.now } ≡ image_parts (map property_of attributes.now) }
+{
+    let mut source = "";
+    let mut title = "";
+    for attribute in attributes {
+        if !source.is_empty() && !title.is_empty() {
+            return (source, title);
+        }
+        let (next_source, next_title) = read(attribute, source, title);
+        source = next_source;
+        title = next_title;
+    }
+    (source, title)
+}
+
+/// Whether a node is a `title` of SVG.
+fn is_title(node: &NodeData) -> bool
+    ensures { result ≡ is_title (content_of node.now) }
+{
+    match node {
+        NodeData::Element { name, .. } => match name.ns {
+            Namespace::Svg => name.local.as_str() == "title",
+            _ => false,
+        },
+        _ => false,
+    }
+}
+
+/// The last of the titles that stand in a node in front of any other element.
+fn last_title(dom: &RcDom, node: Handle) -> Option<Handle>
+    requires { IsNode dom.now node }
+    ensures node { IfSome result (IsNode dom.now) }
+    ensures title { unwrap_or (option_map (below (node_count dom.now) dom.now) result) none
+        ≡ in_last_title none (trees_of dom.now (children_at dom.now node)) }
+{
+    let mut title = None;
+    for child in dom.child_list(node) {
+        if is_title(dom.data(*child)) {
+            title = Some(*child);
+        } else if dom.is_element(*child) {
+            return title;
+        }
+    }
+    title
+}
+
+/// The contents of a text; those of any other node are empty here.
+fn text_in(node: &NodeData) -> &str
+    ensures { result.now ≡ text_in (content_of node.now) }
+{
+    match node {
+        NodeData::Text { contents } => contents.as_str(),
+        _ => "",
+    }
+}
+
+/// The texts that stand directly in a node, joined.
+fn direct_texts(alloc: Global, dom: &RcDom, node: Handle) -> Result<String, AllocError>
+    requires { IsNode dom.now node }
+    ensures { IfOk result (λ texts. string_bytes texts ≡ direct_texts (trees_of dom.now (children_at dom.now node))) }
+{
+    let mut texts = String::new(alloc);
+    for child in dom.child_list(node) {
+        texts.push_str(text_in(dom.data(*child)))?;
+    }
+    Ok(texts)
+}
+
+/// The title of a drawing.
+///
+/// # Errors
+///
+/// `OutOfMemory`.
+pub fn drawing_title(alloc: Global, dom: &RcDom, node: Handle) -> Result<NodeText, Error>
+    requires forest { IsForest dom.now }
+    requires node { IsNode dom.now node }
+    ensures ok { IfOk result (λ title. title ≡ drawing_title (trees_of dom.now (children_at dom.now node))) }
+    ensures err { OnlyOutOfMemory result }
+{
+    match last_title(dom, node) {
+        Some(title) => Ok(NodeText::from(direct_texts(alloc, dom, title)?)),
+        None => Ok(NodeText::from(String::new(alloc))),
+    }
+}

@@ -1,0 +1,232 @@
+//! Which render node a node of a document becomes.
+
+ghost use Rattle.std.specs.Prelude.{◌≡◌, ◌&&◌, ◌||◌, IfOk, codes, if◌then◌else◌, map};
+ghost use Rattle.std.specs.Str.{bytes_eq};
+ghost use Rattle.html_render_dom_values.specs.Outcome.{OnlyOutOfMemory};
+ghost use Rattle.html_render_dom_nodes.specs.Content.{name_of, property_of, space_of, is_html};
+ghost use Rattle.html_render_dom.specs.Dom.{IsForest, IsNode, children_at, trees_of};
+ghost use Rattle.html_render_dom.specs.ElementStyle.{style_of};
+ghost use Rattle.html_render_dom.specs.Attributes.{first_value};
+ghost use Rattle.html_render_dom_styles.specs.Selectors.{is_filled};
+ghost use Rattle.html_render_tree_convert.specs.Images.{image_parts};
+ghost use Rattle.html_render_tree_convert.specs.Conversion.{html_mapping, html_element_mapping, element_mapping, link_mapping};
+ghost use Rattle.html_render_tree_convert.specs.Conversion.{is_preformatted, preformatted_style, node_style};
+
+use crate::attributes::{first_value, span_of, start_of};
+use crate::images::{drawing_title, image_parts};
+use crate::tables::Part;
+use html_render_dom::Error;
+use html_render_dom::dom::{Attribute, Handle, Namespace, QualName, RcDom};
+use html_render_dom::style::{ComputedStyle, Specificity, StyleOrigin, WhiteSpace};
+use html_render_layout_nodes::text::NodeText;
+use html_render_layout_nodes::tree::{Emphasis, Image, NodeKind, NodeStyle};
+use std::alloc::Global;
+
+/// What becomes of an element whose children have no results that count.
+#[derive(Clone, Copy)]
+pub enum IfEmpty {
+    /// A node without children.
+    Stands,
+    /// Nothing.
+    Vanishes,
+}
+
+/// What an element becomes that stands over what its children become.
+#[derive(Drop)]
+pub enum ElementKind {
+    /// A node of this kind.
+    Node(NodeKind),
+    /// A part of a table.
+    Part(Part),
+}
+
+/// What becomes of an element, its style aside.
+#[derive(Drop)]
+pub enum Mapping {
+    /// Nothing; what stands in it isn't converted.
+    Nothing,
+    /// A node without children; what stands in it isn't converted.
+    Leaf(NodeKind),
+    /// A node, or a part of a table, over what its children become.
+    Parent(ElementKind, IfEmpty),
+}
+
+/// A node over what its children become, where these have results that count.
+fn vanishing(kind: NodeKind) -> Mapping
+    ensures { result ≡ Mapping.Parent (ElementKind.Node kind) IfEmpty.Vanishes }
+{
+    Mapping::Parent(ElementKind::Node(kind), IfEmpty::Vanishes)
+}
+
+/// A node over what its children become.
+fn standing(kind: NodeKind) -> Mapping
+    ensures { result ≡ Mapping.Parent (ElementKind.Node kind) IfEmpty.Stands }
+{
+    Mapping::Parent(ElementKind::Node(kind), IfEmpty::Stands)
+}
+
+/// A part of a table.
+fn table_part(part: Part, if_empty: IfEmpty) -> Mapping
+    ensures { result ≡ Mapping.Parent (ElementKind.Part part) if_empty }
+{
+    Mapping::Parent(ElementKind::Part(part), if_empty)
+}
+
+/// What becomes of an element of HTML whose node holds no text, by its local name and its attributes. Cells and rows, of which
+/// there are most in a long table, are looked for first.
+#[inline(always)]
+pub(crate) fn html_mapping(name: &str, attributes: &[Attribute]) -> Mapping
+    ensures { result ≡ html_mapping name.now (map property_of attributes.now) }
+{
+    match name {
+        "td" | "th" => table_part(Part::Cell(span_of(attributes)), IfEmpty::Stands),
+        "tr" => table_part(Part::Row, IfEmpty::Stands),
+        "div" => vanishing(NodeKind::Div),
+        "p" => vanishing(NodeKind::Block),
+        "pre" => standing(NodeKind::Block),
+        "li" => standing(NodeKind::ListItem),
+        "em" | "i" | "ins" => standing(NodeKind::Emphasis(Emphasis::Em)),
+        "strong" | "b" => standing(NodeKind::Emphasis(Emphasis::Strong)),
+        "code" => standing(NodeKind::Emphasis(Emphasis::Code)),
+        "br" => Mapping::Leaf(NodeKind::Break),
+        "ul" => vanishing(NodeKind::Ul),
+        "ol" => vanishing(NodeKind::Ol(start_of(attributes))),
+        "h1" => standing(NodeKind::Header(1)),
+        "h2" => standing(NodeKind::Header(2)),
+        "h3" => standing(NodeKind::Header(3)),
+        "h4" => standing(NodeKind::Header(4)),
+        "h5" => standing(NodeKind::Header(5)),
+        "h6" => standing(NodeKind::Header(6)),
+        "blockquote" => vanishing(NodeKind::BlockQuote),
+        "s" | "del" => standing(NodeKind::Strikeout),
+        "sup" => standing(NodeKind::Superscript),
+        "dl" => vanishing(NodeKind::Dl),
+        "dt" => standing(NodeKind::Dt),
+        "dd" => standing(NodeKind::Dd),
+        "table" => table_part(Part::Table, IfEmpty::Vanishes),
+        "thead" | "tbody" | "tfoot" => table_part(Part::Body, IfEmpty::Vanishes),
+        "caption" => table_part(Part::Caption, IfEmpty::Vanishes),
+        "html" | "body" => standing(NodeKind::Container),
+        "head" | "link" | "meta" | "hr" | "script" | "style" => Mapping::Nothing,
+        _ => vanishing(NodeKind::Container),
+    }
+}
+
+/// What becomes of an `a`, by its attributes: a link to its first `href`, if it has one.
+fn link_mapping(alloc: Global, attributes: &[Attribute]) -> Result<Mapping, Error>
+    ensures ok { IfOk result (λ mapping. mapping ≡ link_mapping (first_value (codes "href") (map property_of attributes.now))) }
+    ensures err { OnlyOutOfMemory result }
+{
+    match first_value(attributes, "href") {
+        Some(target) => {
+            let target = NodeText::from_str(alloc, target)?;
+            Ok(vanishing(NodeKind::Link(target)))
+        }
+        None => Ok(standing(NodeKind::Container)),
+    }
+}
+
+/// What becomes of an `img`, by its source and its title: nothing without a source.
+fn image_mapping(alloc: Global, source: &str, title: &str) -> Result<Mapping, Error>
+    ensures ok { IfOk result (λ mapping. mapping ≡ (if is_filled source.now
+        then Mapping.Leaf (NodeKind.Image (record { source = source.now; title = title.now })) else Mapping.Nothing)) }
+    ensures err { OnlyOutOfMemory result }
+{
+    if source.is_empty() {
+        return Ok(Mapping::Nothing);
+    }
+    let source = NodeText::from_str(alloc, source)?;
+    let title = NodeText::from_str(alloc, title)?;
+    let image = Image::new(alloc, source, title)?;
+    Ok(Mapping::Leaf(NodeKind::Image(image)))
+}
+
+/// Reports whether what becomes of an element of HTML of this name may have a text of its own.
+#[inline(always)]
+pub(crate) fn is_mapped_apart(name: &str) -> bool
+    ensures { result ≡ (bytes_eq name.now (codes "a") || (bytes_eq name.now (codes "img") || bytes_eq name.now (codes "wbr"))) }
+{
+    name == "a" || (name == "img" || name == "wbr")
+}
+
+/// What becomes of an element of HTML, by its local name and its attributes.
+fn html_element_mapping(
+    alloc: Global,
+    name: &str,
+    attributes: &[Attribute],
+) -> Result<Mapping, Error>
+    ensures ok { IfOk result (λ mapping. mapping ≡ html_element_mapping name.now (map property_of attributes.now)) }
+    ensures err { OnlyOutOfMemory result }
+{
+    match name {
+        "a" => link_mapping(alloc, attributes),
+        "img" => {
+            let (source, title) = image_parts(attributes);
+            image_mapping(alloc, source, title)
+        }
+        "wbr" => {
+            let space = NodeText::from_str(alloc, "\u{200b}")?;
+            Ok(Mapping::Leaf(NodeKind::Text(space)))
+        }
+        _ => Ok(html_mapping(name, attributes)),
+    }
+}
+
+/// What becomes of an element of this name and with these attributes. Outside HTML's namespace no name but SVG's `svg`
+/// is special.
+pub(crate) fn element_mapping(
+    alloc: Global,
+    dom: &RcDom,
+    element: Handle,
+    name: &QualName,
+    attributes: &[Attribute],
+) -> Result<Mapping, Error>
+    requires forest { IsForest dom.now }
+    requires node { IsNode dom.now element }
+    ensures ok { IfOk result (λ mapping. mapping ≡ element_mapping (space_of name.now.ns) name.now.local
+        (map property_of attributes.now) (trees_of dom.now (children_at dom.now element))) }
+    ensures err { OnlyOutOfMemory result }
+{
+    match name.ns {
+        Namespace::Html => html_element_mapping(alloc, name.local.as_str(), attributes),
+        Namespace::Svg if name.local.as_str() == "svg" => {
+            let title = drawing_title(alloc, dom, element)?;
+            Ok(Mapping::Leaf(NodeKind::Svg(title)))
+        }
+        _ => Ok(vanishing(NodeKind::Container)),
+    }
+}
+
+/// Reports whether an element is a `pre` of HTML.
+#[inline(always)]
+pub(crate) fn is_preformatted(name: &QualName) -> bool
+    ensures { result ≡ is_preformatted (name_of name.now) }
+{
+    match name.ns {
+        Namespace::Html => name.local.as_str() == "pre",
+        _ => false,
+    }
+}
+
+/// Gives the style of a `pre` its last update: it keeps white space, unless a rule that wins over this says otherwise.
+pub(crate) fn preformat(style: &mut ComputedStyle)
+    ensures { style_of style.new ≡ preformatted_style (style_of style.old) }
+{
+    let no_specificity = Specificity::default();
+    style
+        .white_space
+        .maybe_update(false, StyleOrigin::Agent, no_specificity, WhiteSpace::Pre);
+    style.internal_pre = true;
+}
+
+/// What an element's style gives the node that it becomes.
+pub fn node_style(style: &ComputedStyle) -> NodeStyle
+    ensures { result ≡ node_style (style_of style.now) }
+{
+    NodeStyle {
+        colour: style.colour.val().copied(),
+        background: style.bg_colour.val().copied(),
+        white_space: style.white_space.val().copied().unwrap_or_default(),
+        preformatted: style.internal_pre,
+    }
+}
