@@ -1,7 +1,5 @@
 -- the lines of a configuration, their strings and their texts
 pub mod Rendering
--- what results are
-pub mod Roles
 -- good trees: their places, the kinds of nodes that elements become, results over good trees, and the render tree of a document
 pub mod GoodPlaces
 pub mod GoodTrees

@@ -1,21 +1,24 @@
 -- An element that closes over the results of its children gives its parent what it is defined to become.
-use Rattle.std.proofs.Common.{◌≡◌, ℕ, Bool, true, false, not, ◌||◌, if◌then◌else◌, List, [], ◌∷◌, ◌++◌, map, Option, Some, None, option_map, refl, sym, ap, ◌∙◌, append_assoc, append-nil}
-use Rattle.std.specs.Prelude.{filter, flat_map}
+use Rattle.std.proofs.Common.{◌≡◌, ℕ, Bool, true, false, not, ◌&&◌, ◌||◌, if◌then◌else◌, List, [], ◌∷◌, ◌++◌, length, map, Option, Some, None, option_map, refl, sym, ap, ◌∙◌, inl, inr, append_assoc, append-nil}
+use Rattle.std.proofs.Math.Seq.{take-append-add, take-append_seam, drop-append-add, drop-append_seam}
+use Rattle.std.proofs.Math.Bool.{and-false, and-true, or-false, or-true}
+use Rattle.std.proofs.lemmas.Bool.{cases_Bool}
+use Rattle.std.specs.Prelude.{filter, flat_map, option_to_list}
 use Rattle.std.specs.List.{list_any}
-use Rattle.html_render_dom_values.specs.Forest.{none, node, followed_by}
+use Rattle.html_render_dom_values.specs.Forest.{none, node}
 use Rattle.html_render_dom_values.specs.Outcome.{◌>>=◌}
 use Rattle.html_render_dom_styles.specs.Selectors.{is_filled}
 use Rattle.html_render_layout_nodes.specs.Kinds.{holds_insertions}
 use Rattle.html_render_layout_nodes.specs.Preorder.{flatten}
-use Rattle.html_render_layout_nodes.specs.laws.Preorder.{flatten-followed_by}
 use Rattle.html_render_layout_nodes.specs.RenderNodes.{no_style, without_style}
 use Rattle.html_render_layout_nodes.specs.Tables.{TableParts, unmeasured_table}
 use Rattle.html_render_layout_nodes.specs.declared.tree.NodeKind.{NodeKind}
-use Rattle.html_render_layout_nodes.specs.declared.tree.NodeKind.TheVariants.{Container, Dl, FragmentStart, Link, Ol, Table, TableRow}
+use Rattle.html_render_layout_nodes.specs.declared.tree.NodeKind.TheVariants.{Container, Dl, FragmentStart, Link, Ol, TableCell, TableRow}
+use Rattle.html_render_layout_nodes.specs.declared.tree.NodeStyle.{NodeStyle}
 use Rattle.html_render_layout_nodes.specs.declared.tree.RenderNode.{RenderNode}
 use Rattle.html_render_parts.specs.TableCells.{cell_grid_of}
 use Rattle.html_render_tree_convert.specs.Conversion.{vanishes}
-use Rattle.html_render_tree_convert.specs.Results.{Nodes, Result, Role, alone, beside, captioned, cell_of, inserted, left_of, level_in, made, over, row_of, row_over, rows_over, spans_of, table_of, table_over, trees, trees_of}
+use Rattle.html_render_tree_convert.specs.Results.{Nodes, Result, Role, alone, are_rows, beside, captioned, cell_of, has_stray, inserted, is_caption, left_of, level_in, made, over, row_of, row_over, rows_over, spans_of, stands_alone, table_of, table_over, trees}
 use Rattle.html_render_tree_convert.specs.Results as role
 use Rattle.html_render_tree_convert.specs.declared.mapping.ElementKind.{ElementKind}
 use Rattle.html_render_tree_convert.specs.declared.mapping.ElementKind.TheVariants as element
@@ -24,38 +27,55 @@ use Rattle.html_render_tree_convert.specs.declared.mapping.IfEmpty.TheVariants.{
 use Rattle.html_render_tree_convert.specs.declared.plans.Element.{Element}
 use Rattle.html_render_tree_convert.specs.declared.tables.CellSpan.{CellSpan}
 use Rattle.html_render_tree_convert.specs.declared.tables.Part.TheVariants as part
-use Rattle.html_render_tree_convert.specs.OpenElements.{OpenElement, Insertion, nothing, within, inserts, insertion_of, leaves, over_entries, node_in, holder, carrier}
+use Rattle.html_render_tree_convert.specs.Held.{Entries, Insertion, due_of, held_back, leaf, leaves, inserts, insertion_of, nothing, within}
+use Rattle.html_render_tree_convert.specs.OpenElements.{OpenIn, State, created, innermost, outside}
+use Rattle.html_render_tree_convert.specs.declared.elements.Open.{Open}
 use Rattle.html_render_tree_convert.specs.Keeping.{keeping_of}
 use Rattle.html_render_tree_convert.specs.declared.elements.OpenKind.{OpenKind}
 use Rattle.html_render_tree_convert.specs.declared.elements.OpenKind.TheVariants as open_kind
 use Rattle.html_render_tree_convert.specs.declared.kinds.Keeping.TheVariants.{Any}
-use Rattle.html_render_tree_convert.specs.Steps.{Closed, with_given, all_parted, appended, begun, begun_cell, begun_node, begun_row, begun_rows, caption_kind, closed, closed_node, closed_once, is_captions, is_row, is_rows, is_table, mark_left, once, received, received_any, table_in_container}
-use Rattle.html_render_tree_convert.proofs.Entries.{Entries, or-true, appended-nil, appended_assoc, entries-over, entries-within, filled, filled-nothing, filled-twice, flatten-trees, nil-appended, nodes-leaves}
-use Rattle.html_render_tree_convert.proofs.Coming.{all_come, as_block, as_caption, closed_result, comes, comes_any, counted, if-same, is_plain, kept, map-map, members, members-come, node-entries, one_more, part_trees, parts, parts-come, plain-come, row-one, rows-one, take_due}
+use Rattle.html_render_tree_convert.specs.Steps.{Closed, all_parted, begun, begun_node, begun_over, begun_with, caption_kind, closed, closed_once, come, emptied, given_back, held, is_captions, is_completed, left_by, mark_left, node_in, role_left}
+use Rattle.html_render_tree_convert.proofs.Entries.{entries-within, filled, filled-nothing, filled-within, nodes-leaves}
+use Rattle.html_render_tree_convert.proofs.Coming.{all_come, all_come-append, as_block, at, closed_result, counted, kept, nodes_come, nodes_in, none-come, one-come, placed, results_come, strays, unless_taken, with_role}
 
--- the results of its children come into the first of these open elements, and that closes
-abbrev pub closed_over : List Result → List OpenElement → Option (List OpenElement)
-closed_over rs [] = Some []
-closed_over rs (q ∷ qs) = closed (all_come rs q ∷ qs)
+-- results come into the innermost element of a state
+abbrev pub results_over : List Result → State → State
+results_over rs s = outside s.outer (all_come rs (innermost s))
 
 -- the parent once an element of this result has closed
-abbrev pub after_result : OpenElement → List OpenElement → Option (Option Result) → Option (List OpenElement)
-after_result p ps made = option_map (λ r. comes_any r p ∷ ps) made
+abbrev pub after_result : OpenIn → List Open → Option (Option Result) → Option State
+after_result q ps made = option_map (λ r. outside ps (all_come (option_to_list r) q)) made
 
 -- an element as one of a kind
 abbrev pub of_kind : Element → ElementKind → Element
 of_kind e k = record e { kind = k }
 
+abbrev pub is_table_kind : ElementKind → Bool
+is_table_kind (element.Part part.Table) = true
+is_table_kind _ = false
+
+-- a result that is no part of a table comes as it is
+pub contents-come : (r : Result) (q : OpenIn) → come (Some (closed_result (with_role role.Contents r))) q ≡ all_come (with_role role.Contents r ∷ []) q
+contents-come r q = one-come role.Contents q.element.kind r q
+
+-- a mark that an element leaves
+mark-comes : (mark : Option (List ℕ)) (q : OpenIn) →
+    come (mark_left mark) q ≡ all_come (option_to_list (option_map (λ name. alone (without_style (FragmentStart name))) mark)) q
+mark-comes None q = sym (none-come q)
+mark-comes (Some name) q = contents-come (alone (without_style (FragmentStart name))) q
+
 -- an element that becomes nothing leaves its mark
-left-comes : (e : Element) (v has_captions : Bool) (c : Closed) (r : Result) (p q : OpenElement) → (v ≡ true → q ≡ p) →
-    received c q ≡ comes (inserted (level_in e.kind (inserts e) has_captions) e r) p →
-    received_any (if v then mark_left e.texts.mark else Some c) q ≡ comes_any (left_of e v has_captions r) p
-left-comes e true has_captions c r p q h k = ap (received_any (mark_left e.texts.mark)) (h refl) ∙ by e.texts.mark
-  where
-    by : (mark : Option (List ℕ)) → received_any (mark_left mark) p ≡ comes_any (option_map (λ name. alone (without_style (FragmentStart name))) mark) p
-    by None = refl
-    by (Some name) = refl
+left-comes : (e : Element) (v has_captions : Bool) (c : Closed) (r : Result) (p q : OpenIn) → (v ≡ true → p ≡ q) →
+    come (Some c) p ≡ all_come (inserted (level_in e.kind (inserts e) has_captions) e r ∷ []) q →
+    come (if v then mark_left e.texts.mark else Some c) p ≡ all_come (option_to_list (left_of e v has_captions r)) q
+left-comes e true has_captions c r p q h k = ap (come (mark_left e.texts.mark)) (h refl) ∙ mark-comes e.texts.mark q
 left-comes e false has_captions c r p q h k = k
+
+-- an element closes in another, whose nodes end where its own begin
+seam : (rs : List Result) (o : Open) (own : Entries) (q : OpenIn) (ps : List Open) → (let left = results_come rs (record o { start = length q.tree }) in
+    closed_once (results_over rs (begun_with o own (outside ps q)))
+    ≡ option_map (outside ps) (option_map (λ c. come c (record q { element = given_back left q.element })) (left_by left (own ++ flatten (nodes_come rs o)))))
+seam rs o own q ps = simp (append_assoc, take-append_seam, drop-append_seam)
 
 pub filter-all : {X : Type 0} (xs : List X) → filter (λ (x : X). true) xs ≡ xs
 filter-all [] = refl
@@ -65,35 +85,43 @@ any-all : {X : Type 0} (xs : List X) → list_any (λ (x : X). true) xs ≡ is_f
 any-all [] = refl
 any-all (x ∷ xs) = refl
 
-abbrev pub is_table_kind : ElementKind → Bool
-is_table_kind (element.Part part.Table) = true
-is_table_kind _ = false
-
 -- ---- nodes, cells and captions
 
-abbrev role_in : OpenKind → Role
-role_in (open_kind.Cell span) = role.Cell span
-role_in open_kind.Caption = role.Caption
-role_in _ = role.Contents
-
--- a holder as a result, with what it inserts
-abbrev held : OpenKind → RenderNode → Insertion → (has_children : Bool) → List Result → Result
-held k n i c rs = record {
-  role = role_in k;
+-- an element that writes what it inserts itself, as a result
+abbrev held_over : OpenKind → RenderNode → Insertion → (has_children : Bool) → List Result → Result
+held_over k n i c rs = record {
+  role = role_left k;
   node = n;
   has_children = c || is_filled (kept k rs);
-  below = option_map (filled 0 i) (trees_of (kept k rs));
+  is_stray = strays k (kept k rs);
+  below = filled 0 i (nodes_in k (kept k rs));
 }
 
-holder-left : (k : OpenKind) → is_plain k ≡ true → (rs : List Result) (n : RenderNode) (f : IfEmpty) (m : Option (List ℕ)) (i : Insertion) (c : Bool)
-    (q : OpenElement) (ps : List OpenElement) → closed (all_come rs (holder k n f m i c) ∷ (q ∷ ps))
-    ≡ Some (received_any (if vanishes f (list_any (counted k) rs) then mark_left m else Some (closed_result (held k n i c rs))) q ∷ ps)
-holder-left open_kind.Captions h rs n f m i c q ps = cc
-holder-left (open_kind.Parts spans) h rs n f m i c q ps = cc
-holder-left (open_kind.Rows rows) h rs n f m i c q ps = cc
-holder-left (open_kind.Row cells) h rs n f m i c q ps = cc
-holder-left k h rs n f m i c q ps =
-    ap (λ x. closed (x ∷ (q ∷ ps))) (plain-come k h rs (holder k n f m i c)) ∙ simp (entries-within n i (trees_of (kept k rs)))
+holder-left : (k : OpenKind) → is_completed k ≡ true → (rs : List Result) (n : RenderNode) (f : IfEmpty) (m : Option (List ℕ)) (i : Insertion) (c : Bool)
+    (q : OpenIn) (ps : List Open) → closed_once (results_over rs (begun_over (created k (held_back m i.back) f c) n i.front (outside ps q)))
+    ≡ Some (outside ps (come (if vanishes f (list_any (counted k) rs) then mark_left m else Some (closed_result (held_over k n i c rs))) q))
+holder-left (open_kind.Parts spans) h rs n f m i c q ps = absurd (cc)
+holder-left (open_kind.Rows rows) h rs n f m i c q ps = absurd (cc)
+holder-left (open_kind.Row cells) h rs n f m i c q ps = absurd (cc)
+holder-left k h rs n f m i c q ps = seam rs (created k (held_back m i.back) f c) (leaf n ∷ leaves i.front) q ps ∙ simp entries-within
+
+holder-closes : (e : Element) (has_captions : Bool) (k : OpenKind) → is_completed k ≡ true → (rs : List Result) (n : RenderNode) (i : Insertion)
+    (c : Bool) (q : OpenIn) (ps : List Open) (x r : Result) → {v : Bool} → vanishes e.if_empty (list_any (counted k) rs) ≡ v → held_over k n i c rs ≡ x →
+    come (Some (closed_result x)) q ≡ all_come (inserted (level_in e.kind (inserts e) has_captions) e r ∷ []) q →
+    closed_once (results_over rs (begun_over (created k (held_back e.texts.mark i.back) e.if_empty c) n i.front (outside ps q)))
+    ≡ Some (outside ps (all_come (option_to_list (left_of e v has_captions r)) q))
+holder-closes e has_captions k h rs n i c q ps x r {v} vanish same comes =
+    holder-left k h rs n e.if_empty e.texts.mark i c q ps
+    ∙ ap (λ b. Some (outside ps (come (if b then mark_left e.texts.mark else Some (closed_result (held_over k n i c rs))) q))) vanish
+    ∙ ap (λ y. Some (outside ps (come (if v then mark_left e.texts.mark else Some (closed_result y)) q))) same
+    ∙ ap (λ w. Some (outside ps w)) (left-comes e v has_captions (closed_result x) r q q (λ b. refl) comes)
+
+-- a container that holds what an element inserts, as it opens in an open element
+abbrev container_in : Element → RenderNode → OpenIn → OpenIn
+container_in e n q = record {
+  element = record (held (open_kind.Node Any) true e) { start = length q.tree };
+  tree = q.tree ++ leaf n ∷ leaves (insertion_of e).front;
+}
 
 -- what an element becomes whose node keeps and counts results by its kind
 made-node : (e : Element) (kind : NodeKind) (rs : List Result) → (let k = open_kind.Node (keeping_of kind) in
@@ -104,248 +132,255 @@ made-node e Dl rs = refl
 made-node e (Link target) rs = refl
 made-node e kind rs = refl
 
-module _ (e : Element) (p : OpenElement) (ps : List OpenElement) (rs : List Result) where
-  node-inside : (kind : NodeKind) → (not (inserts e) || holds_insertions kind) ≡ true →
-      closed_over rs (begun_node true kind (of_kind e (element.Node kind)) ++ p ∷ ps) ≡ after_result p ps (made (of_kind e (element.Node kind)) [] rs)
-  node-inside kind h = let k = open_kind.Node (keeping_of kind) in
-      holder-left k refl rs (node_in e.style kind) e.if_empty e.texts.mark (insertion_of e) (inserts e) p ps
-      ∙ ap (λ x. Some (x ∷ ps)) (left-comes (of_kind e (element.Node kind)) _ false _ (over e.style kind (kept k rs)) p p (λ v. refl) (rw h))
-      ∙ ap (after_result p ps) (made-node e kind rs)
+module _ (e : Element) (ps : List Open) (rs : List Result) where
+  -- what is to be shown of an element of a kind that closes in an open element
+  abbrev Closes : ElementKind → OpenIn → Type 0
+  Closes kind q = closed (results_over rs (begun kind (of_kind e kind) (outside ps q))) ≡ after_result q ps (made (of_kind e kind) [] rs)
 
-  -- a node in a container
-  wrapped-entries : (n : RenderNode) (i : Insertion) (o : Option Nodes) →
-      option_map (over_entries (without_style Container))
-      (option_map (λ es. es ++ leaves i.back) (appended (Some (leaves i.front))
-      (option_map (over_entries n) (option_map (λ es. es ++ []) (appended (Some []) (option_map flatten o))))))
-      ≡ option_map (λ t. flatten (node (without_style Container) t none)) (option_map (λ t. followed_by (trees i.front) (node n t (trees i.back))) o)
-  wrapped-entries n i None = refl
-  wrapped-entries n i (Some t) = ap Some (simp (flatten-followed_by, flatten-trees, append_assoc, append-nil))
+  module _ (kind : NodeKind) (q : OpenIn) where
+    abbrev inside : Result
+    inside = over e.style kind (kept (open_kind.Node (keeping_of kind)) rs)
 
-  module _ (kind : NodeKind) where
-    abbrev wrapped : IfEmpty → OpenElement
-    wrapped f = record (holder (open_kind.Node (keeping_of kind)) (node_in e.style kind) f None nothing false) { is_wrapped = true }
+    -- a container with the node in it
+    abbrev container : IfEmpty → OpenIn
+    container f = container_in (record e { if_empty = f }) (without_style Container) q
 
-    abbrev wrapper : IfEmpty → OpenElement
-    wrapper f = holder (open_kind.Node Any) (without_style Container) f e.texts.mark (insertion_of e) true
+    stands : (f : IfEmpty) → closed_once (outside (q.element ∷ ps) (come (Some (closed_result inside)) (container f)))
+        ≡ Some (outside ps (come (if vanishes f true then mark_left e.texts.mark else Some (closed_result (inserted None e inside))) q))
+    stands f =
+        ap (λ w. closed_once (outside (q.element ∷ ps) w)) (contents-come inside (container f))
+        ∙ holder-left (open_kind.Node Any) refl (inside ∷ []) (without_style Container) f e.texts.mark (insertion_of e) true q ps
+        ∙ ap (λ x. Some (outside ps (come (if vanishes f true then mark_left e.texts.mark else Some (closed_result x)) q))) (simp or-false)
 
-    abbrev trees_in : Option Nodes
-    trees_in = trees_of (kept (open_kind.Node (keeping_of kind)) rs)
+    beside-left : (f : IfEmpty) (b : Bool) → (not (inserts e) || holds_insertions kind) ≡ false →
+        closed_once (outside (q.element ∷ ps) (come (if vanishes f b then mark_left None else Some (closed_result inside)) (container f)))
+        ≡ Some (outside ps (all_come (option_to_list (left_of (of_kind e (element.Node kind)) (vanishes f b) false inside)) q))
+    beside-left Stands b h = stands Stands ∙ rw h (ap (λ w. Some (outside ps w)) (contents-come (inserted None e inside) q))
+    beside-left Vanishes true h = stands Vanishes ∙ rw h (ap (λ w. Some (outside ps w)) (contents-come (inserted None e inside) q))
+    beside-left Vanishes false h =
+        ap (λ w. closed_once (outside (q.element ∷ ps) w)) (sym (none-come (container Vanishes)))
+        ∙ holder-left (open_kind.Node Any) refl [] (without_style Container) Vanishes e.texts.mark (insertion_of e) true q ps
+        ∙ ap (λ w. Some (outside ps w)) (mark-comes e.texts.mark q)
 
-    wrapped-left : (f : IfEmpty) (has_results has_children : Bool) →
-        closed (record (wrapped f) { has_results = has_results; has_children = has_children; written = appended (Some []) (option_map flatten trees_in) }
-        ∷ (wrapper f ∷ (p ∷ ps)))
-        ≡ Some (received_any (if vanishes f has_results then mark_left e.texts.mark else Some (closed_node role.Contents (without_style Container) true
-        (option_map (λ es. es ++ leaves (insertion_of e).back) (appended (Some (leaves (insertion_of e).front))
-        (option_map (over_entries (node_in e.style kind)) (option_map (λ es. es ++ []) (appended (Some []) (option_map flatten trees_in)))))))) p ∷ ps)
-    wrapped-left Stands b c = refl
-    wrapped-left Vanishes true c = refl
-    wrapped-left Vanishes false c = refl
+    node-closes : (b : Bool) → (not (inserts e) || holds_insertions kind) ≡ b → (let node_element = of_kind e (element.Node kind) in
+        closed (results_over rs (begun_node b kind node_element (outside ps q))) ≡ after_result q ps (made node_element [] rs))
+    node-closes true h =
+        holder-closes (of_kind e (element.Node kind)) false (open_kind.Node (keeping_of kind)) refl rs (node_in e.style kind) (insertion_of e) (inserts e) q ps
+        (inserted (Some 0) e inside) inside refl refl (rw h (contents-come (inserted (Some 0) e inside) q))
+        ∙ ap (after_result q ps) (made-node e kind rs)
+    node-closes false h =
+        ap (λ s. s >>= closed_once) (holder-left (open_kind.Node (keeping_of kind)) refl rs (node_in e.style kind) e.if_empty None nothing false
+        (container e.if_empty) (q.element ∷ ps))
+        ∙ simp (filled-nothing 0) (beside-left e.if_empty _ h ∙ ap (after_result q ps) (made-node e kind rs))
 
-    node-beside : (not (inserts e) || holds_insertions kind) ≡ false →
-        closed_over rs (begun_node false kind (of_kind e (element.Node kind)) ++ p ∷ ps) ≡ after_result p ps (made (of_kind e (element.Node kind)) [] rs)
-    node-beside h = let k = open_kind.Node (keeping_of kind) in
-        ap (λ x. closed (x ∷ (wrapper e.if_empty ∷ (p ∷ ps)))) (plain-come k refl rs (wrapped e.if_empty))
-        ∙ wrapped-left e.if_empty (list_any (counted k) rs) (is_filled (kept k rs))
-        ∙ ap (λ x. Some (x ∷ ps)) (left-comes (of_kind e (element.Node kind)) _ false _ (over e.style kind (kept k rs)) p p (λ v. refl)
-        (rw h (simp (wrapped-entries (node_in e.style kind) (insertion_of e) trees_in))))
-        ∙ ap (after_result p ps) (made-node e kind rs)
+  abbrev caption : Result
+  caption = record (over e.style Container rs) { role = role.Caption }
 
-  caption-closes : closed_over rs (begun (element.Part part.Caption) (of_kind e (element.Part part.Caption)) (p ∷ ps))
-      ≡ after_result p ps (made (of_kind e (element.Part part.Caption)) [] rs)
-  caption-closes =
-      holder-left open_kind.Caption refl rs (node_in e.style (caption_kind (is_captions p.kind))) e.if_empty e.texts.mark (insertion_of e) (inserts e) p ps
-      ∙ simp (filter-all, any-all)
-      (ap (λ x. Some (x ∷ ps)) (left-comes (of_kind e (element.Part part.Caption)) _ false _ (record (over e.style Container rs) { role = role.Caption }) p p (λ v. refl)
-      (by p.kind (inserts e || is_filled rs) (option_map (filled 0 (insertion_of e)) (trees_of rs)))))
+  caption-closes : (q : OpenIn) → Closes (element.Part part.Caption) q
+  caption-closes q = let k = q.element.kind in
+      holder-closes (of_kind e (element.Part part.Caption)) false open_kind.Caption refl rs (node_in e.style (caption_kind (is_captions k)))
+      (insertion_of e) (inserts e) q ps (placed role.Caption k q.element.due (inserted (Some 0) e caption)) caption
+      (ap (vanishes e.if_empty) (any-all rs)) (simp filter-all) (one-come role.Caption k (inserted (Some 0) e caption) q)
+
+  -- ---- cells, rows and parts of a table: in their place they take what is due
+
+  within-nothing : (i : Insertion) → within nothing i ≡ i
+  within-nothing i = ap (λ b. record i { back = b }) (append-nil i.back)
+
+  abbrev cell : CellSpan → Result
+  cell span = inserted (Some 0) e (record (over e.style TableCell rs) { role = role.Cell span })
+
+  cell-left : (span : CellSpan) (i : Insertion) (p w : OpenIn) {t : Nodes} → filled 0 i (beside rs) ≡ t → come (Some (closed_result (record (cell span) { below = t }))) p ≡ w →
+      closed_once (results_over rs (begun_over (created (open_kind.Cell span) (held_back e.texts.mark i.back) Stands (inserts e)) (node_in e.style TableCell) i.front (outside ps p)))
+      ≡ Some (outside ps w)
+  cell-left span i p w same comes =
+      let held : held_over (open_kind.Cell span) (node_in e.style TableCell) i (inserts e) rs ≡ record (cell span) { below = filled 0 i (beside rs) } = simp filter-all in
+      holder-left (open_kind.Cell span) refl rs (node_in e.style TableCell) Stands e.texts.mark i (inserts e) p ps
+      ∙ ap (λ x. Some (outside ps (come (Some (closed_result x)) p))) (held ∙ ap (λ t. record (cell span) { below = t }) same) ∙ ap (λ v. Some (outside ps v)) comes
+
+  cell-closes : (span : CellSpan) (k : OpenKind) (q : OpenIn) → Closes (element.Part (part.Cell span)) (at k q)
+  cell-closes span (open_kind.Row cells) q = let d = due_of q.element.due in
+      cell-left span (within d (insertion_of e)) (record q { element = emptied (at (open_kind.Row cells) q).element }) _
+      (filled-within 0 d (insertion_of e) (beside rs)) (one-come (role.Cell span) (open_kind.Row cells) (cell span) q)
+  cell-closes span k q =
+      cell-left span (within nothing (insertion_of e)) (at k q) _
+      (ap (λ i. filled 0 i (beside rs)) (within-nothing (insertion_of e))) (one-come (role.Cell span) k (cell span) q)
+
+  abbrev cells_in : Nodes
+  cells_in = beside (kept (open_kind.Row []) rs)
+
+  abbrev row : Result
+  row = inserted (Some 1) e (row_over e.style (kept (open_kind.Row []) rs))
+
+  row-left : (i : Insertion) (p w : OpenIn) {t : Nodes} → filled 1 i cells_in ≡ t → come (Some (closed_result (record row { below = t }))) p ≡ w →
+      closed_once (results_over rs (begun_over (created (open_kind.Row []) (record { mark = e.texts.mark; own = i; given = nothing }) Stands false)
+      (node_in e.style TableRow) [] (outside ps p))) ≡ Some (outside ps w)
+  row-left i p w same comes =
+      seam rs (created (open_kind.Row []) (record { mark = e.texts.mark; own = i; given = nothing }) Stands false) (leaf (node_in e.style TableRow) ∷ []) p ps
+      ∙ ap (λ t. Some (outside ps (come (Some (closed_result (record row { below = t }))) p))) (ap (λ j. filled 1 j cells_in) (within-nothing i) ∙ same)
+      ∙ ap (λ v. Some (outside ps v)) comes
+
+  row-closes : (k : OpenKind) (q : OpenIn) → Closes (element.Part part.Row) (at k q)
+  row-closes (open_kind.Rows rows) q = let d = due_of q.element.due in
+      row-left (within d (insertion_of e)) (record q { element = emptied (at (open_kind.Rows rows) q).element }) _
+      (filled-within 1 d (insertion_of e) cells_in) (one-come row.role (open_kind.Rows rows) row q)
+  row-closes k q =
+      row-left (within nothing (insertion_of e)) (at k q) _ (ap (λ i. filled 1 i cells_in) (within-nothing (insertion_of e))) (one-come row.role k row q)
+
+  abbrev rows_in : Nodes
+  rows_in = beside (kept (open_kind.Rows []) rs)
+
+  abbrev rows : Result
+  rows = rows_over (kept (open_kind.Rows []) rs)
+
+  abbrev rows_open : Insertion → Open
+  rows_open given = created (open_kind.Rows []) (record { mark = e.texts.mark; own = insertion_of e; given = given }) e.if_empty false
+
+  rows-left : (given : Insertion) (p q : OpenIn) {t : Nodes} → (let back = record p { element = given_back (results_come rs (rows_open given)) p.element } in
+      (vanishes e.if_empty (list_any (λ (r : Result). true) rs) ≡ true → back ≡ q) → filled 2 (within given (insertion_of e)) rows_in ≡ t →
+      come (Some (closed_result (record rows { below = t }))) back ≡ all_come (inserted (Some 2) e rows ∷ []) q →
+      closed_once (results_over rs (begun_with (rows_open given) [] (outside ps p))) ≡ after_result q ps (made (of_kind e (element.Part part.Body)) [] rs))
+  rows-left given p q {t} vanished same comes =
+      let back = record p { element = given_back (results_come rs (rows_open given)) p.element } in
+      let v = vanishes e.if_empty (list_any (λ (r : Result). true) rs) in
+      seam rs (rows_open given) [] p ps
+      ∙ ap (λ u. Some (outside ps (come (if v then mark_left e.texts.mark else Some (closed_result (record rows { below = u }))) back))) same
+      ∙ ap (λ w. Some (outside ps w)) (left-comes (of_kind e (element.Part part.Body)) v false (closed_result (record rows { below = t })) rows back q vanished comes)
+      ∙ ap (λ b. Some (outside ps (all_come (option_to_list (left_of (of_kind e (element.Part part.Body)) (vanishes e.if_empty b) false rows)) q))) (any-all rs)
+
+  -- a table gets back what no row took
+  body-closes : (k : OpenKind) (q : OpenIn) → Closes (element.Part part.Body) (at k q)
+  body-closes (open_kind.Parts spans) q =
+      let d = q.element.due in
+      let due = λ (own : Insertion). record q { element = record q.element { kind = open_kind.Parts spans; due = record d { own = own } } } in
+      rows-left d.own (due nothing) (at (open_kind.Parts spans) q) (λ v. ap due (untaken e.if_empty rs v)) (filled-within 2 d.own (insertion_of e) rows_in)
+      (ap (λ own. come (Some (closed_result (record rows { below = filled 2 d.own (filled 2 (insertion_of e) rows_in) }))) (due own)) (taken rows_in)
+      ∙ one-come rows.role (open_kind.Parts spans) (inserted (Some 2) e rows) q)
     where
-      by : (k : OpenKind) (h : Bool) (o : Option Nodes) →
-          received (closed_result (record { role = role.Caption; node = node_in e.style (caption_kind (is_captions k)); has_children = h; below = o })) p
-          ≡ received (closed_result (as_caption k (record { role = role.Caption; node = node_in e.style Container; has_children = h; below = o }))) p
-      by open_kind.Captions h o = refl
-      by k h o = refl
+      untaken : (f : IfEmpty) (l : List Result) → vanishes f (list_any (λ (r : Result). true) l) ≡ true →
+          unless_taken (beside (kept (open_kind.Rows []) l)) q.element.due.own ≡ q.element.due.own
+      untaken f [] h = refl
+      untaken Stands (x ∷ xs) h = absurd (cc)
+      untaken Vanishes (x ∷ xs) h = absurd (cc)
 
-  cell-closes : (span : CellSpan) (b : Bool) → is_row p.kind ≡ b →
-      closed_over rs (begun_cell span b (of_kind e (element.Part (part.Cell span))) (p ∷ ps))
-      ≡ after_result p ps (made (of_kind e (element.Part (part.Cell span))) [] rs)
-  cell-closes span true k =
-      holder-left (open_kind.Cell span) refl rs _ Stands e.texts.mark (within p.due (insertion_of e)) (inserts e) (once p) ps
-      ∙ rw k (simp (filter-all, filled-twice))
-  cell-closes span false k =
-      holder-left (open_kind.Cell span) refl rs _ Stands e.texts.mark (within nothing (insertion_of e)) (inserts e) p ps ∙ rw k (simp (filter-all, append-nil))
+      taken : (t : Nodes) → unless_taken t q.element.due.own ≡ unless_taken (filled 2 (insertion_of e) t) q.element.due.own
+      taken none = refl
+      taken (node n children others) = refl
+  body-closes k q =
+      rows-left nothing (at k q) (at k q) (λ v. refl) (ap (λ i. filled 2 i rows_in) (within-nothing (insertion_of e)))
+      (one-come rows.role k (inserted (Some 2) e rows) q)
 
-  -- ---- rows
-
-  abbrev row : Insertion → OpenElement
-  row i = record (carrier (open_kind.Row []) (node_in e.style TableRow) e i None) { if_empty = Stands }
-
-  row-left : (i : Insertion) (q : OpenElement) → closed (all_come rs (row i) ∷ (q ∷ ps))
-      ≡ Some (received (closed_result (record (row_over e.style (members cell_of rs)) { below = option_map (filled 1 i) (beside (members cell_of rs)) })) q ∷ ps)
-  row-left i q =
-      ap (λ x. closed (x ∷ (q ∷ ps))) (members-come open_kind.Row cell_of 0 (λ g. g) (λ s x r. row-one s x.role x r) (λ g. refl) rs [] (row i))
-      ∙ simp (if-same, entries-over (node_in e.style TableRow) (filled 1 i) (beside (members cell_of rs)))
-
-  row-closes : (b : Bool) → is_rows p.kind ≡ b →
-      closed_over rs (begun_row b (of_kind e (element.Part part.Row)) (p ∷ ps)) ≡ after_result p ps (made (of_kind e (element.Part part.Row)) [] rs)
-  row-closes true k = row-left (within p.due (insertion_of e)) (once p) ∙ rw k (simp filled-twice)
-  row-closes false k = row-left (within nothing (insertion_of e)) p ∙ rw k (simp append-nil)
-
-  -- ---- parts of a table
-
-  -- rows that become nothing have none
-  vanish-empty : (f : IfEmpty) (l : List Result) → vanishes f (is_filled l) ≡ true → members row_of l ≡ []
-  vanish-empty f [] v = refl
-  vanish-empty Stands (x ∷ xs) v = cc
-  vanish-empty Vanishes (x ∷ xs) v = cc
-
-  -- rows take what is due where there is one
-  take-filled : (i : Insertion) (l : List Result) → take_due (option_map (filled 2 i) (beside l)) ≡ is_filled l
-  take-filled i [] = refl
-  take-filled i (x ∷ xs) = by x.below (beside xs)
-    where
-      by : (o u : Option Nodes) → take_due (option_map (filled 2 i) (one_more x.node o u)) ≡ true
-      by None u = refl
-      by (Some t) None = refl
-      by (Some t) (Some u) = refl
-
-  rows-left : (i : Insertion) (g : Option Insertion) (q : OpenElement) →
-      closed (all_come rs (carrier (open_kind.Rows []) (without_style Container) e i g) ∷ (q ∷ ps))
-      ≡ Some (received_any (if vanishes e.if_empty (is_filled rs) then mark_left e.texts.mark
-      else Some (closed_result (record (rows_over (members row_of rs)) { below = option_map (filled 2 i) (beside (members row_of rs)) })))
-      (with_given (if is_filled (members row_of rs) then None else g) q) ∷ ps)
-  rows-left i g q =
-      ap (λ x. closed (x ∷ (q ∷ ps)))
-      (members-come (open_kind.Rows) row_of 1 (λ g. None) (λ s x r. rows-one s x.role x r) (λ g. refl) rs []
-      (carrier (open_kind.Rows []) (without_style Container) e i g))
-      ∙ simp (nil-appended, map-map)
-
-  given-back : is_table p.kind ≡ true → (b : Bool) → with_given (if b then None else Some p.due) (once p) ≡ record (once p) { due = if b then nothing else p.due }
-  given-back h true = refl
-  given-back h false = rw h
-
-  -- a table gives nothing back
-  table-once : (k : OpenKind) → is_table k ≡ true → record (once (record p { kind = k })) { due = p.due } ≡ record p { kind = k }
-  table-once (open_kind.Parts spans) h = refl
-  table-once k h = cc
-
-  rows-close : (b : Bool) → is_table p.kind ≡ b → (k : ElementKind) → level_in k (inserts e) false ≡ Some 2 →
-      closed_over rs (begun_rows b (of_kind e k) (p ∷ ps))
-      ≡ Some (comes_any (left_of (of_kind e k) (vanishes e.if_empty (is_filled rs)) false (rows_over (members row_of rs))) p ∷ ps)
-  rows-close true h k two =
-      rows-left (within p.due (insertion_of e)) (Some p.due) (once p)
-      ∙ ap (λ x. Some (x ∷ ps)) (left-comes (of_kind e k) _ false _ (rows_over (members row_of rs)) p
-      (with_given (if is_filled (members row_of rs) then None else Some p.due) (once p)) (λ v. rw (vanish-empty e.if_empty rs v, h) (table-once p.kind h)) (rw (two, h) (simp (filled-twice, take-filled (insertion_of e) (members row_of rs), given-back h))))
-  rows-close false h k two =
-      rows-left (within nothing (insertion_of e)) None p
-      ∙ ap (λ x. Some (x ∷ ps)) (left-comes (of_kind e k) _ false _ (rows_over (members row_of rs)) p
-      (with_given (if is_filled (members row_of rs) then None else None) p) (λ v. simp if-same) (rw (two, h) (simp (if-same, append-nil))))
-
-  -- ---- an element of any kind but a table
-
-  node-closes : (kind : NodeKind) (b : Bool) → (not (inserts e) || holds_insertions kind) ≡ b →
-      closed_over rs (begun_node b kind (of_kind e (element.Node kind)) ++ p ∷ ps) ≡ after_result p ps (made (of_kind e (element.Node kind)) [] rs)
-  node-closes kind true h = node-inside kind h
-  node-closes kind false h = node-beside kind h
-
-  pub closes : (k : ElementKind) → is_table_kind k ≡ false → closed_over rs (begun k (of_kind e k) (p ∷ ps)) ≡ after_result p ps (made (of_kind e k) [] rs)
-  closes (element.Node kind) h = node-closes kind (not (inserts e) || holds_insertions kind) refl
-  closes (element.Part part.Table) h = cc
-  closes (element.Part part.Body) h = rows-close (is_table p.kind) refl (element.Part part.Body) refl
-  closes (element.Part part.Row) h = row-closes (is_rows p.kind) refl
-  closes (element.Part (part.Cell span)) h = cell-closes span (is_row p.kind) refl
-  closes (element.Part part.Caption) h = caption-closes
+  pub closes : (kind : ElementKind) → is_table_kind kind ≡ false → (q : OpenIn) → Closes kind q
+  closes (element.Node kind) h q = node-closes kind q (not (inserts e) || holds_insertions kind) refl
+  closes (element.Part part.Table) h q = absurd (cc)
+  closes (element.Part part.Body) h q = body-closes q.element.kind q
+  closes (element.Part part.Row) h q = row-closes q.element.kind q
+  closes (element.Part (part.Cell span)) h q = cell-closes span q.element.kind q
+  closes (element.Part part.Caption) h q = caption-closes q
 
 -- ---- tables
 
-beside-append : (xs ys : List Result) →
-    option_map flatten (beside (xs ++ ys)) ≡ appended (option_map flatten (beside xs)) (option_map flatten (beside ys))
-beside-append [] ys = sym (nil-appended (option_map flatten (beside ys)))
-beside-append (x ∷ xs) ys =
-    sym (node-entries x.node x.below (beside (xs ++ ys)))
-    ∙ ap (appended (option_map (λ t. flatten (node x.node t none)) x.below)) (beside-append xs ys)
-    ∙ sym (appended_assoc (option_map (λ t. flatten (node x.node t none)) x.below) (option_map flatten (beside xs)) (option_map flatten (beside ys)))
-    ∙ ap (λ o. appended o (option_map flatten (beside ys))) (node-entries x.node x.below (beside xs))
+map-map : {X Y Z : Type 0} (f : Y → Z) (g : X → Y) (o : Option X) → option_map f (option_map g o) ≡ option_map (λ x. f (g x)) o
+map-map f g None = refl
+map-map f g (Some x) = refl
 
-module _ (e : Element) (p : OpenElement) (ps : List OpenElement) where
+any-filter : {X : Type 0} (f g : X → Bool) (xs : List X) → list_any (λ x. f x && g x) xs ≡ list_any f (filter g xs)
+any-filter f g [] = refl
+any-filter f g (x ∷ xs) = elim (cases_Bool (g x)) [
+  | inl h ↦ rw (h, and-true, any-filter f g xs)
+  | inr h ↦ rw (h, and-false, any-filter f g xs)
+]
+
+-- results of parts of a table
+abbrev parts : List Result → List Result
+parts rs = kept (open_kind.Parts []) rs
+
+abbrev grid_over : List Result → Option TableParts
+grid_over rs = option_map unmeasured_table (cell_grid_of (flat_map (λ r. spans_of r.role) (parts rs)))
+
+parts-left : (style : NodeStyle) (f : IfEmpty) (m : Option (List ℕ)) (i : Insertion) (c : Bool) (rs : List Result) (q : OpenIn) (ps : List Open) →
+    closed_once (results_over rs (begun_over (created (open_kind.Parts []) (record { mark = m; own = i; given = nothing }) f c) (node_in style Container) [] (outside ps q)))
+    ≡ option_map (λ g. outside ps (come (if vanishes f (list_any (λ r. r.has_children) (parts rs)) then mark_left m
+    else Some (closed_result (record (table_over style g (parts rs)) { below = filled 2 i (beside (parts rs)) }))) q)) (grid_over rs)
+parts-left style f m i c rs q ps =
+    seam rs (created (open_kind.Parts []) (record { mark = m; own = i; given = nothing }) f c) (leaf (node_in style Container) ∷ []) q ps
+    ∙ simp map-map
+    (ap (λ b. option_map (λ g. outside ps (come (if vanishes f b then mark_left m
+    else Some (closed_result (record (table_over style (unmeasured_table g) (parts rs)) { below = filled 2 i (beside (parts rs)) }))) q)) (cell_grid_of (flat_map (λ r. spans_of r.role) (parts rs))))
+    (any-filter (λ r. r.has_children) (λ r. are_rows r.role) rs))
+
+any-map : {X Y : Type 0} (p : Y → Bool) (f : X → Y) (xs : List X) → list_any p (map f xs) ≡ list_any (λ x. p (f x)) xs
+any-map p f [] = refl
+any-map p f (x ∷ xs) = ap (λ b. p (f x) || b) (any-map p f xs)
+
+module _ (e : Element) (q : OpenIn) (ps : List Open) where
   abbrev pub table : Element
   table = of_kind e (element.Part part.Table)
 
-  -- what a table becomes over its captions and its parts
-  abbrev made_over : (captions parts : List Result) → Option TableParts → Option (Option Result)
-  made_over c l grid =
-      option_map (left_of table (vanishes e.if_empty (is_filled c || list_any (λ r. r.has_children) l)) (is_filled c)) (do
-        g ← grid
-        Some (if is_filled c then captioned e.style g c l else table_over e.style g l))
+  -- a table as it opens: a container for captions
+  abbrev around : OpenIn
+  around = container_in e (node_in e.style Container) q
 
-  -- once captions have come
-  abbrev pub captions_open : List Result → OpenElement
-  captions_open c = record (holder open_kind.Captions (node_in e.style Container) e.if_empty e.texts.mark (insertion_of e) true) {
-    has_results = is_filled c;
-    written = appended (Some (leaves (insertion_of e).front)) (option_map flatten (beside (map as_block c)));
-  }
+  abbrev pub table_begun : OpenIn
+  table_begun = at open_kind.Captions around
 
-  -- a table without captions, whose parts come
-  abbrev table_open : OpenElement
-  table_open = record (holder (open_kind.Parts []) (node_in e.style Container) e.if_empty e.texts.mark nothing true) { due = insertion_of e }
+  -- and once captions have come, as blocks
+  abbrev pub captions_open : List Result → OpenIn
+  captions_open c = at open_kind.Captions (all_come (map as_block c) around)
 
-  abbrev container_open : List Result → OpenElement
-  container_open c = record (captions_open c) { kind = open_kind.Node Any }
+  pub captions-come : (cs : List Result) → all_come cs table_begun ≡ captions_open (kept open_kind.Captions cs)
+  captions-come cs = simp (any-filter (λ (r : Result). true) (λ r. is_caption r.role), any-map, filter-all)
+
+  -- without captions the container becomes the table
+  alone-parted : all_parted (outside (q.element ∷ ps) (captions_open []))
+      ≡ begun_over (created (open_kind.Parts []) (record { mark = e.texts.mark; own = insertion_of e; given = nothing }) e.if_empty true)
+      (node_in e.style Container) [] (outside ps q)
+  alone-parted = simp (append-nil, take-append-add, drop-append-add, nodes-leaves)
 
   alone-closes : (l : List Result) (grid : Option TableParts) →
-      option_map (λ left. received_any left p ∷ ps) (option_map (λ g. if vanishes e.if_empty (list_any (λ r. r.has_children) (parts l)) then mark_left e.texts.mark
-      else Some (closed_node role.Contents (node_in e.style (Table g)) true (appended (Some []) (option_map (λ t. flatten (filled 2 (insertion_of e) t)) (part_trees (parts l)))))) grid)
-      ≡ after_result p ps (made_over [] (parts l) grid)
+      option_map (λ g. outside ps (come (if vanishes e.if_empty (list_any (λ r. r.has_children) (parts l)) then mark_left e.texts.mark
+      else Some (closed_result (record (table_over e.style g (parts l)) { below = filled 2 (insertion_of e) (beside (parts l)) }))) q)) grid
+      ≡ after_result q ps (option_map (left_of table (vanishes e.if_empty (list_any (λ r. r.has_children) (parts l))) false) (do
+        g ← grid
+        Some (table_over e.style g (parts l))))
   alone-closes l None = refl
   alone-closes l (Some g) =
-      ap (λ x. Some (x ∷ ps)) (left-comes table _ false _ (table_over e.style g (parts l)) p p (λ v. refl)
-      (simp (entries-over (node_in e.style (Table g)) (filled 2 (insertion_of e)) (part_trees (parts l)))))
+      ap (λ x. Some (outside ps x)) (left-comes table _ false _ (table_over e.style g (parts l)) q q (λ v. refl) (contents-come (inserted (Some 2) e (table_over e.style g (parts l))) q))
 
-  -- captions as blocks, and what else is in their container
-  abbrev captioned_with : (captions inner : List Result) → Result
-  captioned_with c inner = record (over e.style Container c) { has_children = true; below = beside (map as_block c ++ inner) }
+  -- with captions the table opens in the container
+  abbrev container_over : List Result → Result
+  container_over rs = record (over e.style Container rs) { has_children = true }
 
-  -- the container closes over its captions and what else is in it
-  container-closed : (c inner : List Result) (es : Option Entries) → es ≡ option_map flatten (beside inner) →
-      received (closed_node role.Contents (node_in e.style Container) true
-      (option_map (λ l. l ++ leaves (insertion_of e).back) (appended (captions_open c).written es))) p
-      ≡ comes (inserted (Some 0) table (captioned_with c inner)) p
-  container-closed c inner es same =
-      let front = Some (leaves (insertion_of e).front) in
-      let blocks = option_map flatten (beside (map as_block c)) in
-      ap (λ x. received (closed_node role.Contents (node_in e.style Container) true (option_map (λ l. l ++ leaves (insertion_of e).back) x)) p)
-      (ap (appended (appended front blocks)) same ∙ appended_assoc front blocks (option_map flatten (beside inner))
-      ∙ ap (appended front) (sym (beside-append (map as_block c) inner)))
-      ∙ simp (or-true, entries-within (node_in e.style Container) (insertion_of e) (beside (map as_block c ++ inner)))
+  container-closes : (x : Result) (xs more : List Result) → closed_once (outside (q.element ∷ ps) (all_come more (all_come (map as_block (x ∷ xs)) around)))
+      ≡ Some (outside ps (all_come (option_to_list (left_of table (vanishes e.if_empty true) true (container_over (map as_block (x ∷ xs) ++ more)))) q))
+  container-closes x xs more = let rs = map as_block (x ∷ xs) ++ more in
+      ap (λ w. closed_once (outside (q.element ∷ ps) w)) (all_come-append (map as_block (x ∷ xs)) more around)
+      ∙ holder-closes table true (open_kind.Node Any) refl rs (node_in e.style Container) (insertion_of e) true q ps (inserted (Some 0) e (container_over rs))
+      (container_over rs) refl (held-any rs) (contents-come (inserted (Some 0) e (container_over rs)) q)
+    where
+      held-any : (rs : List Result) →
+          held_over (open_kind.Node Any) (node_in e.style Container) (insertion_of e) true rs ≡ inserted (Some 0) e (container_over rs)
+      held-any rs = simp (filter-all, or-true)
 
-  inner-same : (g : TableParts) (o : Option Nodes) →
-      option_map (over_entries (without_style (Table g))) (appended (Some []) (option_map (λ t. flatten (filled 2 nothing t)) o))
-      ≡ option_map flatten (one_more (without_style (Table g)) o (Some none))
-  inner-same g None = refl
-  inner-same g (Some t) = ap (λ (u : Nodes). Some (over_entries (without_style (Table g)) (flatten u))) (filled-nothing 2 t) ∙ ap Some (sym (append-nil _))
-
-  -- the table in the container closes, and the container with it
-  captioned-closes : (c l : List Result) → is_filled c ≡ true → (grid : Option TableParts) (b : Bool) →
-      (option_map (λ left. received_any left (container_open c) ∷ (p ∷ ps)) (option_map (λ g. if vanishes Vanishes b then mark_left None
-      else Some (closed_node role.Contents (without_style (Table g)) true (appended (Some []) (option_map (λ t. flatten (filled 2 nothing t)) (part_trees l))))) grid)
-      >>= closed_once)
-      ≡ after_result p ps (option_map (left_of table (vanishes e.if_empty true) true) (do
+  captioned-closes : (x : Result) (xs l : List Result) (b : Bool) (grid : Option TableParts) → (let open_in = all_come (map as_block (x ∷ xs)) around in
+      (option_map (λ g. outside (q.element ∷ ps) (come (if vanishes Vanishes b then mark_left None
+      else Some (closed_result (record (table_over no_style g l) { below = filled 2 nothing (beside l) }))) open_in)) grid >>= closed_once)
+      ≡ after_result q ps (option_map (left_of table (vanishes e.if_empty true) true) (do
         g ← grid
-        Some (captioned_with c (if b then table_over no_style g l ∷ [] else []))))
-  captioned-closes c l h None b = refl
-  captioned-closes c l h (Some g) true =
-      rw h (ap (λ x. Some (x ∷ ps)) (left-comes table (vanishes e.if_empty true) true _ (captioned_with c (table_over no_style g l ∷ [])) p p (λ v. refl)
-      (container-closed c (table_over no_style g l ∷ []) _ (inner-same g (part_trees l)))))
-  captioned-closes c l h (Some g) false =
-      rw h (ap (λ x. Some (x ∷ ps)) (left-comes table (vanishes e.if_empty true) true _ (captioned_with c []) p p (λ v. refl)
-      (ap (λ es. received (closed_node role.Contents (node_in e.style Container) true (option_map (λ l. l ++ leaves (insertion_of e).back) es)) p)
-      (sym (appended-nil (captions_open c).written)) ∙ container-closed c [] (Some []) refl)))
+        Some (container_over (map as_block (x ∷ xs) ++ (if b then table_over no_style g l ∷ [] else []))))))
+  captioned-closes x xs l b None = refl
+  captioned-closes x xs l true (Some g) = let open_in = all_come (map as_block (x ∷ xs)) around in
+      ap (λ t. closed_once (outside (q.element ∷ ps) (come (Some (closed_result (record (table_over no_style g l) { below = t }))) open_in))) (filled-nothing 2 (beside l))
+      ∙ ap (λ w. closed_once (outside (q.element ∷ ps) w)) (contents-come (table_over no_style g l) open_in)
+      ∙ container-closes x xs (table_over no_style g l ∷ [])
+  captioned-closes x xs l false (Some g) =
+      ap (λ w. closed_once (outside (q.element ∷ ps) w)) (sym (none-come (all_come (map as_block (x ∷ xs)) around))) ∙ container-closes x xs []
 
-  pub table-closes : (c l : List Result) → closed_over l (all_parted (captions_open c ∷ (p ∷ ps)))
-      ≡ after_result p ps (made_over c (parts l) (option_map unmeasured_table (cell_grid_of (flat_map (λ r. spans_of r.role) (parts l)))))
+  pub table-closes : (c l : List Result) → closed (results_over l (all_parted (outside (q.element ∷ ps) (captions_open c)))) ≡ after_result q ps (made table c l)
   table-closes [] l =
-      ap (λ x. closed (all_come l x ∷ (p ∷ ps))) (simp (append-nil, nodes-leaves))
-      ∙ ap (λ x. closed (x ∷ (p ∷ ps))) (parts-come l [] table_open)
-      ∙ alone-closes l (option_map unmeasured_table (cell_grid_of (flat_map (λ r. spans_of r.role) (parts l))))
+      ap (λ s. closed (results_over l s)) alone-parted
+      ∙ parts-left e.style e.if_empty e.texts.mark (insertion_of e) true l q ps
+      ∙ alone-closes l (grid_over l)
   table-closes (x ∷ xs) l =
-      ap (λ q. closed (q ∷ (container_open (x ∷ xs) ∷ (p ∷ ps)))) (parts-come l [] table_in_container)
-      ∙ captioned-closes (x ∷ xs) (parts l) refl (option_map unmeasured_table (cell_grid_of (flat_map (λ r. spans_of r.role) (parts l))))
-      (list_any (λ r. r.has_children) (parts l))
+      ap (λ s. s >>= closed_once) (parts-left no_style Vanishes None nothing false l (all_come (map as_block (x ∷ xs)) around) (q.element ∷ ps))
+      ∙ captioned-closes x xs (parts l) (list_any (λ r. r.has_children) (parts l)) (grid_over l)

@@ -1,33 +1,160 @@
--- What results of the definition do to an open element: one, and one after another.
-use Rattle.std.proofs.Common.{◌≡◌, ℕ, suc, Bool, true, false, not, ◌&&◌, ◌||◌, if◌then◌else◌, List, [], ◌∷◌, ◌++◌, map, Option, Some, None, option_map, is_some, refl, sym, ap, ◌∙◌, inl, inr, append_assoc, append-nil}
+-- What results of the definition do to an open element and to the nodes that are written.
+use Rattle.std.proofs.Common.{◌≡◌, Bool, true, false, ◌||◌, if◌then◌else◌, List, [], ◌∷◌, ◌++◌, map, Some, refl, sym, ap, ◌∙◌, inl, inr, append_assoc, append-nil}
 use Rattle.std.specs.Prelude.{filter, flat_map, option_to_list}
-use Rattle.std.specs.List.{list_all, list_any}
-use Rattle.std.specs.Option.{option_map_or}
-use Rattle.std.proofs.Math.Bool.{or_assoc, or-false, or-true, and-false, and-true}
+use Rattle.std.specs.List.{list_any}
+use Rattle.std.proofs.Math.Bool.{or_assoc, or-false, or-true}
 use Rattle.std.proofs.lemmas.Bool.{cases_Bool}
+use Rattle.std.proofs.lemmas.List.{map-append}
+use Rattle.std.proofs.lemmas.List.Elements.{filter-append}
+use Rattle.std.proofs.lemmas.List.Folds.{list_any-append}
+use Rattle.std.proofs.lemmas.Grind.{flat_map-append}
 use Rattle.html_render_dom_values.specs.Forest.{none, node, followed_by}
-use Rattle.html_render_dom_values.specs.Outcome.{◌>>=◌}
 use Rattle.html_render_dom_styles.specs.Selectors.{is_filled}
 use Rattle.html_render_layout_nodes.specs.Preorder.{flatten}
 use Rattle.html_render_layout_nodes.specs.laws.Preorder.{flatten-followed_by}
+use Rattle.html_render_layout_nodes.specs.laws.Splits.{followed_by-none, followed_by-followed_by}
 use Rattle.html_render_layout_nodes.specs.declared.tree.NodeKind.TheVariants.{Block}
 use Rattle.html_render_layout_nodes.specs.declared.tree.RenderNode.{RenderNode}
-use Rattle.html_render_parts.specs.declared.table.Span.{Span}
-use Rattle.html_render_tree_convert.specs.Results.{Nodes, Role, Result, of_role, are_rows, beside, cell_of, is_caption, joined, row_of, spans_of, stands_alone, trees_of}
+use Rattle.html_render_tree_convert.specs.Results.{Nodes, Role, Result, any_stray, beside, cell_of, has_stray, row_of, spans_of}
 use Rattle.html_render_tree_convert.specs.Results as role
-use Rattle.html_render_tree_convert.specs.declared.tables.CellSpan.{CellSpan}
-use Rattle.html_render_tree_convert.specs.OpenElements.{OpenElement, Insertion, nothing}
+use Rattle.html_render_tree_convert.specs.Held.{Entries, Held, Insertion, due_of, leaf, nothing, nothing_held, sized}
+use Rattle.html_render_tree_convert.specs.OpenElements.{OpenIn}
+use Rattle.html_render_tree_convert.specs.declared.elements.Open.{Open}
 use Rattle.html_render_tree_convert.specs.declared.elements.OpenKind.{OpenKind}
 use Rattle.html_render_tree_convert.specs.declared.elements.OpenKind.TheVariants as open_kind
-use Rattle.html_render_tree_convert.specs.Steps.{Closed, accepts, appended, counts_in, is_captions, is_row, is_rows, is_table, once, received}
-use Rattle.html_render_tree_convert.proofs.Entries.{Entries, appended-nil, appended_assoc, filled, filled-nothing}
+use Rattle.html_render_tree_convert.specs.Steps.{Closed, accepts, come, counts_in, is_captions}
+use Rattle.html_render_tree_convert.proofs.Entries.{filled, filled-nothing}
+
+-- ---- results in an open element
+
+-- results that an open element of a kind keeps, whether one counts, and whether a part of a table is among them that is in none
+abbrev pub kept : OpenKind → List Result → List Result
+kept k rs = filter (λ r. accepts k r.role r.node.kind) rs
+
+abbrev pub counted : OpenKind → Result → Bool
+counted k r = counts_in k r.role r.node.kind r.has_children
+
+abbrev pub strays : OpenKind → List Result → Bool
+strays (open_kind.Parts spans) rs = any_stray rs
+strays (open_kind.Rows rows) rs = any_stray rs
+strays (open_kind.Row cells) rs = any_stray rs
+strays k rs = has_stray rs
+
+-- a caption above its table
+abbrev pub as_block : Result → Result
+as_block r = record r { node = record r.node { kind = Block } }
+
+-- what is gathered of results that are kept
+abbrev pub all_gathered : OpenKind → List Result → OpenKind
+all_gathered (open_kind.Parts spans) rs = open_kind.Parts (spans ++ flat_map (λ r. spans_of r.role) rs)
+all_gathered (open_kind.Rows rows) rs = open_kind.Rows (rows ++ flat_map (λ r. option_to_list (row_of r.role)) rs)
+all_gathered (open_kind.Row cells) rs = open_kind.Row (cells ++ flat_map (λ r. option_to_list (cell_of r.role)) rs)
+all_gathered k rs = k
+
+-- their nodes
+abbrev pub nodes_in : OpenKind → List Result → Nodes
+nodes_in open_kind.Captions rs = beside (map as_block rs)
+nodes_in k rs = beside rs
+
+-- nodes in an open element, the first with what is due in it
+abbrev pub with_due : OpenKind → Held → Nodes → Nodes
+with_due (open_kind.Parts spans) d t = filled 2 d.own t
+with_due (open_kind.Rows rows) d t = filled 2 (due_of d) t
+with_due (open_kind.Row cells) d t = filled 1 (due_of d) t
+with_due k d t = t
+
+abbrev pub has_nodes : Nodes → Bool
+has_nodes none = false
+has_nodes (node n children others) = true
+
+-- what is due after these nodes
+abbrev pub unless_taken : Nodes → Insertion → Insertion
+unless_taken none i = i
+unless_taken (node n children others) i = nothing
+
+abbrev pub due_after : OpenKind → Nodes → Held → Held
+due_after (open_kind.Parts spans) t d = record d { own = unless_taken t d.own }
+due_after (open_kind.Rows rows) t d = record d { own = unless_taken t d.own; given = unless_taken t d.given }
+due_after (open_kind.Row cells) t d = record d { own = unless_taken t d.own; given = unless_taken t d.given }
+due_after k t d = d
+
+-- nodes of results in an open element
+abbrev pub nodes_come : List Result → Open → Nodes
+nodes_come rs o = with_due o.kind o.due (nodes_in o.kind (kept o.kind rs))
+
+-- an open element once results have come
+abbrev pub results_come : List Result → Open → Open
+results_come rs o = let l = kept o.kind rs in record o {
+  kind = all_gathered o.kind l;
+  due = due_after o.kind (nodes_in o.kind l) o.due;
+  has_results = o.has_results || list_any (counted o.kind) rs;
+  has_children = o.has_children || is_filled l;
+  is_stray = o.is_stray || strays o.kind l;
+}
+
+abbrev pub all_come : List Result → OpenIn → OpenIn
+all_come rs q = record { element = results_come rs q.element; tree = q.tree ++ flatten (nodes_come rs q.element) }
+
+-- an element of a kind
+abbrev pub at : OpenKind → OpenIn → OpenIn
+at k q = record q { element = record q.element { kind = k } }
+
+-- ---- no results, and results after others
+
+pub none-come : (q : OpenIn) → all_come [] q ≡ q
+none-come q = by q.element.kind
+  where
+    by : (k : OpenKind) → all_come [] (at k q) ≡ at k q
+    by (open_kind.Parts spans) = simp (or-false, append-nil)
+    by (open_kind.Rows rows) = simp (or-false, append-nil)
+    by (open_kind.Row cells) = simp (or-false, append-nil)
+    by k = simp (or-false, append-nil)
+
+pub beside-append : (xs ys : List Result) → beside (xs ++ ys) ≡ followed_by (beside xs) (beside ys)
+beside-append [] ys = refl
+beside-append (x ∷ xs) ys = simp (beside-append xs ys, followed_by-followed_by)
+
+filled-append : (xs ys : List Result) → is_filled (xs ++ ys) ≡ (is_filled xs || is_filled ys)
+filled-append [] ys = refl
+filled-append (x ∷ xs) ys = refl
+
+nothing-taken : (t : Nodes) → unless_taken t nothing ≡ nothing
+nothing-taken none = refl
+nothing-taken (node n children others) = refl
+
+due-twice : (k : OpenKind) (d : Held) (t u : Nodes) → due_after k u (due_after k t d) ≡ due_after k (followed_by t u) d
+due-twice (open_kind.Parts spans) d (node n children others) u = simp nothing-taken
+due-twice (open_kind.Rows rows) d (node n children others) u = simp nothing-taken
+due-twice (open_kind.Row cells) d (node n children others) u = simp nothing-taken
+due-twice k d t u = refl
+
+due-once : (k : OpenKind) (d : Held) (t u : Nodes) →
+    flatten (with_due k d t) ++ flatten (with_due k (due_after k t d) u) ≡ flatten (with_due k d (followed_by t u))
+due-once k d t u = sym (flatten-followed_by (with_due k d t) (with_due k (due_after k t d) u)) ∙ ap flatten (by k t)
+  where
+    by : (k : OpenKind) (t : Nodes) → followed_by (with_due k d t) (with_due k (due_after k t d) u) ≡ with_due k d (followed_by t u)
+    by (open_kind.Parts spans) (node n children others) = ap (λ v. node n (filled 1 d.own children) (followed_by others v)) (filled-nothing 2 u)
+    by (open_kind.Rows rows) (node n children others) = ap (λ v. node n (filled 1 (due_of d) children) (followed_by others v)) (filled-nothing 2 u)
+    by (open_kind.Row cells) (node n children others) = ap (λ v. node n (filled 0 (due_of d) children) (followed_by others v)) (filled-nothing 1 u)
+    by k t = refl
+
+ruleset appends = (or_assoc, append_assoc, filter-append, flat_map-append, map-append, list_any-append, filled-append, beside-append)
+
+pub all_come-append : (xs ys : List Result) (q : OpenIn) → all_come ys (all_come xs q) ≡ all_come (xs ++ ys) q
+all_come-append xs ys q = by q.element.kind
+  where
+    by : (k : OpenKind) → all_come ys (all_come xs (at k q)) ≡ all_come (xs ++ ys) (at k q)
+    by (open_kind.Parts spans) = simp (appends, due-twice (open_kind.Parts spans), due-once (open_kind.Parts spans))
+    by (open_kind.Rows rows) = simp (appends, due-twice (open_kind.Rows rows), due-once (open_kind.Rows rows))
+    by (open_kind.Row cells) = simp (appends, due-twice (open_kind.Row cells), due-once (open_kind.Row cells))
+    by k = simp (appends, flatten-followed_by)
 
 -- ---- one result
 
--- the trees of a result: of rows those below it
-abbrev pub own_trees : Role → RenderNode → (below : Nodes) → Nodes
-own_trees (role.Rows rows) n below = below
-own_trees _ n below = node n below none
+-- entries of a result: of rows those below, of any other its node's and those below
+abbrev pub entries_of : Role → RenderNode → (below : Nodes) → Entries
+entries_of (role.Rows rows) n below = flatten below
+entries_of _ n below = sized (leaf n ∷ flatten below)
 
 -- what closes as a result
 abbrev pub closed_result : Result → Closed
@@ -35,290 +162,36 @@ closed_result r = record {
   role = r.role;
   kind = r.node.kind;
   has_children = r.has_children;
-  entries = option_map (λ t. flatten (own_trees r.role r.node t)) r.below;
+  is_stray = r.is_stray;
+  entries = entries_of r.role r.node r.below;
 }
 
--- a result into which something is inserted, so many levels down
-abbrev pub filled_result : (level : ℕ) → Insertion → Result → Result
-filled_result level due r = record r { below = option_map (filled level due) r.below }
+-- a result as it is written in an open element of a kind
+abbrev pub placed : Role → OpenKind → Held → Result → Result
+placed role.Contents k d r = r
+placed role.Caption k d r = record r { node = record r.node { kind = if is_captions k then Block else r.node.kind } }
+placed (role.Rows rows) (open_kind.Parts spans) d r = record r { below = filled 2 d.own r.below }
+placed (role.Row cells) (open_kind.Rows rows) d r = record r { below = filled 1 (due_of d) r.below }
+placed (role.Cell span) (open_kind.Row cells) d r = record r { below = filled 0 (due_of d) r.below }
+placed y k d r = r
 
--- a caption above its table
-abbrev pub as_block : Result → Result
-as_block r = record r { node = record r.node { kind = Block } }
+-- what is due there as it comes: a row and a cell took it as they opened, and rows if there was a row
+abbrev pub spent : Role → OpenKind → Result → Held → Held
+spent (role.Rows rows) (open_kind.Parts spans) r d = record d { own = unless_taken r.below d.own }
+spent (role.Row cells) (open_kind.Rows rows) r d = record nothing_held { mark = d.mark }
+spent (role.Cell span) (open_kind.Row cells) r d = record nothing_held { mark = d.mark }
+spent y k r d = d
 
-abbrev pub as_caption : (parent : OpenKind) → Result → Result
-as_caption open_kind.Captions r = as_block r
-as_caption _ r = r
+abbrev pub with_role : Role → Result → Result
+with_role y r = record r { role = y }
 
--- whether rows take what is due: they do where there is one, or where a row has no trees
-abbrev pub take_due : Option Nodes → Bool
-take_due (Some none) = false
-take_due _ = true
-
-abbrev pub comes_as : Role → Result → OpenElement → OpenElement
-comes_as role.Contents r p = received (closed_result r) p
-comes_as role.Caption r p = received (closed_result (as_caption p.kind r)) p
-comes_as (role.Rows rows) r p =
-    if is_table p.kind then received (closed_result (filled_result 2 p.due r)) (record (once p) { due = if take_due r.below then nothing else p.due })
-    else received (closed_result r) p
-comes_as (role.Row cells) r p =
-    if is_rows p.kind then received (closed_result (filled_result 1 p.due r)) (once p)
-    else received (closed_result r) p
-comes_as (role.Cell span) r p =
-    if is_row p.kind then received (closed_result (filled_result 0 p.due r)) (once p) else received (closed_result r) p
-
--- an open element once the node of a result has opened in it and closed
-abbrev pub comes : Result → OpenElement → OpenElement
-comes r p = comes_as r.role r p
-
-abbrev pub comes_any : Option Result → OpenElement → OpenElement
-comes_any r p = option_map_or (λ x. comes x p) r p
-
-abbrev pub all_come : List Result → OpenElement → OpenElement
-all_come [] p = p
-all_come (r ∷ rs) p = all_come rs (comes r p)
-
-pub if-same : {X : Type 0} (b : Bool) (x : X) → (if b then x else x) ≡ x
-if-same true x = refl
-if-same false x = refl
-
--- ---- trees before others
-
--- trees of a node before others
-abbrev pub one_more : RenderNode → Option Nodes → Option Nodes → Option Nodes
-one_more n below others = do
-  t ← below
-  u ← others
-  Some (followed_by (node n t none) u)
-
--- entries of a first node with what is due in it, and of those after it
-more-entries : (level : ℕ) (d : Insertion) (n : RenderNode) (o u : Option Nodes) →
-    appended (option_map (λ t. flatten (node n (filled level d t) none)) o) (option_map flatten u)
-    ≡ option_map (λ t. flatten (filled (suc level) d t)) (one_more n o u)
-more-entries level d n None u = refl
-more-entries level d n (Some t) None = refl
-more-entries level d n (Some t) (Some u) = ap Some (simp append-nil)
-
-pub map-map : {X Y Z : Type 0} (f : Y → Z) (g : X → Y) (o : Option X) → option_map f (option_map g o) ≡ option_map (λ x. f (g x)) o
-map-map f g None = refl
-map-map f g (Some x) = refl
-
-flatten-nothing : (level : ℕ) (o : Option Nodes) → option_map (λ t. flatten (filled level nothing t)) o ≡ option_map flatten o
-flatten-nothing level None = refl
-flatten-nothing level (Some t) = ap (λ (u : Nodes). Some (flatten u)) (filled-nothing level t)
-
-pub node-entries : (n : RenderNode) (o u : Option Nodes) →
-    appended (option_map (λ t. flatten (node n t none)) o) (option_map flatten u) ≡ option_map flatten (one_more n o u)
-node-entries n None u = refl
-node-entries n (Some t) None = refl
-node-entries n (Some t) (Some u) = ap Some (simp append-nil)
-
--- ---- nodes, cells and captions
-
-abbrev pub is_plain : OpenKind → Bool
-is_plain k = not (is_captions k || (is_table k || (is_rows k || is_row k)))
-
--- results that an open element of a kind keeps, and whether one counts
-abbrev pub kept : OpenKind → List Result → List Result
-kept k rs = filter (λ r. accepts k r.role r.node.kind) rs
-
-abbrev pub counted : OpenKind → Result → Bool
-counted k r = counts_in k r.role r.node.kind r.has_children
-
--- entries of a result that is no part of a table
-abbrev alone : Result → Option Entries
-alone x = if stands_alone x.role then option_map (λ t. flatten (node x.node t none)) x.below else None
-
-abbrev keeps_one : OpenKind → Result → OpenElement → OpenElement
-keeps_one k x q =
-    if accepts k x.role x.node.kind then record q {
-      kind = k;
-      has_results = q.has_results || counted k x;
-      has_children = true;
-      written = appended q.written (alone x);
-    } else record q { kind = k; has_results = q.has_results || counted k x }
-
-keeps-one : (k : OpenKind) → is_plain k ≡ true → (y : Role) (x : Result) (q : OpenElement) →
-    comes_as y (record x { role = y }) (record q { kind = k }) ≡ keeps_one k (record x { role = y }) q
-keeps-one open_kind.Root h role.Contents x q = refl
-keeps-one k h role.Contents x q = cc
-keeps-one k h y x q = cc
-
-alone-more : (x : Result) (xs : List Result) → option_map flatten (trees_of (x ∷ xs)) ≡ appended (alone x) (option_map flatten (trees_of xs))
-alone-more x xs = by (stands_alone x.role) (list_all (λ r. stands_alone r.role) xs) x.below
-  where
-    by : (a b : Bool) (o : Option Nodes) → option_map flatten (if a && b then one_more x.node o (beside xs) else None)
-        ≡ appended (if a then option_map (λ t. flatten (node x.node t none)) o else None) (option_map flatten (if b then beside xs else None))
-    by false b o = refl
-    by true true o = sym (node-entries x.node o (beside xs))
-    by true false None = refl
-    by true false (Some t) = refl
-
-pub plain-come : (k : OpenKind) → is_plain k ≡ true → (rs : List Result) (q : OpenElement) →
-    all_come rs (record q { kind = k }) ≡ record q {
-      kind = k;
-      has_results = q.has_results || list_any (counted k) rs;
-      has_children = q.has_children || is_filled (kept k rs);
-      written = appended q.written (option_map flatten (trees_of (kept k rs)));
-    }
-plain-come k h [] q = simp (or-false, appended-nil)
-plain-come k h (x ∷ rs) q = elim (cases_Bool (accepts k x.role x.node.kind)) [
-  | inl e ↦ ap (all_come rs) (keeps-one k h x.role x q ∙ rw e)
-      ∙ plain-come k h rs (record q { has_results = q.has_results || counted k x; has_children = true; written = appended q.written (alone x) })
-      ∙ rw e (simp (or_assoc, or-true, appended_assoc, alone-more))
-  | inr e ↦ ap (all_come rs) (keeps-one k h x.role x q ∙ rw e)
-      ∙ plain-come k h rs (record q { has_results = q.has_results || counted k x })
-      ∙ rw e (simp (or_assoc))
+-- a result comes
+pub one-come : (y : Role) (k : OpenKind) (r : Result) (q : OpenIn) →
+    come (Some (closed_result (placed y k q.element.due (with_role y r))))
+    (record q { element = record q.element { kind = k; due = spent y k r q.element.due } }) ≡ all_come (with_role y r ∷ []) (at k q)
+one-come role.Contents open_kind.Root r q = simp (or-false, or-true, append-nil)
+one-come y (open_kind.Node keeping) r q = elim (cases_Bool (accepts (open_kind.Node keeping) y r.node.kind)) [
+  | inl e ↦ rw e (simp (or-false, or-true, append-nil, followed_by-none))
+  | inr e ↦ rw e (simp (or-false, append-nil))
 ]
-
--- ---- captions
-
-abbrev pub captions : List Result → List Result
-captions rs = of_role is_caption rs
-
-caption-one : (y : Role) (x : Result) (q : OpenElement) → comes_as y (record x { role = y }) (record q { kind = open_kind.Captions })
-    ≡ (if is_caption y then record q {
-      kind = open_kind.Captions;
-      has_results = q.has_results || true;
-      has_children = true;
-      written = appended q.written (option_map (λ t. flatten (node (as_block x).node t none)) x.below);
-    } else record q { kind = open_kind.Captions; has_results = q.has_results || false })
-caption-one role.Caption x q = refl
-caption-one y x q = refl
-
-pub captions-come : (rs : List Result) (q : OpenElement) → all_come rs (record q { kind = open_kind.Captions }) ≡ record q {
-  kind = open_kind.Captions;
-  has_results = q.has_results || is_filled (captions rs);
-  has_children = q.has_children || is_filled (captions rs);
-  written = appended q.written (option_map flatten (beside (map as_block (captions rs))));
-}
-captions-come [] q = simp (or-false, appended-nil)
-captions-come (x ∷ rs) q = elim (cases_Bool (is_caption x.role)) [
-  | inl e ↦ ap (all_come rs) (caption-one x.role x q ∙ rw e)
-      ∙ captions-come rs (record q {
-        has_results = q.has_results || true;
-        has_children = true;
-        written = appended q.written (option_map (λ t. flatten (node (as_block x).node t none)) x.below);
-      })
-      ∙ rw e (simp (or-true, appended_assoc, node-entries))
-  | inr e ↦ ap (all_come rs) (caption-one x.role x q ∙ rw e (simp or-false)) ∙ captions-come rs q ∙ rw e
-]
-
--- ---- rows, and a row
-
--- results of these roles
-abbrev pub members : {S : Type 0} → (of : Role → Option S) → List Result → List Result
-members of rs = of_role (λ y. is_some (of y)) rs
-
-module _ {S : Type 0} (K : List S → OpenKind) (of : Role → Option S) (level : ℕ) (given_after : Option Insertion → Option Insertion) where
-  abbrev holds_one : List S → Role → Result → OpenElement → OpenElement
-  holds_one s y x q =
-      if is_some (of y) then record q {
-        kind = K (s ++ option_to_list (of y));
-        due = nothing;
-        given = given_after q.given;
-        has_results = q.has_results || true;
-        has_children = true;
-        written = appended q.written (option_map (λ t. flatten (node x.node (filled level q.due t) none)) x.below);
-      } else record q { kind = K s; has_results = q.has_results || true }
-
-  pub members-come : ((s : List S) (x : Result) (q : OpenElement) → comes x (record q { kind = K s }) ≡ holds_one s x.role x q) →
-      ((g : Option Insertion) → given_after (given_after g) ≡ given_after g) → (rs : List Result) (s : List S) (q : OpenElement) →
-      all_come rs (record q { kind = K s }) ≡ record q {
-        kind = K (s ++ flat_map (λ r. option_to_list (of r.role)) (members of rs));
-        due = if is_filled (members of rs) then nothing else q.due;
-        given = if is_filled (members of rs) then given_after q.given else q.given;
-        has_results = q.has_results || is_filled rs;
-        has_children = q.has_children || is_filled (members of rs);
-        written = appended q.written (option_map (λ t. flatten (filled (suc level) q.due t)) (beside (members of rs)));
-      }
-  members-come one twice [] s q = rw append-nil (simp (or-false, appended-nil))
-  members-come one twice (x ∷ rs) s q = elim (cases_Bool (is_some (of x.role))) [
-    | inl e ↦ ap (all_come rs) (one s x q ∙ rw e)
-        ∙ members-come one twice rs (s ++ option_to_list (of x.role)) (record q {
-          due = nothing;
-          given = given_after q.given;
-          has_results = q.has_results || true;
-          has_children = true;
-          written = appended q.written (option_map (λ t. flatten (node x.node (filled level q.due t) none)) x.below);
-        })
-        ∙ rw e (simp (or-true, append_assoc, appended_assoc, flatten-nothing, more-entries, if-same, twice))
-    | inr e ↦ ap (all_come rs) (one s x q ∙ rw e) ∙ members-come one twice rs s (record q { has_results = q.has_results || true })
-        ∙ rw e (simp or-true)
-  ]
-
-pub rows-one : (s : List (List CellSpan)) (y : Role) (x : Result) (q : OpenElement) →
-    comes_as y (record x { role = y }) (record q { kind = open_kind.Rows s }) ≡ holds_one (open_kind.Rows) row_of 1 (λ g. None) s y x q
-rows-one s (role.Row cells) x q = simp map-map
-rows-one s y x q = refl
-
-pub row-one : (s : List CellSpan) (y : Role) (x : Result) (q : OpenElement) →
-    comes_as y (record x { role = y }) (record q { kind = open_kind.Row s }) ≡ holds_one open_kind.Row cell_of 0 (λ g. g) s y x q
-row-one s (role.Cell span) x q = simp map-map
-row-one s y x q = refl
-
--- ---- the parts of a table
-
-abbrev pub parts : List Result → List Result
-parts rs = of_role are_rows rs
-
-abbrev pub part_trees : List Result → Option Nodes
-part_trees rs = joined (λ n below. below) rs
-
--- trees before others
-abbrev before : Option Nodes → Option Nodes → Option Nodes
-before below others = do
-  t ← below
-  u ← others
-  Some (followed_by t u)
-
--- the first part with a row has what is due
-parts-more : (d : Insertion) (o u : Option Nodes) →
-    appended (option_map (λ t. flatten (filled 2 d t)) o) (option_map (λ t. flatten (filled 2 (if take_due o then nothing else d) t)) u)
-    ≡ option_map (λ t. flatten (filled 2 d t)) (before o u)
-parts-more d None u = refl
-parts-more d (Some none) None = refl
-parts-more d (Some none) (Some u) = refl
-parts-more d (Some (node n children others)) None = refl
-parts-more d (Some (node n children others)) (Some u) =
-    ap (λ (v : Nodes). Some (flatten (filled 2 d (node n children others)) ++ flatten v)) (filled-nothing 2 u)
-    ∙ ap Some (sym (flatten-followed_by (filled 2 d (node n children others)) u))
-
-take-more : (d : Insertion) (o u : Option Nodes) →
-    (if take_due u then nothing else if take_due o then nothing else d) ≡ (if take_due (before o u) then nothing else d)
-take-more d None u = if-same (take_due u) nothing
-take-more d (Some none) None = refl
-take-more d (Some none) (Some u) = refl
-take-more d (Some (node n children others)) None = refl
-take-more d (Some (node n children others)) (Some u) = if-same (take_due (Some u)) nothing
-
-part-one : (s : List (List Span)) (y : Role) (x : Result) (q : OpenElement) → comes_as y (record x { role = y }) (record q { kind = open_kind.Parts s })
-    ≡ (if are_rows y then record q {
-      kind = open_kind.Parts (s ++ spans_of y);
-      due = if take_due x.below then nothing else q.due;
-      has_results = q.has_results || (x.has_children && true);
-      has_children = true;
-      written = appended q.written (option_map (λ t. flatten (filled 2 q.due t)) x.below);
-    } else record q { kind = open_kind.Parts s; has_results = q.has_results || (x.has_children && false) })
-part-one s (role.Rows rows) x q = simp map-map
-part-one s y x q = refl
-
-pub parts-come : (rs : List Result) (s : List (List Span)) (q : OpenElement) → all_come rs (record q { kind = open_kind.Parts s }) ≡ record q {
-  kind = open_kind.Parts (s ++ flat_map (λ r. spans_of r.role) (parts rs));
-  due = if take_due (part_trees (parts rs)) then nothing else q.due;
-  has_results = q.has_results || list_any (λ r. r.has_children) (parts rs);
-  has_children = q.has_children || is_filled (parts rs);
-  written = appended q.written (option_map (λ t. flatten (filled 2 q.due t)) (part_trees (parts rs)));
-}
-parts-come [] s q = rw append-nil (simp (or-false, appended-nil))
-parts-come (x ∷ rs) s q = elim (cases_Bool (are_rows x.role)) [
-  | inl e ↦ ap (all_come rs) (part-one s x.role x q ∙ rw e)
-      ∙ parts-come rs (s ++ spans_of x.role) (record q {
-        due = if take_due x.below then nothing else q.due;
-        has_results = q.has_results || (x.has_children && true);
-        has_children = true;
-        written = appended q.written (option_map (λ t. flatten (filled 2 q.due t)) x.below);
-      })
-      ∙ rw e (simp (or-true, and-true, or_assoc, append_assoc, appended_assoc, parts-more, take-more))
-  | inr e ↦ ap (all_come rs) (part-one s x.role x q ∙ rw e (simp (and-false, or-false))) ∙ parts-come rs s q ∙ rw e
-]
+one-come y k r q = simp (or-false, or-true, append-nil, followed_by-none)

@@ -5,9 +5,6 @@ pub mod Entries
 pub mod Coming
 pub mod Closing
 pub mod Running
-pub mod Receiving
 pub mod VisitRuns
 pub mod VisitsLeft
-pub mod SeenLemmas
 pub mod ValidSpans
-pub mod OpeningLemmas

@@ -21,7 +21,7 @@ use Rattle.html_render_tree_convert.specs.Conversion.{element_mapping, html_mapp
 use Rattle.html_render_tree_convert.specs.Marks.{mark_of}
 use Rattle.html_render_tree_convert.specs.Plans.{displayed_plan, element_of, element_plan}
 
--- `pre` gives its style an update of the least specificity behind those of all rules
+-- `pre` gives its style an update of the least specificity after those of all rules
 pub preformatted : (style : ElementStyle) (least : Specificity) (new : Option (Update WhiteSpace)) → least ≡ no_specificity →
     ((updates : List (Update WhiteSpace)) → style.white_space ≡ winner updates →
     new ≡ winner (updates ++ record last_white_space { specificity = least } ∷ [])) →

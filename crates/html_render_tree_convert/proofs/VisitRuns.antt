@@ -1,5 +1,5 @@
 -- What comes on a walk, as events; what a visit does to the run of those that come; and the render tree from the nodes in pre-order.
-use Rattle.std.proofs.Common.{◌≡◌, ℕ, Bool, true, false, if◌then◌else◌, List, [], ◌∷◌, ◌++◌, All, refl, sym, ap, ◌∙◌, append_assoc, Option, Some, None, option_map, Result as Outcome, Ok, Err, IfErr, subst, append-nil}
+use Rattle.std.proofs.Common.{◌≡◌, ℕ, Bool, true, false, if◌then◌else◌, List, [], ◌∷◌, ◌++◌, All, refl, sym, ap, ◌∙◌, append_assoc, Option, Some, None, option_map, Result as Outcome, Ok, Err, IfErr, subst}
 use Rattle.std.proofs.lemmas.Grind.{flat_map-append}
 use Rattle.html_render_dom_styles.specs.Rules.{Rule as StyleRule}
 use Rattle.html_render_dom.specs.Dom.{Dom, IsForest, IsNode, children_at, content_at, trees_of, tree_of}
@@ -30,13 +30,10 @@ use Rattle.html_render_layout_nodes.specs.declared.tree.Entry.{Entry}
 use Rattle.html_render_layout_nodes.specs.laws.Preorder.{forest_of-flatten}
 use Rattle.html_render_parts.specs.Refusal.{Fails}
 use Rattle.html_render_parts.specs.laws.Refusal.{Fails-same, Fails-then}
-use Rattle.html_render_tree_convert.specs.Results.{Result, results}
 use Rattle.html_render_tree_convert.specs.declared.plans.Plan.{Plan}
 use Rattle.html_render_tree_convert.specs.declared.plans.Plan.TheVariants.{Nothing, Alone, Over}
-use Rattle.html_render_tree_convert.specs.OpenElements.{OpenElement, root}
+use Rattle.html_render_tree_convert.specs.OpenElements.{State, root}
 use Rattle.html_render_tree_convert.specs.Steps.{after, all_parted, all_written, closed, converted, opened, run}
-use Rattle.html_render_tree_convert.proofs.Coming.{all_come}
-use Rattle.html_render_tree_convert.proofs.Running.{trees-run}
 
 module _ (rules : List StyleRule) (dom : Dom) (forest : IsForest dom) where
   -- children that are picked come as the events of their trees
@@ -66,23 +63,19 @@ module _ (rules : List StyleRule) (dom : Dom) (forest : IsForest dom) where
   comes_entered h kind ps =
       simp (append_assoc, flat_map-append, nodes-events all_children (children_at dom h) (All-children dom forest h (children_at dom h) refl))
 
--- open elements
-abbrev pub Stack : Type 0
-Stack = List OpenElement
-
 -- an element without children closes: the captions of a table have come at once
-abbrev pub before_end : Pick → Stack → Stack
+abbrev pub before_end : Pick → State → State
 before_end Captions cs = all_parted cs
 before_end _ cs = cs
 
-pub unparted : (pick : Pick) (cs : Stack) → (pick ≡ Captions → ⊥) → before_end pick cs ≡ cs
+pub unparted : (pick : Pick) (cs : State) → (pick ≡ Captions → ⊥) → before_end pick cs ≡ cs
 unparted Captions cs h = absurd (h refl)
 unparted pick cs h = refl
 
-pub alone-run : (k : ElementKind) (cs : Stack) → run (children_events k nothing_inside ++ event.Close ∷ []) cs ≡ closed (before_end (first_pick k) cs)
+pub alone-run : (k : ElementKind) (cs : State) → run (children_events k nothing_inside ++ event.Close ∷ []) cs ≡ closed (before_end (first_pick k) cs)
 alone-run k cs = by k
   where
-    same : (o : Option Stack) → (o >>= run []) ≡ o
+    same : (o : Option State) → (o >>= run []) ≡ o
     same None = refl
     same (Some ds) = refl
 
@@ -95,7 +88,7 @@ then-then : {X Y Z : Type 0} (f : X → Option Y) (g : Y → Option Z) (h : X �
 then-then f g h same None = refl
 then-then f g h same (Some x) = same x
 
-run-append : (xs ys : List Event) (cs : Stack) → run (xs ++ ys) cs ≡ (run xs cs >>= run ys)
+run-append : (xs ys : List Event) (cs : State) → run (xs ++ ys) cs ≡ (run xs cs >>= run ys)
 run-append [] ys cs = refl
 run-append (x ∷ xs) ys cs = then-then (run xs) (run ys) (run (xs ++ ys)) (run-append xs ys) (after x cs)
 
@@ -107,28 +100,28 @@ fails-handed (Err f) e wanted is fails = subst (λ g. Fails g wanted) (sym is) f
 
 module _ (rules : List StyleRule) (dom : Dom) where
   -- run of all events of a document
-  abbrev pub whole_run : Option Stack
-  whole_run = run (events rules (tree_of dom 0) all_children) (root ∷ [])
+  abbrev pub whole_run : Option State
+  whole_run = run (events rules (tree_of dom 0) all_children) root
 
   -- run of the events that come, after open elements
-  abbrev pub rest_run : List Position → Stack → Option Stack
+  abbrev pub rest_run : List Position → State → Option State
   rest_run ps cs = run (visits_events rules dom (coming dom ps)) cs
 
   -- a visit is done, and the events that come end as all events do
-  pub goes-on : (plan : Plan) (h : ℕ) (ps qs : List Position) (cs ds : Stack) → (run (done_at_once plan) cs >>= rest_run (followed plan h ps)) ≡ whole_run →
+  pub goes-on : (plan : Plan) (h : ℕ) (ps qs : List Position) (cs ds : State) → (run (done_at_once plan) cs >>= rest_run (followed plan h ps)) ≡ whole_run →
       qs ≡ followed plan h ps → run (done_at_once plan) cs ≡ Some ds → rest_run qs ds ≡ whole_run
   goes-on plan h ps qs cs ds all qs_is done =
       ap (λ l. rest_run l ds) qs_is ∙ sym (ap (λ o. o >>= rest_run (followed plan h ps)) done) ∙ all
 
   -- where a step of the run fails, the document can't be converted
-  pub fails-whole : {X : Type 0} (r : Outcome X Error) (e : Error) (step : Option Stack) (ps : List Position) → (step >>= rest_run ps) ≡ whole_run →
+  pub fails-whole : {X : Type 0} (r : Outcome X Error) (e : Error) (step : Option State) (ps : List Position) → (step >>= rest_run ps) ≡ whole_run →
       Fails e step → IsErrAnd r (λ f. f ≡ e) → IfErr r (λ f. Fails f (converted rules (tree_of dom 0)))
   fails-whole r e step ps all fails is =
       fails-handed r e _ is (Fails-then e whole_run all_written (Fails-same e whole_run _ (sym all) (Fails-then e step (rest_run ps) fails)))
 
   module _ (forest : IsForest dom) where
     -- a visit of a node: what is done at once, and then what comes
-    follows : (plan : Plan) (h : ℕ) (ps : List Position) (cs : Stack) →
+    follows : (plan : Plan) (h : ℕ) (ps : List Position) (cs : State) →
         run (node_events plan (λ pick. events rules (trees_of dom (children_at dom h)) pick) ++ visits_events rules dom (coming dom ps)) cs
         ≡ (run (done_at_once plan) cs >>= rest_run (followed plan h ps))
     follows Nothing h ps cs = refl
@@ -138,14 +131,14 @@ module _ (rules : List StyleRule) (dom : Dom) where
         ap (λ l. run l (opened e cs)) (sym (comes_entered rules dom forest h e.kind ps))
 
     -- the document's own node
-    pub starts : (h : ℕ) (ps : List Position) (cs : Stack) → h ≡ 0 → ps ≡ [] → cs ≡ root ∷ [] →
+    pub starts : (h : ℕ) (ps : List Position) (cs : State) → h ≡ 0 → ps ≡ [] → cs ≡ root →
         (run (done_at_once (plan_at rules dom h)) cs >>= rest_run (followed (plan_at rules dom h) h ps)) ≡ whole_run
     starts h ps cs h_is ps_is cs_is =
-        let Kids : Forest Content → Option Stack = λ t. run (events rules (node (content_at dom 0) t none) all_children) (root ∷ []) in
-        rw (h_is, ps_is, cs_is) (sym (ap Kids (below-children dom forest 0 forest.has_document) ∙ follows (plan_at rules dom 0) 0 [] (root ∷ [])))
+        let Kids : Forest Content → Option State = λ t. run (events rules (node (content_at dom 0) t none) all_children) root in
+        rw (h_is, ps_is, cs_is) (sym (ap Kids (below-children dom forest 0 forest.has_document) ∙ follows (plan_at rules dom 0) 0 [] root))
 
     -- a node that comes
-    pub visits-node : (h : ℕ) (old ps : List Position) (cs : Stack) → coming dom old ≡ Node h ∷ coming dom ps → rest_run old cs ≡ whole_run →
+    pub visits-node : (h : ℕ) (old ps : List Position) (cs : State) → coming dom old ≡ Node h ∷ coming dom ps → rest_run old cs ≡ whole_run →
         (run (done_at_once (plan_at rules dom h)) cs >>= rest_run (followed (plan_at rules dom h) h ps)) ≡ whole_run
     visits-node h old ps cs comes so_far =
         sym (follows (plan_at rules dom h) h ps cs) ∙ sym (ap (λ vs. run (visits_events rules dom vs) cs) comes) ∙ so_far
@@ -158,30 +151,15 @@ module _ (rules : List StyleRule) (dom : Dom) where
   followed-nodes (Over e false) h ps at all = all
   followed-nodes (Over e true) h ps at all = All-cons (λ (p : Position). IsNode dom p.element) (entered h (first_pick e.kind)) ps at all
 
-  pub visits-close : (old ps : List Position) (cs : Stack) → coming dom old ≡ Close ∷ coming dom ps → rest_run old cs ≡ whole_run →
+  pub visits-close : (old ps : List Position) (cs : State) → coming dom old ≡ Close ∷ coming dom ps → rest_run old cs ≡ whole_run →
       (closed cs >>= rest_run ps) ≡ whole_run
   visits-close old ps cs comes so_far = sym (ap (λ vs. run (visits_events rules dom vs) cs) comes) ∙ so_far
 
   -- nothing comes
-  pub ended : (ps : List Position) (cs : Stack) → coming dom ps ≡ [] → rest_run ps cs ≡ whole_run → whole_run ≡ Some cs
-  ended ps cs over so_far = sym so_far ∙ ap (λ vs. run (visits_events rules dom vs) cs) over
+  pub ended : (ps : List Position) (cs : State) → coming dom ps ≡ [] → rest_run ps cs ≡ whole_run → converted rules (tree_of dom 0) ≡ all_written cs
+  ended ps cs over so_far = ap (λ o. o >>= all_written) (sym so_far ∙ ap (λ vs. run (visits_events rules dom vs) cs) over)
 
 -- ---- the end
-
--- after the events of a document one element is open
-pub one_left : (rules : List StyleRule) (t : Forest Content) (cs : Stack) → run (events rules t all_children) (root ∷ []) ≡ Some cs →
-    (p : OpenElement) × (cs ≡ p ∷ []) × (converted rules t ≡ p.written)
-one_left rules t cs is = by (results rules t all_children) (sym all ∙ is)
-  where
-    all : run (events rules t all_children) (root ∷ []) ≡ (results rules t all_children >>= λ rs. Some (all_come rs root ∷ []))
-    all = ap (λ l. run l (root ∷ [])) (sym (append-nil (events rules t all_children))) ∙ trees-run rules t all_children [] root []
-
-    by : (o : Option (List Result)) → (o >>= λ rs. Some (all_come rs root ∷ [])) ≡ Some cs →
-        (p : OpenElement) × (cs ≡ p ∷ []) × (converted rules t ≡ p.written)
-    by None e = absurd (cc)
-    by (Some rs) e =
-        let same : cs ≡ all_come rs root ∷ [] = cc in
-        (all_come rs root, same, ap (λ o. o >>= all_written) is ∙ ap all_written same)
 
 -- nodes that are those of a tree
 pub record Written {K : Type 0} (tree : Option (Forest K)) (es : List (Entry K)) : Type 0 where

@@ -1,5 +1,5 @@
--- What is left of a walk: each node counts a size, with those below it, and each end of a list of children the same. And a node
--- stands in one place of a document's tree, so a walk meets no node twice.
+-- What is left of a walk: each node counts a size, with those below it, and each end of a list of children the same. A node has
+-- one place in a document's tree, so a walk meets no node twice.
 use Rattle.std.proofs.Common.{◌≡◌, ℕ, ◌+◌, ◌*◌, ◌≤◌, ◌<◌, Bool, true, false, not, ◌&&◌, if◌then◌else◌, List, [], ◌∷◌, ◌++◌, refl, ap, arith, zero, suc, eqb, Contains, Option, Some, None, sym, subst, inl, inr, append_assoc}
 use Rattle.std.specs.Prelude.{codes}
 use Rattle.std.specs.List.{AllByRecursion, IsDistinct}

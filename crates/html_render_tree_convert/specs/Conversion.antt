@@ -92,13 +92,13 @@ html_element_mapping name properties =
     else if bytes_eq name (codes "wbr") then Leaf (Text (226 ∷ 128 ∷ 139 ∷ []))
     else html_mapping name properties
 
--- what becomes of an element of a namespace, over what stands below it: outside HTML no name but `svg` is special
+-- what becomes of an element of a namespace, over the trees below it: outside HTML no name but `svg` is special
 abbrev pub element_mapping : Space → (name : List ℕ) → List Property → (below : Forest Content) → Mapping
 element_mapping html name properties below = html_element_mapping name properties
 element_mapping svg name properties below = if bytes_eq name (codes "svg") then Leaf (Svg (drawing_title below)) else Parent (Node Container) Vanishes
 element_mapping _ name properties below = Parent (Node Container) Vanishes
 
--- the update of white space that stands behind those of all rules where an element is preformatted
+-- the update of white space that follows those of all rules where an element is preformatted
 abbrev pub last_white_space : Update WhiteSpace
 last_white_space = record { important = false; origin = Agent; specificity = no_specificity; value = Pre }
 

@@ -9,7 +9,7 @@ use Rattle.html_render_layout_nodes.specs.declared.tree.ImageParts.{ImageParts}
 
 -- ---- images
 
--- an attribute is read: `alt` is the title and `src` the source, if its value isn't empty, in the place of one read before
+-- an attribute is read: `alt` is the title and `src` the source, if its value isn't empty; it replaces one read before
 abbrev pub read : Property → ImageParts → ImageParts
 read p image =
     if not (is_filled p.value) then image
@@ -33,7 +33,7 @@ abbrev pub text_in : Content → List ℕ
 text_in (text contents) = contents
 text_in _ = []
 
--- the texts that stand directly among these trees, joined
+-- the texts that are roots of these trees, joined
 abbrev pub direct_texts : Forest Content → List ℕ
 direct_texts none = []
 direct_texts (node content below beside) = text_in content ++ direct_texts beside
@@ -47,7 +47,7 @@ abbrev pub is_title : Content → Bool
 is_title (element name properties template_contents integration_point) = is_svg name.space && bytes_eq name.local (codes "title")
 is_title _ = false
 
--- what stands in the last of the titles in front of any other element, and in the title found before where there is none
+-- the trees in the last of the titles before any other element, and those in the title found before where there is none
 abbrev pub in_last_title : (found : Forest Content) → Forest Content → Forest Content
 in_last_title found none = found
 in_last_title found (node content below beside) =

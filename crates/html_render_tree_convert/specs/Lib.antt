@@ -9,19 +9,17 @@ pub mod ElementTexts
 pub mod Plans
 -- THE DEFINITION of the conversion
 pub mod Results
+-- elements whose plan is known by their names
+pub mod KnownElements
 -- the events of a walk over a document
 pub mod Events
 -- events of visits, and the nodes that a walk visits
 pub mod Visits
 -- what a node keeps and counts of what its children become
 pub mod Keeping
+-- nodes in pre-order, and what an open element has still to write
+pub mod Held
 -- elements that are open during the walk
 pub mod OpenElements
 -- what each event does to them
 pub mod Steps
--- what code keeps of an open element, and what that is seen as
-pub mod Held
-pub mod Seen
--- what code does with an element that opens and one that closes
-pub mod Opening
-pub mod Closing

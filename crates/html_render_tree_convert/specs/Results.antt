@@ -1,7 +1,7 @@
 -- THE DEFINITION of the conversion: what the nodes of a document become, by recursion on the document.
 use Rattle.std.specs.Prelude.{ℕ, zero, suc, ◌==◌, Bool, true, false, not, ◌&&◌, ◌||◌, List, [], ◌∷◌, ◌++◌, filter, flat_map, map, Option, Some}
 use Rattle.std.specs.Prelude.{None, is_some, option_map, option_to_list, if◌then◌else◌}
-use Rattle.std.specs.List.{list_all, list_any}
+use Rattle.std.specs.List.{list_any}
 use Rattle.html_render_dom_values.specs.Forest.{Forest, none, node, followed_by}
 use Rattle.html_render_dom_values.specs.Outcome.{◌>>=◌}
 use Rattle.html_render_dom_nodes.specs.Content.{Content}
@@ -21,6 +21,8 @@ use Rattle.html_render_layout_nodes.specs.Tables.{TableParts, unmeasured_table}
 use Rattle.html_render_tree_walk.specs.Walk.{picks}
 use Rattle.html_render_tree_walk.specs.declared.cursor.Pick.{Pick}
 use Rattle.html_render_tree_walk.specs.declared.cursor.Pick.TheVariants.{All, Captions, Others, Feet}
+pub use Rattle.html_render_tree_convert.specs.declared.elements.Role.{Role}
+pub use Rattle.html_render_tree_convert.specs.declared.elements.Role.TheVariants.{Contents, Caption, Rows, Row, Cell}
 use Rattle.html_render_tree_convert.specs.declared.mapping.ElementKind.{ElementKind}
 use Rattle.html_render_tree_convert.specs.declared.mapping.ElementKind.TheVariants.{Node, Part}
 use Rattle.html_render_tree_convert.specs.declared.mapping.IfEmpty.{IfEmpty}
@@ -38,32 +40,24 @@ Nodes = Forest RenderNode
 
 -- ---- results
 
--- what a result is to a table: its caption; rows; a row; a cell; or no part of it
-pub data Role : Type 0 where
-  Contents Caption : Role
-  Rows : List (List CellSpan) → Role
-  Row : List CellSpan → Role
-  Cell : CellSpan → Role
-
--- WHAT A NODE of a document became: its role, its node (that of rows counts for nothing), whether there is anything below, and
--- what; none where a part of a table stands below that is in no table
+-- WHAT A NODE of a document became: its role, its node (that of rows counts for nothing), whether there is anything below, whether
+-- a part of a table is below that is in no table, and the nodes below
 pub record Result : Type 0 where
   pub role : Role
   pub node : RenderNode
   pub has_children : Bool
-  pub below : Option Nodes
+  pub is_stray : Bool
+  pub below : Nodes
 
--- the trees of results one after another, each made of a node and what is below it
-abbrev pub joined : (tree : RenderNode → Nodes → Nodes) → List Result → Option Nodes
-joined tree [] = Some none
-joined tree (r ∷ rs) = do
-  below ← r.below
-  others ← joined tree rs
-  Some (followed_by (tree r.node below) others)
+-- the nodes of a result: of rows those below, of any other its node over those below
+abbrev pub nodes_of : Role → RenderNode → (below : Nodes) → Nodes
+nodes_of (Rows rows) n below = below
+nodes_of _ n below = node n below none
 
--- the nodes of results beside each other, each over what is below it
-abbrev pub beside : List Result → Option Nodes
-beside results = joined (λ n below. node n below none) results
+-- the nodes of results, one after another
+abbrev pub beside : List Result → Nodes
+beside [] = none
+beside (r ∷ rs) = followed_by (nodes_of r.role r.node r.below) (beside rs)
 
 abbrev pub is_caption : Role → Bool
 is_caption Caption = true
@@ -84,7 +78,7 @@ abbrev pub are_rows : Role → Bool
 are_rows (Rows rows) = true
 are_rows _ = false
 
--- whether a result may stand in no table: a caption is a container there
+-- whether a result may be in no table: a caption is a container there
 abbrev pub stands_alone : Role → Bool
 stands_alone Contents = true
 stands_alone Caption = true
@@ -93,25 +87,30 @@ stands_alone _ = false
 abbrev pub of_role : (Role → Bool) → List Result → List Result
 of_role is results = filter (λ r. is r.role) results
 
--- the trees of results that stand in no table, or none where a part of one is among them
-abbrev pub trees_of : List Result → Option Nodes
-trees_of results = if list_all (λ r. stands_alone r.role) results then beside results else None
+-- whether a part of a table that is in no table is below one of these
+abbrev pub any_stray : List Result → Bool
+any_stray results = list_any (λ r. r.is_stray) results
+
+-- or is one of these, which are in no table
+abbrev pub has_stray : List Result → Bool
+has_stray results = list_any (λ r. r.is_stray || not (stands_alone r.role)) results
 
 -- ---- nodes over results
 
 abbrev pub over : NodeStyle → NodeKind → List Result → Result
 over style kind results =
     let n : RenderNode = record { kind = kind; style = style; estimate = unmeasured } in
-    record { role = Contents; node = n; has_children = is_filled results; below = trees_of results }
+    record { role = Contents; node = n; has_children = is_filled results; is_stray = has_stray results; below = beside results }
 
 -- a row over its cells
 abbrev pub row_over : NodeStyle → (cells : List Result) → Result
-row_over style cells = record (over style TableRow cells) { role = Row (flat_map (λ r. option_to_list (cell_of r.role)) cells); below = beside cells }
+row_over style cells =
+    record (over style TableRow cells) { role = Row (flat_map (λ r. option_to_list (cell_of r.role)) cells); is_stray = any_stray cells }
 
 -- rows beside each other
 abbrev pub rows_over : (rows : List Result) → Result
 rows_over rows =
-    record (over no_style Container rows) { role = Rows (flat_map (λ r. option_to_list (row_of r.role)) rows); below = beside rows }
+    record (over no_style Container rows) { role = Rows (flat_map (λ r. option_to_list (row_of r.role)) rows); is_stray = any_stray rows }
 
 -- ---- tables
 
@@ -122,14 +121,14 @@ spans_of _ = []
 
 -- a table over these parts
 abbrev pub table_over : NodeStyle → TableParts → (parts : List Result) → Result
-table_over style grid parts = record (over style (Table grid) parts) { has_children = true; below = joined (λ n below. below) parts }
+table_over style grid parts = record (over style (Table grid) parts) { has_children = true; is_stray = any_stray parts }
 
 -- a table below its captions, which are blocks: there is none without a row
 abbrev pub captioned : NodeStyle → TableParts → (captions parts : List Result) → Result
 captioned style grid captions parts =
     let blocks : List Result = map (λ (r : Result). record r { node = record r.node { kind = Block } }) captions in
     let table = if list_any (λ r. r.has_children) parts then table_over no_style grid parts ∷ [] else [] in
-    record (over style Container captions) { has_children = true; below = beside (blocks ++ table) }
+    record (over style Container (blocks ++ table)) { has_children = true }
 
 -- A TABLE over its parts; none where a cell would end past the last position
 abbrev pub table_of : NodeStyle → (captions parts : List Result) → Option Result
@@ -175,7 +174,7 @@ built (Part part.Caption) style captions others = Some (record (over style Conta
 built (Node kind) style captions others = Some (over style kind (filter (λ r. keeps kind r.node.kind) others))
 
 -- whether it becomes nothing, where it has no results that count: a table counts its captions, and rows where there are any; a row
--- and a cell always stand
+-- and a cell never do
 abbrev pub is_nothing : ElementKind → IfEmpty → (captions others : List Result) → Bool
 is_nothing (Part part.Table) if_empty captions others =
     vanishes if_empty (is_filled captions || list_any (λ r. r.has_children) (of_role are_rows others))
@@ -200,7 +199,7 @@ abbrev pub trees : List RenderNode → Nodes
 trees [] = none
 trees (n ∷ ns) = node n none (trees ns)
 
--- nodes before and behind what stands so many levels down in the first of some trees; where there is no such tree they are lost
+-- nodes before and after those that are so many levels down in the first of some trees; where there is no such tree they are lost
 abbrev pub in_first : (level : ℕ) → (front back : Nodes) → Nodes → Nodes
 in_first zero front back t = followed_by front (followed_by t back)
 in_first (suc level) front back none = none
@@ -208,18 +207,22 @@ in_first (suc level) front back (node n children others) = node n (in_first leve
 
 -- a node without children
 abbrev pub alone : RenderNode → Result
-alone n = record { role = Contents; node = n; has_children = false; below = Some none }
+alone n = record { role = Contents; node = n; has_children = false; is_stray = false; below = none }
 
 -- a result with what an element inserts
 abbrev pub inserted : (level : Option ℕ) → Element → Result → Result
 inserted (Some level) e r =
     let i = insertion_of e in
-    record r { has_children = (level == 0 && inserts e) || r.has_children; below = option_map (in_first level (trees i.front) (trees i.back)) r.below }
+    record r { has_children = (level == 0 && inserts e) || r.has_children; below = in_first level (trees i.front) (trees i.back) r.below }
 inserted None e r =
-    let around : Nodes → Nodes = λ t. followed_by (trees (insertion_of e).front) (node r.node t (trees (insertion_of e).back)) in
-    record (alone (without_style Container)) { has_children = true; below = option_map around r.below }
+    let i = insertion_of e in
+    record (alone (without_style Container)) {
+      has_children = true;
+      is_stray = r.is_stray;
+      below = followed_by (trees i.front) (node r.node r.below (trees i.back));
+    }
 
--- what is left of an element: its result with what it inserts, or its mark where it becomes nothing
+-- the result that an element leaves, with what it inserts; its mark where it becomes nothing
 abbrev pub left_of : Element → (is_nothing has_captions : Bool) → Result → Option Result
 left_of e true has_captions r = option_map (λ name. alone (without_style (FragmentStart name))) e.texts.mark
 left_of e false has_captions r = Some (inserted (level_in e.kind (inserts e) has_captions) e r)
@@ -265,6 +268,8 @@ results rules (node content children others) pick = do
   rest ← results rules others pick
   Some (option_to_list r ++ rest)
 
--- THE RENDER TREE of a document; none where a table has no grid, or a part of a table stands in none
+-- THE RENDER TREE of a document; none where a table has no grid, or a part of a table is in none
 abbrev pub render_tree_of : List StyleRule → Dom → Option Nodes
-render_tree_of rules dom = results rules (tree_of dom 0) All >>= trees_of
+render_tree_of rules dom = do
+  rs ← results rules (tree_of dom 0) All
+  if has_stray rs then None else Some (beside rs)

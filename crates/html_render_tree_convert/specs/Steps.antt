@@ -1,17 +1,17 @@
--- The conversion in one forward pass: what each event does to the open elements, the innermost first.
-use Rattle.std.specs.Prelude.{ℕ, Bool, true, false, not, ◌&&◌, ◌||◌, List, [], ◌∷◌, ◌++◌, map, Option, Some, None, is_some, option_map}
-use Rattle.std.specs.Prelude.{if◌then◌else◌}
-use Rattle.std.specs.Option.{option_map_or}
+-- The conversion in one forward pass: what each event does to the open elements, the innermost first, and to the nodes that are written.
+use Rattle.std.specs.Prelude.{ℕ, ◌+◌, Bool, true, false, not, ◌&&◌, ◌||◌, List, [], ◌∷◌, ◌++◌, drop, length, map, take, Option, Some, None}
+use Rattle.std.specs.Prelude.{is_some, option_map, if◌then◌else◌}
 use Rattle.html_render_dom_values.specs.Forest.{Forest}
 use Rattle.html_render_dom_values.specs.Outcome.{◌>>=◌}
 use Rattle.html_render_dom_styles.specs.Rules.{Rule as StyleRule}
 use Rattle.html_render_dom_nodes.specs.Content.{Content}
 use Rattle.html_render_layout_nodes.specs.Kinds.{holds_insertions}
-use Rattle.html_render_layout_nodes.specs.RenderNodes.{without_style}
-use Rattle.html_render_layout_nodes.specs.Tables.{TableParts, unmeasured_table}
+use Rattle.html_render_layout_nodes.specs.RenderNodes.{unmeasured, without_style}
+use Rattle.html_render_layout_nodes.specs.Tables.{unmeasured_table}
 use Rattle.html_render_layout_nodes.specs.declared.tree.Entry.{Entry}
 use Rattle.html_render_layout_nodes.specs.declared.tree.NodeKind.{NodeKind}
 use Rattle.html_render_layout_nodes.specs.declared.tree.NodeKind.TheVariants.{Container, Block, FragmentStart, Table, TableRow, TableCell}
+use Rattle.html_render_layout_nodes.specs.declared.tree.NodeStyle.{NodeStyle}
 use Rattle.html_render_layout_nodes.specs.declared.tree.RenderNode.{RenderNode}
 use Rattle.html_render_parts.specs.TableCells.{cell_grid_of}
 use Rattle.html_render_tree_convert.specs.Conversion.{vanishes}
@@ -24,19 +24,22 @@ use Rattle.html_render_tree_convert.specs.declared.mapping.ElementKind.TheVarian
 use Rattle.html_render_tree_convert.specs.declared.mapping.IfEmpty.TheVariants.{Stands, Vanishes}
 use Rattle.html_render_tree_convert.specs.declared.tables.CellSpan.{CellSpan}
 use Rattle.html_render_tree_convert.specs.declared.tables.Part.TheVariants as part
-use Rattle.html_render_tree_convert.specs.Events.{Event, Put, Open, Parts, Close, events}
+use Rattle.html_render_tree_convert.specs.Events.{Event, Put, Open as Opens, Parts, Close, events}
 use Rattle.html_render_tree_convert.specs.Keeping.{counts_by, keeping_of, keeps_by}
-use Rattle.html_render_tree_convert.specs.OpenElements.{OpenElement, Insertion, nothing, within, inserts, insertion_of}
-use Rattle.html_render_tree_convert.specs.OpenElements.{leaves, over_entries, node_in, holder, carrier, root}
+use Rattle.html_render_tree_convert.specs.Held.{Entries, Held, Insertion, due_of, held_back, inserts, insertion_of, leaf, leaves, nothing, nothing_held}
+use Rattle.html_render_tree_convert.specs.Held.{sized, with_kind, within}
+use Rattle.html_render_tree_convert.specs.OpenElements.{OpenIn, State, created, innermost, outside, root}
+use Rattle.html_render_tree_convert.specs.declared.elements.Open.{Open}
 use Rattle.html_render_tree_convert.specs.declared.elements.OpenKind.{OpenKind}
 use Rattle.html_render_tree_convert.specs.declared.elements.OpenKind.TheVariants as open_kind
-use Rattle.html_render_tree_convert.specs.declared.elements.Place.{Place}
-use Rattle.html_render_tree_convert.specs.declared.elements.Place.TheVariants as place
 use Rattle.html_render_tree_convert.specs.declared.kinds.Keeping.TheVariants.{Any}
 use Rattle.html_render_tree_walk.specs.declared.cursor.Pick.TheVariants.{All}
 use Rattle.html_render_tree_convert.specs.declared.plans.Element.{Element}
 
 -- ---- an element opens
+
+abbrev pub node_in : NodeStyle → NodeKind → RenderNode
+node_in style kind = record { kind = kind; style = style; estimate = unmeasured }
 
 abbrev pub is_table : OpenKind → Bool
 is_table (open_kind.Parts spans) = true
@@ -54,121 +57,128 @@ abbrev pub is_captions : OpenKind → Bool
 is_captions open_kind.Captions = true
 is_captions _ = false
 
--- whether an open element is an element of a table
-abbrev pub is_place : Place → OpenKind → Bool
-is_place place.Captions kind = is_captions kind
-is_place place.Table kind = is_table kind
-is_place place.Rows kind = is_rows kind
-is_place place.Row kind = is_row kind
+-- an element opens, with entries of its own
+abbrev pub begun_with : Open → (own : Entries) → State → State
+begun_with o own s = record { element = record o { start = length s.tree }; outer = s.element ∷ s.outer; tree = s.tree ++ own }
 
-abbrev pub is_in : Place → List OpenElement → Bool
-is_in wanted [] = false
-is_in wanted (p ∷ ps) = is_place wanted p.kind
+-- an element with a node opens, and nodes in front of its children are written
+abbrev pub begun_over : Open → RenderNode → (front : List RenderNode) → State → State
+begun_over o n front s = begun_with o (leaf n ∷ leaves front) s
 
--- the innermost open element is changed
-abbrev pub innermost : (OpenElement → OpenElement) → List OpenElement → List OpenElement
-innermost f [] = []
-innermost f (p ∷ ps) = f p ∷ ps
+-- an element that writes what it inserts in front of its children as it opens, and the rest as it closes
+abbrev pub held : OpenKind → (has_children : Bool) → Element → Open
+held kind has_children e = created kind (held_back e.texts.mark (insertion_of e).back) e.if_empty has_children
 
--- what is due in the innermost open element, if it is taken
-abbrev pub taken : (is_taken : Bool) → List OpenElement → Insertion
-taken true (p ∷ ps) = p.due
-taken is_taken ps = nothing
-
--- An open element once what is due in it is taken. Rows give nothing back then.
-abbrev pub once : OpenElement → OpenElement
-once p = record p { due = nothing; given = if is_rows p.kind then None else p.given }
-
-abbrev pub left_once : (is_taken : Bool) → List OpenElement → List OpenElement
-left_once true ps = innermost once ps
-left_once false ps = ps
+-- an element in a container that closes with it
+abbrev pub wrapped : Open → Open
+wrapped o = record o { is_wrapped = true }
 
 -- a node that holds what it inserts, or else in a container that holds it
-abbrev pub begun_node : (is_inside : Bool) → NodeKind → Element → List OpenElement
-begun_node true kind e =
-    holder (open_kind.Node (keeping_of kind)) (node_in e.style kind) e.if_empty e.texts.mark (insertion_of e) (inserts e) ∷ []
-begun_node false kind e =
-    record (holder (open_kind.Node (keeping_of kind)) (node_in e.style kind) e.if_empty None nothing false) { is_wrapped = true }
-    ∷ holder (open_kind.Node Any) (without_style Container) e.if_empty e.texts.mark (insertion_of e) true
-    ∷ []
+abbrev pub begun_node : (is_inside : Bool) → NodeKind → Element → State → State
+begun_node true kind e s = begun_over (held (open_kind.Node (keeping_of kind)) (inserts e) e) (node_in e.style kind) (insertion_of e).front s
+begun_node false kind e s =
+    begun_over (wrapped (created (open_kind.Node (keeping_of kind)) nothing_held e.if_empty false)) (node_in e.style kind) []
+    (begun_over (held (open_kind.Node Any) true e) (without_style Container) (insertion_of e).front s)
+
+-- what is taken of an open element: its own insertion, or all that is due
+abbrev pub taken_own : (is_taken : Bool) → Open → Insertion
+taken_own is_taken p = if is_taken then p.due.own else nothing
+
+abbrev pub taken : (is_taken : Bool) → Open → Insertion
+taken is_taken p = if is_taken then due_of p.due else nothing
+
+-- an open element once its own insertion is taken, or all that is due
+abbrev pub without_own : Open → Open
+without_own p = record p { due = record p.due { own = nothing } }
+
+abbrev pub emptied : Open → Open
+emptied p = record p { due = record nothing_held { mark = p.due.mark } }
+
+-- a state whose innermost open element is changed, if something is taken
+abbrev pub left : (is_taken : Bool) → (Open → Open) → State → State
+left is_taken f s = if is_taken then record s { element = f s.element } else s
 
 -- Rows in a table take what is due there, until they end without a row.
-abbrev pub begun_rows : (in_table : Bool) → Element → List OpenElement → List OpenElement
-begun_rows in_table e ps =
-    let due = taken in_table ps in
-    carrier (open_kind.Rows []) (without_style Container) e (within due (insertion_of e)) (if in_table then Some due else None) ∷ left_once in_table ps
+abbrev pub begun_rows : (in_table : Bool) → Element → State → State
+begun_rows in_table e s =
+    let due : Held = record { mark = e.texts.mark; own = insertion_of e; given = taken_own in_table s.element } in
+    begun_with (created (open_kind.Rows []) due e.if_empty false) [] (left in_table without_own s)
 
 -- A row in rows takes what is due there, for good.
-abbrev pub begun_row : (in_rows : Bool) → Element → List OpenElement → List OpenElement
-begun_row in_rows e ps =
-    record (carrier (open_kind.Row []) (node_in e.style TableRow) e (within (taken in_rows ps) (insertion_of e)) None) { if_empty = Stands }
-    ∷ left_once in_rows ps
+abbrev pub begun_row : (in_rows : Bool) → Element → State → State
+begun_row in_rows e s =
+    let due : Held = record { mark = e.texts.mark; own = within (taken in_rows s.element) (insertion_of e); given = nothing } in
+    begun_over (created (open_kind.Row []) due Stands false) (node_in e.style TableRow) [] (left in_rows emptied s)
 
 -- A cell in a row holds what is due there.
-abbrev pub begun_cell : CellSpan → (in_row : Bool) → Element → List OpenElement → List OpenElement
-begun_cell span in_row e ps =
-    holder (open_kind.Cell span) (node_in e.style TableCell) Stands e.texts.mark (within (taken in_row ps) (insertion_of e)) (inserts e)
-    ∷ left_once in_row ps
+abbrev pub begun_cell : CellSpan → (in_row : Bool) → Element → State → State
+begun_cell span in_row e s =
+    let i = within (taken in_row s.element) (insertion_of e) in
+    begun_over (created (open_kind.Cell span) (held_back e.texts.mark i.back) Stands (inserts e)) (node_in e.style TableCell) i.front (left in_row emptied s)
 
 -- kind of a caption's node
 abbrev pub caption_kind : (in_captions : Bool) → NodeKind
 caption_kind in_captions = if in_captions then Block else Container
 
--- what opens with an element, and the elements outside it
-abbrev pub begun : ElementKind → Element → List OpenElement → List OpenElement
-begun (element.Node kind) e ps = begun_node (not (inserts e) || holds_insertions kind) kind e ++ ps
-begun (element.Part part.Table) e ps = holder open_kind.Captions (node_in e.style Container) e.if_empty e.texts.mark (insertion_of e) true ∷ ps
-begun (element.Part part.Body) e ps = begun_rows (is_in place.Table ps) e ps
-begun (element.Part part.Row) e ps = begun_row (is_in place.Rows ps) e ps
-begun (element.Part (part.Cell span)) e ps = begun_cell span (is_in place.Row ps) e ps
-begun (element.Part part.Caption) e ps =
-    holder open_kind.Caption (node_in e.style (caption_kind (is_in place.Captions ps))) e.if_empty e.texts.mark (insertion_of e) (inserts e) ∷ ps
+-- an element opens
+abbrev pub begun : ElementKind → Element → State → State
+begun (element.Node kind) e s = begun_node (not (inserts e) || holds_insertions kind) kind e s
+begun (element.Part part.Table) e s = begun_over (held open_kind.Captions true e) (node_in e.style Container) (insertion_of e).front s
+begun (element.Part part.Body) e s = begun_rows (is_table s.element.kind) e s
+begun (element.Part part.Row) e s = begun_row (is_rows s.element.kind) e s
+begun (element.Part (part.Cell span)) e s = begun_cell span (is_row s.element.kind) e s
+begun (element.Part part.Caption) e s =
+    begun_over (held open_kind.Caption (inserts e) e) (node_in e.style (caption_kind (is_captions s.element.kind))) (insertion_of e).front s
 
-unfoldable pub opened : Element → List OpenElement → List OpenElement
-opened e ps = begun e.kind e ps
+unfoldable pub opened : Element → State → State
+opened e s = begun e.kind e s
 
 -- ---- the captions of a table have come
 
--- the table's own node, in a container
-abbrev pub table_in_container : OpenElement
-table_in_container = record (holder (open_kind.Parts []) (without_style Container) Vanishes None nothing false) { is_wrapped = true }
+-- the table's own node opens in a container
+abbrev pub begun_parts : State → State
+begun_parts s = begun_over (wrapped (created (open_kind.Parts []) nothing_held Vanishes false)) (without_style Container) [] s
 
-abbrev pub with_captions : OpenElement → OpenElement
-with_captions p = record p { kind = open_kind.Node Any }
+-- the nodes of an open element's children, if they have no children
+abbrev pub nodes_inside : Open → Entries → List RenderNode
+nodes_inside p tree = map (λ (e : Entry RenderNode). e.node) (drop (p.start + 1) tree)
 
--- a table without a caption: what is written is due in the first cell
-abbrev pub without_captions : OpenElement → OpenElement
-without_captions p = record p {
-  kind = open_kind.Parts [];
-  due = record { front = option_map_or (λ es. map (λ (e : Entry RenderNode). e.node) es) p.written []; back = p.due.back };
-  written = Some [];
+-- a table without a caption: what is written in it is due in the first cell
+abbrev pub without_captions : OpenIn → OpenIn
+without_captions p = record {
+  element = record p.element {
+    kind = open_kind.Parts [];
+    due = record p.element.due { own = record { front = nodes_inside p.element p.tree; back = p.element.due.own.back } };
+  };
+  tree = take (p.element.start + 1) p.tree;
 }
 
 -- With a caption the container stays, and the table opens in it. Without one the container becomes the table.
-abbrev pub parted : OpenElement → List OpenElement
-parted p = if p.has_results then table_in_container ∷ with_captions p ∷ [] else without_captions p ∷ []
+abbrev pub parted : OpenIn → List Open → State
+parted p ps =
+    if p.element.has_results then begun_parts (outside ps (record p { element = record p.element { kind = open_kind.Node Any } }))
+    else outside ps (without_captions p)
 
 -- ---- an element closes
 
--- A closed element: its role for a table, the kind of its node, whether it has children, and its entries; none if a part of a
--- table is among them that is in no table.
+-- what closes: its role for a table, the kind of its node, whether it has children, whether a part of a table is among them that is
+-- in no table, and its entries
 pub record Closed : Type 0 where
   pub role : Role
   pub kind : NodeKind
   pub has_children : Bool
-  pub entries : Option (List (Entry RenderNode))
+  pub is_stray : Bool
+  pub entries : Entries
 
 -- a node without children
 abbrev pub closed_leaf : RenderNode → Closed
-closed_leaf n = record { role = role.Contents; kind = n.kind; has_children = false; entries = Some (leaves (n ∷ [])) }
+closed_leaf n = record { role = role.Contents; kind = n.kind; has_children = false; is_stray = false; entries = leaf n ∷ [] }
 
-abbrev pub closed_node : Role → (n : RenderNode) → (has_children : Bool) → (written : Option (List (Entry RenderNode))) → Closed
-closed_node r n has_children written =
-    record { role = r; kind = n.kind; has_children = has_children; entries = option_map (over_entries n) written }
-
--- what is written, with what is due at its end
-abbrev pub completed_entries : OpenElement → Option (List (Entry RenderNode))
-completed_entries p = option_map (λ es. es ++ leaves p.due.back) p.written
+-- a node that closes over its children, whose entries follow its own
+abbrev pub closed_node : Role → (has_children is_stray : Bool) → Entries → Option Closed
+closed_node r has_children is_stray [] = None
+closed_node r has_children is_stray (e ∷ es) =
+    Some (record { role = r; kind = e.node.kind; has_children = has_children; is_stray = is_stray; entries = sized (e ∷ es) })
 
 -- role of what an open element of a kind becomes
 abbrev pub role_left : OpenKind → Role
@@ -185,29 +195,35 @@ is_completed (open_kind.Rows rows) = false
 is_completed (open_kind.Row cells) = false
 is_completed _ = true
 
--- an open element of a kind as it closes, unless it vanishes
-abbrev pub closed_as : OpenKind → OpenElement → Closed
-closed_as (open_kind.Rows rows) p =
-    record { role = role.Rows rows; kind = p.node.kind; has_children = p.has_children; entries = p.written }
-closed_as kind p =
-    closed_node (role_left kind) p.node (is_table kind || p.has_children) (if is_completed kind then completed_entries p else p.written)
+-- entries of an open element with a node, with what is due after its children
+abbrev pub with_back : (back : List RenderNode) → Entries → Entries
+with_back back [] = []
+with_back back (e ∷ es) = e ∷ (es ++ leaves back)
 
--- a table on its grid
-abbrev pub on_grid : OpenElement → TableParts → OpenElement
-on_grid p grid = record p { node = record p.node { kind = Table grid } }
+abbrev pub completed : OpenKind → (back : List RenderNode) → Entries → Entries
+completed kind back own = if is_completed kind then with_back back own else own
+
+-- an open element of a kind as it closes, unless it vanishes
+abbrev pub closed_as : OpenKind → Open → (own : Entries) → Option Closed
+closed_as (open_kind.Rows rows) p own =
+    Some (record { role = role.Rows rows; kind = Container; has_children = p.has_children; is_stray = p.is_stray; entries = own })
+closed_as kind p own = closed_node (role_left kind) (is_table kind || p.has_children) p.is_stray (completed kind p.due.own.back own)
 
 -- what an element leaves that vanishes: its mark
 abbrev pub mark_left : (mark : Option (List ℕ)) → Option Closed
 mark_left mark = option_map (λ name. closed_leaf (without_style (FragmentStart name))) mark
 
-abbrev pub unless_vanished : OpenElement → Closed → Option Closed
-unless_vanished p c = if vanishes p.if_empty p.has_results then mark_left p.mark else Some c
+abbrev pub unless_vanished : Open → Option Closed → Option Closed
+unless_vanished p c = if vanishes p.if_empty p.has_results then mark_left p.due.mark else c
+
+-- entries of an element once its table is on its grid; none if it is a table without a grid
+abbrev pub on_grid : OpenKind → Entries → Option Entries
+on_grid (open_kind.Parts spans) own = option_map (λ grid. with_kind (Table grid) own) (option_map unmeasured_table (cell_grid_of spans))
+on_grid _ own = Some own
 
 -- WHAT AN ELEMENT LEAVES that closes, if anything; none if it is a table without a grid
-abbrev pub left_by : OpenKind → OpenElement → Option (Option Closed)
-left_by (open_kind.Parts spans) p =
-    option_map (λ grid. unless_vanished p (closed_as (open_kind.Parts spans) (on_grid p grid))) (option_map unmeasured_table (cell_grid_of spans))
-left_by kind p = Some (unless_vanished p (closed_as kind p))
+abbrev pub left_by : Open → (own : Entries) → Option (Option Closed)
+left_by p own = option_map (λ es. unless_vanished p (closed_as p.kind p es)) (on_grid p.kind own)
 
 -- ---- an open element receives a result
 
@@ -241,73 +257,73 @@ gathered (open_kind.Rows rows) (role.Row cells) = open_kind.Rows (rows ++ cells 
 gathered (open_kind.Row cells) (role.Cell span) = open_kind.Row (cells ++ span ∷ [])
 gathered kind _ = kind
 
--- entries after others; none if either are
-abbrev pub appended : (written entries : Option (List (Entry RenderNode))) → Option (List (Entry RenderNode))
-appended written entries = do
-  es ← written
-  fs ← entries
-  Some (es ++ fs)
-
-abbrev pub with_child : Closed → OpenElement → OpenElement
-with_child c p = record p {
-  kind = gathered p.kind c.role;
+abbrev pub with_child : Role → (is_stray : Bool) → Open → Open
+with_child r is_stray p = record p {
+  kind = gathered p.kind r;
   has_children = true;
-  written = appended p.written (if has_place p.kind c.role then c.entries else None);
+  is_stray = p.is_stray || (is_stray || not (has_place p.kind r));
 }
 
-abbrev pub counted : Closed → OpenElement → OpenElement
-counted c p = record p { has_results = p.has_results || counts_in p.kind c.role c.kind c.has_children }
-
 -- an open element once a result has come
-abbrev pub received : Closed → OpenElement → OpenElement
-received c p = if accepts p.kind c.role c.kind then with_child c (counted c p) else counted c p
+abbrev pub received : Role → NodeKind → (has_children is_stray : Bool) → Open → Open
+received r kind has_children is_stray p =
+    let counted = record p { has_results = p.has_results || counts_in p.kind r kind has_children } in
+    if accepts p.kind r kind then with_child r is_stray counted else counted
 
-abbrev pub received_any : Option Closed → OpenElement → OpenElement
-received_any c p = option_map_or (λ x. received x p) c p
+-- an open element and the nodes that are written once a result has come: if it is kept, its entries are written
+abbrev pub come : Option Closed → OpenIn → OpenIn
+come None p = p
+come (Some c) p = record {
+  element = received c.role c.kind c.has_children c.is_stray p.element;
+  tree = if accepts p.element.kind c.role c.kind then p.tree ++ c.entries else p.tree;
+}
 
 -- a table gets the insertion back of a part that has no row
-abbrev pub with_given : Option Insertion → OpenElement → OpenElement
-with_given None p = p
-with_given (Some due) p = if is_table p.kind then record p { due = due } else p
+abbrev pub given_back : (o parent : Open) → Open
+given_back o parent = if is_rows o.kind && is_table parent.kind then record parent { due = record parent.due { own = o.due.given } } else parent
+
+-- an open element once another closes in it
+abbrev pub closed_in : Open → OpenIn → Option OpenIn
+closed_in o p =
+    option_map (λ c. come c (record { element = given_back o p.element; tree = take o.start p.tree })) (left_by o (drop o.start p.tree))
 
 -- ---- events
 
-abbrev pub put : RenderNode → List OpenElement → List OpenElement
-put n ps = innermost (received (closed_leaf n)) ps
+-- a node without children is written in the innermost open element
+abbrev pub put : RenderNode → State → State
+put n s = outside s.outer (come (Some (closed_leaf n)) (innermost s))
 
-abbrev pub all_parted : List OpenElement → List OpenElement
-all_parted [] = []
-all_parted (p ∷ ps) = if is_captions p.kind then parted p ++ ps else p ∷ ps
+abbrev pub all_parted : State → State
+all_parted s = if is_captions s.element.kind then parted (innermost s) s.outer else s
 
-abbrev pub closed_once : List OpenElement → Option (List OpenElement)
-closed_once [] = Some []
-closed_once (p ∷ []) = Some (p ∷ [])
-closed_once (p ∷ (parent ∷ ps)) = option_map (λ left. received_any left (with_given p.given parent) ∷ ps) (left_by p.kind p)
+-- an element closes in the innermost of those outside it, if there is one
+abbrev pub closed_outside : List Open → OpenIn → Option State
+closed_outside [] p = Some (outside [] p)
+closed_outside (parent ∷ ps) p = option_map (outside ps) (closed_in p.element (record p { element = parent }))
 
-abbrev pub is_wrapped : List OpenElement → Bool
-is_wrapped [] = false
-is_wrapped (p ∷ ps) = p.is_wrapped
+-- the innermost element closes, unless it is the outermost
+abbrev pub closed_once : State → Option State
+closed_once s = closed_outside s.outer (innermost s)
 
 -- the innermost element closes, and a container round it
-abbrev pub closed : List OpenElement → Option (List OpenElement)
-closed ps = if is_wrapped ps then closed_once ps >>= closed_once else closed_once ps
+abbrev pub closed : State → Option State
+closed s = if s.element.is_wrapped then closed_once s >>= closed_once else closed_once s
 
-abbrev pub after : Event → List OpenElement → Option (List OpenElement)
-after (Put n) ps = Some (put n ps)
-after (Open e) ps = Some (opened e ps)
-after Parts ps = Some (all_parted ps)
-after Close ps = closed ps
+abbrev pub after : Event → State → Option State
+after (Put n) s = Some (put n s)
+after (Opens e) s = Some (opened e s)
+after Parts s = Some (all_parted s)
+after Close s = closed s
 
--- open elements after these events; none if a table has no grid
-abbrev pub run : List Event → List OpenElement → Option (List OpenElement)
-run [] ps = Some ps
-run (e ∷ es) ps = after e ps >>= run es
+-- the state after these events; none if a table has no grid
+abbrev pub run : List Event → State → Option State
+run [] s = Some s
+run (e ∷ es) s = after e s >>= run es
 
--- what is written of the outermost element
-abbrev pub all_written : List OpenElement → Option (List (Entry RenderNode))
-all_written [] = None
-all_written (p ∷ ps) = p.written
+-- the nodes that are written; none if a part of a table is in none
+abbrev pub all_written : State → Option Entries
+all_written s = if s.element.is_stray then None else Some s.tree
 
 -- THE NODES of a document, in pre-order; none if a table has no grid, or a part of a table is in none
-abbrev pub converted : List StyleRule → Forest Content → Option (List (Entry RenderNode))
-converted rules t = run (events rules t All) (root ∷ []) >>= all_written
+abbrev pub converted : List StyleRule → Forest Content → Option Entries
+converted rules t = run (events rules t All) root >>= all_written

@@ -16,7 +16,7 @@ use html_render_dom::dom::{Attribute, Namespace, QualName};
 use html_render_layout_nodes::text::NodeText;
 use std::alloc::Global;
 
-/// The first attribute of a local name.
+/// Returns the first attribute of a local name.
 fn attribute_named<'a>(attributes: &'a [Attribute], name: &str) -> Option<&'a Attribute>
     ensures { option_copied result ≡ find (λ a. bytes_eq a.name.local name.now) attributes.now }
 {
@@ -25,7 +25,7 @@ fn attribute_named<'a>(attributes: &'a [Attribute], name: &str) -> Option<&'a At
         .find(|attribute| attribute.name.local.as_str() == name)
 }
 
-/// The value of the first attribute of a local name.
+/// Returns the value of the first attribute of a local name.
 #[tactic(auto, using(crate::proofs::Numbers::starts))]
 pub fn first_value<'a>(attributes: &'a [Attribute], name: &str) -> Option<&'a str>
     ensures { option_map (λ value. value.now) result ≡ first_value name.now (map property_of attributes.now) }
@@ -36,14 +36,14 @@ pub fn first_value<'a>(attributes: &'a [Attribute], name: &str) -> Option<&'a st
     }
 }
 
-/// The number that a text is, and 1 if it is none.
+/// Returns the number that a text is, and 1 if it is none.
 fn number_or_one(text: &str) -> i64
     ensures { result ≡ unwrap_or (number_of text.now) (pos 1) }
 {
     text.parse().unwrap_or(1)
 }
 
-/// The number of an ordered list's first item, by the list's attributes.
+/// Returns the number of an ordered list's first item, by the list's attributes.
 pub fn start_of(attributes: &[Attribute]) -> i64
     ensures { result ≡ start_of (map property_of attributes.now) }
 {
@@ -53,7 +53,7 @@ pub fn start_of(attributes: &[Attribute]) -> i64
     }
 }
 
-/// The last attribute of a local name.
+/// Returns the last attribute of a local name.
 fn last_named<'a>(attributes: &'a [Attribute], name: &str) -> Option<&'a Attribute>
     ensures { option_copied result ≡ find (λ a. bytes_eq a.name.local name.now) (reverse attributes.now) }
 {
@@ -63,14 +63,14 @@ fn last_named<'a>(attributes: &'a [Attribute], name: &str) -> Option<&'a Attribu
         .find(|attribute| attribute.name.local.as_str() == name)
 }
 
-/// The number that a text is, and 1 if it is none.
+/// Returns the number that a text is, and 1 if it is none.
 fn size_or_one(text: &str) -> usize
     ensures { result ≡ unwrap_or (size_of text.now) 1 }
 {
     text.parse().unwrap_or(1)
 }
 
-/// The number of the last attribute of a local name, and 1 without such a number.
+/// Returns the number of the last attribute of a local name, and 1 without such a number.
 fn last_size(attributes: &[Attribute], name: &str) -> usize
     ensures { result ≡ size_or_one name.now (map property_of attributes.now) }
 {
@@ -80,7 +80,7 @@ fn last_size(attributes: &[Attribute], name: &str) -> usize
     }
 }
 
-/// What a cell of a table asks for, by its attributes: as many columns as its last `colspan` says, and as many rows as its
+/// Returns the span of a cell of a table by its attributes: as many columns as its last `colspan` says, and as many rows as its
 /// last `rowspan` says, at least 1.
 pub fn span_of(attributes: &[Attribute]) -> CellSpan
     ensures { result ≡ span_of (map property_of attributes.now) }
@@ -91,7 +91,7 @@ pub fn span_of(attributes: &[Attribute]) -> CellSpan
     }
 }
 
-/// Whether an element is an `a` of HTML.
+/// Reports whether an element is an `a` of HTML.
 fn is_anchor(element: &QualName) -> bool
     ensures { result ≡ (is_html (space_of element.now.ns) && bytes_eq element.now.local (codes "a")) }
 {
@@ -101,7 +101,7 @@ fn is_anchor(element: &QualName) -> bool
     }
 }
 
-/// Whether an attribute of an element names its mark.
+/// Reports whether an attribute of an element names its mark.
 fn names_mark(element: &QualName, attribute: &Attribute) -> bool
     ensures { result ≡ names_mark (name_of element.now) (property_of attribute.now) }
 {
@@ -109,7 +109,7 @@ fn names_mark(element: &QualName, attribute: &Attribute) -> bool
     name == "id" || (name == "name" && is_anchor(element))
 }
 
-/// The first attribute of an element that names its mark.
+/// Returns the first attribute of an element that names its mark.
 fn mark_attribute<'a>(element: &QualName, attributes: &'a [Attribute]) -> Option<&'a Attribute>
     ensures { option_copied result ≡ find (λ a. names_mark (name_of element.now) (property_of a)) attributes.now }
 {
@@ -118,7 +118,7 @@ fn mark_attribute<'a>(element: &QualName, attributes: &'a [Attribute]) -> Option
         .find(|attribute| names_mark(element, attribute))
 }
 
-/// The name of an element's mark, if it has one.
+/// Returns the name of an element's mark, if it has one.
 ///
 /// # Errors
 ///

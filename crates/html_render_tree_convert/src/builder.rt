@@ -3,7 +3,7 @@
 ghost use Rattle.std.specs.Prelude.{◌≡◌, [], ◌∷◌, ◌++◌, ◌+◌, IfOk, List, OnOk, take, drop, length, map};
 ghost use Rattle.html_render_layout_nodes.specs.declared.tree.Entry.{Entry};
 ghost use Rattle.html_render_layout_nodes.specs.declared.tree.RenderNode.{RenderNode};
-ghost use Rattle.html_render_tree_convert.specs.OpenElements.{leaf, sized, with_kind};
+ghost use Rattle.html_render_tree_convert.specs.Held.{leaf, sized, with_kind};
 
 use html_render_layout_nodes::tree::{Entry, NodeKind, RenderNode};
 use std::alloc::{AllocError, Global};
@@ -59,7 +59,7 @@ fn replace_kind(node: &mut RenderNode, kind: NodeKind)
 
 /// Replaces the kind of the node at `start`.
 pub fn set_kind(tree: &mut Tree, start: usize, kind: NodeKind)
-    ensures { (below own : List (Entry RenderNode)) → tree.old.items ≡ below ++ own → start ≡ length below → tree.new.items ≡ below ++ with_kind kind own }
+    ensures { tree.new.items ≡ take start tree.old.items ++ with_kind kind (drop start tree.old.items) }
 {
     match tree.get_mut(start) {
         Some(entry) => replace_kind(&mut entry.node, kind),

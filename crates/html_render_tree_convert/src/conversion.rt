@@ -1,14 +1,12 @@
 //! The conversion of a document in one forward pass: what each event of a walk does to the open elements.
 
-ghost use Rattle.std.specs.Prelude.{◌≡◌, [], ◌∷◌, ◌++◌, IfErr, IfNone, IfOk, IfSome, OnOk, Some, false, length};
-ghost use Rattle.std.specs.Bool.{OnFalse};
+ghost use Rattle.std.specs.Prelude.{◌≡◌, [], ◌∷◌, IfErr, IfOk, OnOk, Some};
 ghost use Rattle.html_render_dom_values.specs.Outcome.{OnlyOutOfMemory};
 ghost use Rattle.html_render_layout_nodes.specs.RenderNodes.{without_style};
 ghost use Rattle.html_render_parts.specs.Refusal.{Fails};
-ghost use Rattle.html_render_tree_convert.specs.OpenElements.{OpenElement, leaf, nothing, root};
-ghost use Rattle.html_render_tree_convert.specs.Opening.{Becomes, Innermost, due_in};
-ghost use Rattle.html_render_tree_convert.specs.Seen.{Holds, element_seen, is_root};
-ghost use Rattle.html_render_tree_convert.specs.Steps.{closed_leaf, put, received};
+ghost use Rattle.html_render_tree_convert.specs.Held.{leaf};
+ghost use Rattle.html_render_tree_convert.specs.OpenElements.{root};
+ghost use Rattle.html_render_tree_convert.specs.Steps.{all_written, begun_with, closed_leaf, come, put};
 
 use crate::builder::{Tree, put};
 use crate::due::Due;
@@ -23,64 +21,39 @@ use std::marker::Model;
 mod closing;
 mod opening;
 
-/// Appends an open element, and opens its node.
-///
-/// # Errors
-///
-/// `OutOfMemory` if an allocation is refused.
-#[inline(always)]
-fn begin_in(
-    elements: &mut Vec<Open>,
-    tree: &mut Tree,
-    mut element: Open,
-    node: RenderNode,
-) -> Result<(), Error>
-    ensures elements { OnOk result (elements.new.items ≡ elements.old.items ++ record element { start = length tree.old.items } ∷ []) }
-    ensures tree { OnOk result (tree.new.items ≡ tree.old.items ++ leaf node ∷ []) }
-    ensures err { OnlyOutOfMemory result }
-{
-    element.start = tree.len();
-    elements.reserve(1)?;
-    put(node, tree)?;
-    elements.push_reserved(element);
-    Ok(())
-}
-
-/// Writes a node without children in the innermost open element.
+/// Writes a node without children in an open element.
 ///
 /// # Errors
 ///
 /// `OutOfMemory` if an allocation is refused.
 #[inline(always)]
 fn put_in(node: RenderNode, parent: &mut Open, tree: &mut Tree) -> Result<(), Error>
-    ensures ok { OnOk result (Becomes (received (closed_leaf node)) parent.old parent.new tree.old.items tree.new.items) }
+    ensures ok { OnOk result (record { element = parent.new; tree = tree.new.items }
+        ≡ come (Some (closed_leaf node)) (record { element = parent.old; tree = tree.old.items })) }
     ensures err { OnlyOutOfMemory result }
 {
     if parent.receive(Role::Contents, &node.kind, false, false)? {
         put(node, tree)?;
-        return Ok(());
     }
     Ok(())
 }
 
-/// A document whose nodes are being converted. Contracts see the open elements, the innermost first. After an error none may
-/// be open.
+/// A document whose nodes are being converted. Contracts see the innermost open element, those outside it, and the nodes that are
+/// written. After an error these may be any.
 #[derive(Drop)]
 pub struct Conversion {
-    elements: Vec<Open>,
+    innermost: Open,
+    outer: Vec<Open>,
     tree: Tree,
 }
 
 impl Model for Conversion {
-    ghost use Rattle.std.specs.Prelude.{List, reverse};
-    ghost use Rattle.html_render_tree_convert.specs.OpenElements.{OpenElement};
-    ghost use Rattle.html_render_tree_convert.specs.Seen.{IsSound, seen};
+    ghost use Rattle.std.specs.Prelude.{reverse};
+    ghost use Rattle.html_render_tree_convert.specs.OpenElements.{State};
 
-    ghost Value = { List OpenElement };
+    ghost Value = { State };
 
-    ghost view = { λ c. seen (reverse c.elements.items) c.tree.items };
-
-    ghost invariant = { λ c. IsSound (reverse c.elements.items) c.tree.items };
+    ghost view = { λ c. record { element = c.innermost; outer = reverse c.outer.items; tree = c.tree.items } };
 }
 
 impl Conversion {
@@ -90,20 +63,19 @@ impl Conversion {
     ///
     /// `OutOfMemory` if an allocation is refused.
     pub fn new(alloc: Global, nodes: usize) -> Result<Conversion, Error>
-        ensures ok { IfOk result (λ c. c ≡ root ∷ []) }
+        ensures ok { IfOk result (λ c. c ≡ root) }
         ensures err { OnlyOutOfMemory result }
     {
-        let mut elements = Vec::new(alloc);
-        elements.push(Open::new(OpenKind::Root, Due::none(), IfEmpty::Stands, false))?;
         Ok(Conversion {
-            elements,
+            innermost: Open::new(OpenKind::Root, Due::none(), IfEmpty::Stands, false),
+            outer: Vec::new(alloc),
             tree: Tree::with_capacity(alloc, nodes)?,
         })
     }
 
     /// Returns the allocator.
     pub fn allocator(&self) -> Global {
-        *self.elements.allocator()
+        *self.outer.allocator()
     }
 
     /// Writes a node without children.
@@ -116,14 +88,7 @@ impl Conversion {
         ensures ok { OnOk result (self.new ≡ put node self.old) }
         ensures err { OnlyOutOfMemory result }
     {
-        let Some(parent) = self.elements.last_mut() else {
-            return Ok(());
-        };
-        if let Err(error) = put_in(node, parent, &mut self.tree) {
-            self.elements.clear();
-            return Err(error);
-        }
-        Ok(())
+        put_in(node, &mut self.innermost, &mut self.tree)
     }
 
     /// Writes a copy of a text.
@@ -147,18 +112,11 @@ impl Conversion {
     /// `OutOfMemory` if an allocation is refused.
     #[inline(always)]
     fn begin(&mut self, element: Open, node: RenderNode) -> Result<(), Error>
-        requires root { is_root element.kind ≡ false }
-        requires holds { Holds element.kind (leaf node ∷ []) }
-        ensures ok { OnOk result (self.new ≡ element_seen element (leaf node ∷ []) ∷ self.old) }
+        ensures ok { OnOk result (self.new ≡ begun_with element (leaf node ∷ []) self.old) }
         ensures err { OnlyOutOfMemory result }
     {
-        if self.elements.is_empty() {
-            return Err(Error::OutOfMemory);
-        }
-        if let Err(error) = begin_in(&mut self.elements, &mut self.tree, element, node) {
-            self.elements.clear();
-            return Err(error);
-        }
+        self.begin_part(element)?;
+        put(node, &mut self.tree)?;
         Ok(())
     }
 
@@ -167,41 +125,16 @@ impl Conversion {
     /// # Errors
     ///
     /// `OutOfMemory` if an allocation is refused.
+    #[inline(always)]
     fn begin_part(&mut self, mut element: Open) -> Result<(), Error>
-        requires root { is_root element.kind ≡ false }
-        requires holds { Holds element.kind [] }
-        ensures ok { OnOk result (self.new ≡ element_seen element [] ∷ self.old) }
+        ensures ok { OnOk result (self.new ≡ begun_with element [] self.old) }
         ensures err { OnlyOutOfMemory result }
     {
-        if self.elements.is_empty() {
-            return Err(Error::OutOfMemory);
-        }
         element.start = self.tree.len();
-        self.elements.push(element)?;
+        self.outer.reserve(1)?;
+        let parent = std::mem::replace(&mut self.innermost, element);
+        self.outer.push_reserved(parent);
         Ok(())
-    }
-
-    /// Returns the innermost open element.
-    #[inline(always)]
-    fn innermost(&self) -> Option<&Open>
-        ensures some { IfSome result (λ o. Innermost o.now self.now) }
-        ensures none { IfNone result (self.now ≡ []) }
-    {
-        match self.elements.last() {
-            Some(element) => Some(element),
-            None => None,
-        }
-    }
-
-    /// Reports whether the innermost open element may have something to write.
-    #[inline]
-    fn may_have_due(&self) -> bool
-        ensures { OnFalse result (due_in self.now ≡ nothing) }
-    {
-        match self.innermost() {
-            Some(parent) => !parent.due.is_none(),
-            None => false,
-        }
     }
 
     /// Returns the nodes that are written, in pre-order.
@@ -210,12 +143,12 @@ impl Conversion {
     ///
     /// `Fail` exactly if a part of a table is among them that is in no table.
     pub fn into_entries(self) -> Result<Vec<Entry<RenderNode>>, Error>
-        ensures ok { (p : OpenElement) → self ≡ p ∷ [] → IfOk result (λ entries. Some entries.items ≡ p.written) }
-        ensures err { (p : OpenElement) → self ≡ p ∷ [] → IfErr result (λ e. Fails e p.written) }
+        ensures ok { IfOk result (λ entries. all_written self ≡ Some entries.items) }
+        ensures err { IfErr result (λ e. Fails e (all_written self)) }
     {
-        match self.elements.last() {
-            Some(root) if !root.is_stray => Ok(self.tree),
-            _ => Err(Error::Fail),
+        if self.innermost.is_stray {
+            return Err(Error::Fail);
         }
+        Ok(self.tree)
     }
 }

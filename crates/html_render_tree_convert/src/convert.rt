@@ -5,20 +5,20 @@ ghost use Rattle.html_render_dom_values.specs.Outcome.{OnlyOutOfMemory};
 ghost use Rattle.html_render_dom_styles.specs.Rules.{rule_of};
 ghost use Rattle.html_render_parts.specs.Refusal.{Fails};
 ghost use Rattle.html_render_dom.specs.Dom.{IsForest, IsNode, tree_of};
-ghost use Rattle.html_render_dom.specs.ElementStyle.{style_of};
 ghost use Rattle.html_render_dom.specs.RuleIndex.{Finds};
-ghost use Rattle.html_render_tree_convert.specs.Plans.{element_of, plain_element, plan_at};
+ghost use Rattle.html_render_tree_convert.specs.Plans.{plan_at};
 ghost use Rattle.html_render_tree_convert.specs.Results.{render_tree_of};
 ghost use Rattle.html_render_tree_convert.specs.Events.{element_events, nothing_inside};
+ghost use Rattle.html_render_tree_convert.specs.KnownElements.{known_element};
 ghost use Rattle.html_render_tree_convert.specs.Steps.{converted, run};
 ghost use Rattle.html_render_tree_convert.specs.Visits.{done_at_once, first_pick, followed};
 
 use crate::conversion::Conversion;
-use crate::mapping::{ElementKind, IfEmpty};
-use crate::plans::{Element, Plan, plain_element, plan_of, styled_element, text_at};
+use crate::mapping::ElementKind;
+use crate::plans::{Element, KnownElement, Plan, known_element, plan_of, text_at};
 use crate::tables::Part;
 use html_render_dom::dom::{Handle, RcDom};
-use html_render_dom::style::{ComputedStyle, RuleIndex, StyleRule};
+use html_render_dom::style::{RuleIndex, StyleRule};
 use html_render_dom_values::Error;
 use html_render_layout_nodes::tree::{Entry, NodeStyle, PreorderForest, RenderNode};
 use html_render_tree_walk::cursor::{Cursor, Pick, Visit};
@@ -85,49 +85,35 @@ fn follow(
     }
 }
 
-/// Opens an element that has no style and inserts nothing. Its children come next.
+/// Opens an element whose plan is known by its name. Its children come next.
 ///
 /// # Errors
 ///
 /// `OutOfMemory` if an allocation is refused.
 #[inline(always)]
-fn enter_plain(
-    alloc: Global,
-    kind: ElementKind,
-    if_empty: IfEmpty,
+fn enter(
+    known: KnownElement<'_>,
     node: Handle,
     cursor: &mut Cursor,
     conversion: &mut Conversion,
 ) -> Result<(), Error>
-    ensures ok { OnOk result (run (done_at_once (Plan.Over (plain_element kind if_empty) true)) conversion.old ≡ Some conversion.new) }
-    ensures cursor { OnOk result (cursor.new ≡ followed (Plan.Over (plain_element kind if_empty) true) node cursor.old) }
+    ensures ok { OnOk result (run (done_at_once (Plan.Over (known_element known.entry) true)) conversion.old ≡ Some conversion.new) }
+    ensures cursor { OnOk result (cursor.new ≡ followed (Plan.Over (known_element known.entry) true) node cursor.old) }
     ensures err { OnlyOutOfMemory result }
 {
+    let KnownElement {
+        kind,
+        if_empty,
+        style,
+    } = known;
     let pick = first_pick(&kind);
-    conversion.open_plain(alloc, kind, NodeStyle::default(), if_empty)?;
-    cursor.enter(node, pick)?;
-    Ok(())
-}
-
-/// Opens an element without attributes under its style. Its children come next.
-///
-/// # Errors
-///
-/// `OutOfMemory` if an allocation is refused.
-fn enter_styled(
-    kind: ElementKind,
-    if_empty: IfEmpty,
-    style: &ComputedStyle,
-    node: Handle,
-    cursor: &mut Cursor,
-    conversion: &mut Conversion,
-) -> Result<(), Error>
-    ensures ok { OnOk result (run (done_at_once (Plan.Over (element_of kind if_empty None (style_of style.now)) true)) conversion.old ≡ Some conversion.new) }
-    ensures cursor { OnOk result (cursor.new ≡ followed (Plan.Over (element_of kind if_empty None (style_of style.now)) true) node cursor.old) }
-    ensures err { OnlyOutOfMemory result }
-{
-    let pick = first_pick(&kind);
-    conversion.open_styled(kind, if_empty, style)?;
+    match style {
+        None => {
+            let alloc = conversion.allocator();
+            conversion.open_plain(alloc, kind, NodeStyle::default(), if_empty)?
+        }
+        Some(style) => conversion.open_styled(kind, if_empty, style)?,
+    }
     cursor.enter(node, pick)?;
     Ok(())
 }
@@ -158,11 +144,8 @@ fn convert_node(
     if let Some(text) = text_at(dom, node) {
         return conversion.put_text(text);
     }
-    if let Some((kind, if_empty)) = plain_element(rules, index, dom, node) {
-        return enter_plain(alloc, kind, if_empty, node, cursor, conversion);
-    }
-    if let Some((kind, if_empty, style)) = styled_element(rules, index, dom, node) {
-        return enter_styled(kind, if_empty, style, node, cursor, conversion);
+    if let Some(known) = known_element(rules, index, dom, node) {
+        return enter(known, node, cursor, conversion);
     }
     let plan = plan_of(alloc, rules, index, dom, node)?;
     follow(alloc, plan, node, cursor, conversion)

@@ -1,11 +1,10 @@
 //! Texts and nodes that an open element has still to write.
 
-ghost use Rattle.std.specs.Prelude.{◌≡◌, [], ◌++◌, IfOk, None, OnOk, Some};
+ghost use Rattle.std.specs.Prelude.{◌≡◌, ◌++◌, IfOk, None, OnOk, Some};
 ghost use Rattle.std.specs.Bool.{OnTrue};
 ghost use Rattle.html_render_dom_values.specs.Outcome.{OnlyOutOfMemory};
 ghost use Rattle.html_render_layout_nodes.specs.declared.tree.NodeKind.TheVariants.{FragmentStart};
-ghost use Rattle.html_render_tree_convert.specs.OpenElements.{leaves, nothing, text_nodes};
-ghost use Rattle.html_render_tree_convert.specs.Held.{due_of, held_in, insertion_in, nothing_held};
+ghost use Rattle.html_render_tree_convert.specs.Held.{due_of, held_in, insertion_in, leaves, nothing, nothing_held, text_nodes, within};
 
 use crate::builder::{Tree, put};
 use crate::plans::ElementTexts;
@@ -48,32 +47,31 @@ impl InsertedNodes {
 pub struct DueParts {
     /// Name of the mark that it leaves if it vanishes.
     pub mark: Option<NodeText>,
-    /// Insertion of the elements in which it is, round its own.
-    pub outer: InsertedNodes,
-    /// Nodes of its own in front of its children.
-    pub front: Vec<RenderNode>,
     /// Text of its own after its children.
     pub after: Option<NodeText>,
+    /// Insertion into the first cell, or after the children, round that text.
+    pub own: InsertedNodes,
+    /// Insertion of the table in which it is, to be given back if no row comes.
+    pub given: InsertedNodes,
 }
 
 impl DueParts {
-    /// Takes what is due: the outer insertion with the element's own within it. The mark stays.
+    /// Takes the element's own insertion. The rest stays.
     ///
     /// # Errors
     ///
     /// `OutOfMemory` if an allocation is refused.
-    fn take_insertion(&mut self, alloc: Global) -> Result<InsertedNodes, Error>
-        ensures ok { IfOk result (λ i. insertion_in i ≡ due_of (held_in (Some self.old))) }
-        ensures left { OnOk result (held_in (Some self.new) ≡ record nothing_held { mark = self.old.mark }) }
+    fn take_own(&mut self, alloc: Global) -> Result<InsertedNodes, Error>
+        ensures ok { IfOk result (λ i. insertion_in i ≡ (held_in (Some self.old)).own) }
+        ensures left { OnOk result (held_in (Some self.new) ≡ record (held_in (Some self.old)) { own = nothing }) }
         ensures err { OnlyOutOfMemory result }
     {
         let InsertedNodes {
-            mut front,
-            back: mut outer_back,
-        } = std::mem::replace(&mut self.outer, InsertedNodes::new(alloc));
-        front.append(&mut self.front)?;
-        let mut back = front_nodes(alloc, &None, self.after.take())?;
-        back.append(&mut outer_back)?;
+            front,
+            back: mut others,
+        } = std::mem::replace(&mut self.own, InsertedNodes::new(alloc));
+        let mut back = text_nodes(alloc, self.after.take())?;
+        back.append(&mut others)?;
         Ok(InsertedNodes { front, back })
     }
 }
@@ -116,13 +114,13 @@ impl Due {
     ///
     /// `OutOfMemory` if an allocation is refused.
     pub fn new(alloc: Global, parts: DueParts) -> Result<Due, Error>
-        ensures ok { IfOk result (λ d. d ≡ record { mark = parts.mark; outer = insertion_in parts.outer; front = parts.front.items; after = parts.after }) }
+        ensures ok { IfOk result (λ d. d ≡ held_in (Some parts)) }
         ensures err { OnlyOutOfMemory result }
     {
         if parts.mark.is_none()
             && parts.after.is_none()
-            && parts.front.is_empty()
-            && parts.outer.is_empty()
+            && parts.own.is_empty()
+            && parts.given.is_empty()
         {
             return Ok(Due::none());
         }
@@ -130,46 +128,24 @@ impl Due {
         Ok(Due { parts: Some(parts) })
     }
 
-    /// Creates what an element has still to write whose nodes in front of its children are written: a text of its own after its
-    /// children, and then these nodes from outside.
+    /// Creates what rows or a row have still to write in their first cell: their own texts, and an insertion round these.
     ///
     /// # Errors
     ///
     /// `OutOfMemory` if an allocation is refused.
-    pub fn after(
+    pub fn carried(
         alloc: Global,
-        mark: Option<NodeText>,
-        after: Option<NodeText>,
-        back: Vec<RenderNode>,
+        texts: ElementTexts,
+        outer: InsertedNodes,
+        given: InsertedNodes,
     ) -> Result<Due, Error>
-        ensures ok { IfOk result (λ d. d ≡ record { mark = mark; outer = record { front = []; back = back.items }; front = []; after = after }) }
-        ensures err { OnlyOutOfMemory result }
-    {
-        let front = Vec::new(alloc);
-        let outer = InsertedNodes { front, back };
-        let front = Vec::new(alloc);
-        Due::new(
-            alloc,
-            DueParts {
-                mark,
-                outer,
-                front,
-                after,
-            },
-        )
-    }
-
-    /// Creates what rows or a row have still to write in their first cell.
-    ///
-    /// # Errors
-    ///
-    /// `OutOfMemory` if an allocation is refused.
-    pub fn carried(alloc: Global, texts: ElementTexts, outer: InsertedNodes) -> Result<Due, Error>
         ensures ok { IfOk result (λ d. d ≡ record {
           mark = texts.mark;
-          outer = insertion_in outer;
-          front = text_nodes FragmentStart texts.mark ++ text_nodes NodeKind.Text texts.before;
-          after = texts.after;
+          own = within (insertion_in outer) (record {
+            front = text_nodes FragmentStart texts.mark ++ text_nodes NodeKind.Text texts.before;
+            back = text_nodes NodeKind.Text texts.after;
+          });
+          given = insertion_in given;
         }) }
         ensures err { OnlyOutOfMemory result }
     {
@@ -178,14 +154,21 @@ impl Due {
             before,
             after,
         } = texts;
-        let front = front_nodes(alloc, &mark, before)?;
+        let InsertedNodes { mut front, back } = outer;
+        if let Some(name) = &mark {
+            front.push(RenderNode::from(NodeKind::FragmentStart(name.clone()?)))?;
+        }
+        if let Some(text) = before {
+            front.push(RenderNode::from(NodeKind::Text(text)))?;
+        }
+        let own = InsertedNodes { front, back };
         Due::new(
             alloc,
             DueParts {
                 mark,
-                outer,
-                front,
                 after,
+                own,
+                given,
             },
         )
     }
@@ -198,31 +181,93 @@ impl Due {
         Box::into_inner(parts).mark
     }
 
-    /// Takes what is due: the outer insertion with the element's own within it. The mark stays.
+    /// Takes what is due. The mark stays.
+    ///
+    /// # Errors
+    ///
+    /// `OutOfMemory` if an allocation is refused.
+    pub fn take(&mut self, alloc: Global) -> Result<InsertedNodes, Error>
+        ensures ok { IfOk result (λ i. insertion_in i ≡ due_of self.old) }
+        ensures left { OnOk result (self.new ≡ record nothing_held { mark = self.old.mark }) }
+        ensures err { OnlyOutOfMemory result }
+    {
+        let InsertedNodes {
+            mut front,
+            back: mut given_back,
+        } = self.take_given(alloc);
+        let InsertedNodes {
+            front: mut own_front,
+            mut back,
+        } = self.take_own(alloc)?;
+        front.append(&mut own_front)?;
+        back.append(&mut given_back)?;
+        Ok(InsertedNodes { front, back })
+    }
+
+    /// Takes the element's own insertion. The rest stays.
+    ///
+    /// # Errors
+    ///
+    /// `OutOfMemory` if an allocation is refused.
+    pub fn take_own(&mut self, alloc: Global) -> Result<InsertedNodes, Error>
+        ensures ok { IfOk result (λ i. insertion_in i ≡ self.old.own) }
+        ensures left { OnOk result (self.new ≡ record self.old { own = nothing }) }
+        ensures err { OnlyOutOfMemory result }
+    {
+        match &mut self.parts {
+            Some(parts) => parts.take_own(alloc),
+            None => Ok(InsertedNodes::new(alloc)),
+        }
+    }
+
+    /// Takes the insertion of its table. The rest stays.
+    #[inline(never)]
+    pub fn take_given(&mut self, alloc: Global) -> InsertedNodes
+        ensures given { insertion_in result ≡ self.old.given }
+        ensures left { self.new ≡ record self.old { given = nothing } }
+    {
+        match &mut self.parts {
+            Some(parts) => std::mem::replace(&mut parts.given, InsertedNodes::new(alloc)),
+            None => InsertedNodes::new(alloc),
+        }
+    }
+
+    /// Replaces the element's own insertion. The rest stays.
     ///
     /// # Errors
     ///
     /// `OutOfMemory` if an allocation is refused.
     #[inline(never)]
-    pub fn take_insertion(&mut self, alloc: Global) -> Result<InsertedNodes, Error>
-        ensures ok { IfOk result (λ i. insertion_in i ≡ due_of self.old) }
-        ensures left { OnOk result (self.new ≡ record nothing_held { mark = self.old.mark }) }
+    pub fn set_own(&mut self, alloc: Global, own: InsertedNodes) -> Result<(), Error>
+        ensures ok { OnOk result (self.new ≡ record self.old { own = insertion_in own }) }
         ensures err { OnlyOutOfMemory result }
     {
         match &mut self.parts {
-            Some(parts) => parts.take_insertion(alloc),
-            None => Ok(InsertedNodes::new(alloc)),
+            Some(parts) => {
+                parts.after = None;
+                parts.own = own;
+            }
+            None => {
+                let parts = DueParts {
+                    mark: None,
+                    after: None,
+                    own,
+                    given: InsertedNodes::new(alloc),
+                };
+                *self = Due::new(alloc, parts)?;
+            }
         }
+        Ok(())
     }
 
-    /// Writes what is due after the children of an element that closes: its own text, and then the outer insertion's nodes.
+    /// Writes what is due after the children of an element that closes.
     ///
     /// # Errors
     ///
     /// `OutOfMemory` if an allocation is refused.
     #[inline(never)]
     pub fn write_back(self, tree: &mut Tree) -> Result<(), Error>
-        ensures ok { OnOk result (tree.new.items ≡ tree.old.items ++ leaves (due_of self).back) }
+        ensures ok { OnOk result (tree.new.items ≡ tree.old.items ++ leaves self.own.back) }
         ensures err { OnlyOutOfMemory result }
     {
         let Some(parts) = self.parts else {
@@ -230,122 +275,33 @@ impl Due {
         };
         let DueParts {
             mark: _mark,
-            outer,
-            front: _front,
             after,
+            own,
+            given: _given,
         } = Box::into_inner(parts);
         let InsertedNodes {
-            front: _outer_front,
+            front: _front,
             back,
-        } = outer;
+        } = own;
         put_texts(None, after, tree)?;
         put_all(back, tree)
     }
-
-    /// Takes the insertion of the elements outside.
-    #[inline(never)]
-    pub fn take_outer(&mut self, alloc: Global) -> InsertedNodes
-        ensures outer { insertion_in result ≡ self.old.outer }
-        ensures left { self.new ≡ record self.old { outer = nothing } }
-    {
-        match &mut self.parts {
-            Some(parts) => std::mem::replace(&mut parts.outer, InsertedNodes::new(alloc)),
-            None => InsertedNodes::new(alloc),
-        }
-    }
-
-    /// Replaces what is due in front of the children. The rest stays.
-    ///
-    /// # Errors
-    ///
-    /// `OutOfMemory` if an allocation is refused.
-    pub fn set_front(&mut self, alloc: Global, front: Vec<RenderNode>) -> Result<(), Error>
-        ensures ok { OnOk result (self.new ≡ record self.old { outer = record { front = []; back = self.old.outer.back }; front = front.items }) }
-        ensures err { OnlyOutOfMemory result }
-    {
-        match &mut self.parts {
-            Some(parts) => {
-                parts.outer.front = Vec::new(alloc);
-                parts.front = front;
-            }
-            None => {
-                *self = Due::new(
-                    alloc,
-                    DueParts {
-                        mark: None,
-                        outer: InsertedNodes::new(alloc),
-                        front,
-                        after: None,
-                    },
-                )?;
-            }
-        }
-        Ok(())
-    }
-
-    /// Replaces what is due. The mark stays.
-    ///
-    /// # Errors
-    ///
-    /// `OutOfMemory` if an allocation is refused.
-    #[inline(never)]
-    pub fn set_insertion(&mut self, alloc: Global, insertion: InsertedNodes) -> Result<(), Error>
-        ensures ok { OnOk result (self.new ≡ record { mark = self.old.mark; outer = insertion_in insertion; front = []; after = None }) }
-        ensures err { OnlyOutOfMemory result }
-    {
-        let mark = match &mut self.parts {
-            Some(parts) => parts.mark.take(),
-            None => None,
-        };
-        *self = Due::new(
-            alloc,
-            DueParts {
-                mark,
-                outer: insertion,
-                front: Vec::new(alloc),
-                after: None,
-            },
-        )?;
-        Ok(())
-    }
 }
 
-/// Converts texts into nodes: a mark, and a content.
+/// Returns a text as a node, if there is one.
 ///
 /// # Errors
 ///
 /// `OutOfMemory` if an allocation is refused.
-pub fn front_nodes(
-    alloc: Global,
-    mark: &Option<NodeText>,
-    before: Option<NodeText>,
-) -> Result<Vec<RenderNode>, Error>
-    ensures ok { IfOk result (λ nodes. nodes.items ≡ text_nodes FragmentStart mark.now ++ text_nodes NodeKind.Text before) }
+fn text_nodes(alloc: Global, text: Option<NodeText>) -> Result<Vec<RenderNode>, Error>
+    ensures ok { IfOk result (λ nodes. nodes.items ≡ text_nodes NodeKind.Text text) }
     ensures err { OnlyOutOfMemory result }
 {
     let mut nodes = Vec::new(alloc);
-    if let Some(name) = mark {
-        nodes.push(RenderNode::from(NodeKind::FragmentStart(name.clone()?)))?;
-    }
-    if let Some(text) = before {
+    if let Some(text) = text {
         nodes.push(RenderNode::from(NodeKind::Text(text)))?;
     }
     Ok(nodes)
-}
-
-/// Returns a copy of a text, if there is one.
-///
-/// # Errors
-///
-/// `OutOfMemory` if an allocation is refused.
-pub fn copy_of(text: &Option<NodeText>) -> Result<Option<NodeText>, Error>
-    ensures ok { IfOk result (λ copy. copy ≡ text.now) }
-    ensures err { OnlyOutOfMemory result }
-{
-    match text {
-        Some(text) => Ok(Some(text.clone()?)),
-        None => Ok(None),
-    }
 }
 
 /// Writes the texts in front of an element's children: its mark, and its content.

@@ -1,14 +1,11 @@
 //! Elements that are open during a walk over a document.
 
-ghost use Rattle.std.specs.Prelude.{◌≡◌, ◌++◌, if◌then◌else◌, false, IfOk, List, None, OnOk, Some};
+ghost use Rattle.std.specs.Prelude.{◌≡◌, IfOk, OnOk};
 ghost use Rattle.html_render_dom_values.specs.Outcome.{OnlyOutOfMemory};
-ghost use Rattle.html_render_layout_nodes.specs.declared.tree.Entry.{Entry};
-ghost use Rattle.html_render_layout_nodes.specs.declared.tree.RenderNode.{RenderNode};
 ghost use Rattle.html_render_tree_convert.specs.Conversion.{vanishes};
+ghost use Rattle.html_render_tree_convert.specs.OpenElements.{created};
 ghost use Rattle.html_render_tree_convert.specs.Results.{stands_alone};
-ghost use Rattle.html_render_tree_convert.specs.Opening.{created};
-ghost use Rattle.html_render_tree_convert.specs.Seen.{Gathers, Holds, element_seen, is_root, meant};
-ghost use Rattle.html_render_tree_convert.specs.Steps.{accepts, counts_in, has_place, is_place, received};
+ghost use Rattle.html_render_tree_convert.specs.Steps.{accepts, counts_in, gathered, has_place, received};
 
 use crate::due::Due;
 use crate::kinds::{Keeping, shows_nothing};
@@ -37,7 +34,7 @@ pub enum Role {
 impl Role {
     /// Reports whether a result with this role may be in no table: a caption is a container there.
     pub fn stands_alone(&self) -> bool
-        ensures { result ≡ stands_alone (meant self.now) }
+        ensures { result ≡ stands_alone self.now }
     {
         matches!(self, Role::Contents | Role::Caption)
     }
@@ -64,36 +61,11 @@ pub enum OpenKind {
     Caption,
 }
 
-/// Kind of an open element in which a part of a table is in its place.
-#[derive(Clone, Copy)]
-pub enum Place {
-    /// A table whose captions come.
-    Captions,
-    /// A table whose rows come.
-    Table,
-    /// A part of a table.
-    Rows,
-    /// A row of a table.
-    Row,
-}
-
 impl OpenKind {
-    /// Reports whether an open element of this kind is `place`.
-    pub fn is_place(&self, place: Place) -> bool
-        ensures { result ≡ is_place place self.now }
-    {
-        match place {
-            Place::Captions => matches!(self, OpenKind::Captions),
-            Place::Table => matches!(self, OpenKind::Parts(_)),
-            Place::Rows => matches!(self, OpenKind::Rows(_)),
-            Place::Row => matches!(self, OpenKind::Row(_)),
-        }
-    }
-
     /// Reports whether it keeps a result of this role and kind.
     #[inline(always)]
     fn keeps(&self, role: &Role, kind: &NodeKind) -> bool
-        ensures { result ≡ accepts self.now (meant role.now) kind.now }
+        ensures { result ≡ accepts self.now role.now kind.now }
     {
         match self {
             OpenKind::Node(keeping) => keeping.keeps(kind),
@@ -108,7 +80,7 @@ impl OpenKind {
     /// Reports whether a result of this role and kind counts.
     #[inline(always)]
     fn counts(&self, role: &Role, kind: &NodeKind, has_children: bool) -> bool
-        ensures { result ≡ counts_in self.now (meant role.now) kind.now has_children }
+        ensures { result ≡ counts_in self.now role.now kind.now has_children }
     {
         match self {
             OpenKind::Node(Keeping::Shown) => {
@@ -123,7 +95,7 @@ impl OpenKind {
     /// Reports whether a result of this role is in its place, if it is kept.
     #[inline(always)]
     fn has_place(&self, role: &Role) -> bool
-        ensures { result ≡ has_place self.now (meant role.now) }
+        ensures { result ≡ has_place self.now role.now }
     {
         match self {
             OpenKind::Parts(_) | OpenKind::Rows(_) | OpenKind::Row(_) => true,
@@ -138,7 +110,7 @@ impl OpenKind {
     /// `OutOfMemory` if an allocation is refused.
     #[inline(always)]
     fn gather(&mut self, role: Role) -> Result<(), Error>
-        ensures ok { OnOk result (Gathers self.old (meant role) self.new) }
+        ensures ok { OnOk result (self.new ≡ gathered self.old role) }
         ensures err { OnlyOutOfMemory result }
     {
         match (self, role) {
@@ -161,8 +133,6 @@ pub struct Open {
     pub start: usize,
     /// What becomes of it without a result that counts.
     pub if_empty: IfEmpty,
-    /// Whether the outer insertion in `due` is given back to its table if it has no row.
-    pub is_given: bool,
     /// Whether a result that counts has come.
     pub has_results: bool,
     /// Whether it has children, insertions included.
@@ -179,14 +149,13 @@ const _: () = prove!(size_of::<Open>() == 64);
 impl Open {
     /// Creates an element to which no result has come, at the start of a tree.
     pub fn new(kind: OpenKind, due: Due, if_empty: IfEmpty, has_children: bool) -> Open
-        ensures { result ≡ created kind due if_empty false has_children }
+        ensures { result ≡ created kind due if_empty has_children }
     {
         Open {
             kind,
             due,
             start: 0,
             if_empty,
-            is_given: false,
             has_results: false,
             has_children,
             is_wrapped: false,
@@ -217,17 +186,8 @@ impl Open {
         has_children: bool,
         is_stray: bool,
     ) -> Result<bool, Error>
-        ensures seen { IfOk result (λ kept. (own entries : List (Entry RenderNode)) → Holds self.old.kind own →
-            element_seen self.new (if kept then own ++ entries else own)
-            ≡ received (record {
-              role = meant role;
-              kind = kind.now;
-              has_children = has_children;
-              entries = if is_stray then None else Some entries;
-            }) (element_seen self.old own)) }
-        ensures holds { OnOk result ((own : List (Entry RenderNode)) → Holds self.old.kind own → Holds self.new.kind own) }
-        ensures root { OnOk result (is_root self.new.kind ≡ is_root self.old.kind) }
-        ensures start { OnOk result (self.new.start ≡ self.old.start) }
+        ensures kept { IfOk result (λ kept. kept ≡ accepts self.old.kind role kind.now) }
+        ensures element { OnOk result (self.new ≡ received role kind.now has_children is_stray self.old) }
         ensures err { OnlyOutOfMemory result }
     {
         if !self.has_results {

@@ -12,7 +12,7 @@ use html_render_dom::dom::{Attribute, Handle, Namespace, NodeData, RcDom};
 use html_render_layout_nodes::text::NodeText;
 use std::alloc::{AllocError, Global};
 
-/// An image's source and title, once an attribute more is read.
+/// Returns an image's source and title once one more attribute is read.
 fn read<'a>(attribute: &'a Attribute, source: &'a str, title: &'a str) -> (&'a str, &'a str)
     ensures { record { source = result.0.now; title = result.1.now }
         ≡ read (property_of attribute.now) (record { source = source.now; title = title.now }) }
@@ -28,7 +28,7 @@ fn read<'a>(attribute: &'a Attribute, source: &'a str, title: &'a str) -> (&'a s
     }
 }
 
-/// The source and the title of an image, each empty where it isn't given.
+/// Returns the source and the title of an image, each empty where it isn't given.
 pub fn image_parts(attributes: &[Attribute]) -> (&str, &str)
     ensures { record { source = result.0.now; title = result.1.now } ≡ image_parts (map property_of attributes.now) }
 {
@@ -45,7 +45,7 @@ pub fn image_parts(attributes: &[Attribute]) -> (&str, &str)
     (source, title)
 }
 
-/// Whether a node is a `title` of SVG.
+/// Reports whether a node is a `title` of SVG.
 fn is_title(node: &NodeData) -> bool
     ensures { result ≡ is_title (content_of node.now) }
 {
@@ -58,7 +58,7 @@ fn is_title(node: &NodeData) -> bool
     }
 }
 
-/// The last of the titles that stand in a node in front of any other element.
+/// Returns the last of the titles in a node that come before any other element.
 fn last_title(dom: &RcDom, node: Handle) -> Option<Handle>
     requires { IsNode dom.now node }
     ensures node { IfSome result (IsNode dom.now) }
@@ -76,7 +76,7 @@ fn last_title(dom: &RcDom, node: Handle) -> Option<Handle>
     title
 }
 
-/// The contents of a text; those of any other node are empty here.
+/// Returns the contents of a text; an empty text for any other node.
 fn text_in(node: &NodeData) -> &str
     ensures { result.now ≡ text_in (content_of node.now) }
 {
@@ -86,7 +86,7 @@ fn text_in(node: &NodeData) -> &str
     }
 }
 
-/// The texts that stand directly in a node, joined.
+/// Returns the texts that are children of a node, joined.
 fn direct_texts(alloc: Global, dom: &RcDom, node: Handle) -> Result<String, AllocError>
     requires { IsNode dom.now node }
     ensures { IfOk result (λ texts. string_bytes texts ≡ direct_texts (trees_of dom.now (children_at dom.now node))) }
@@ -98,7 +98,7 @@ fn direct_texts(alloc: Global, dom: &RcDom, node: Handle) -> Result<String, Allo
     Ok(texts)
 }
 
-/// The title of a drawing.
+/// Returns the title of a drawing.
 ///
 /// # Errors
 ///

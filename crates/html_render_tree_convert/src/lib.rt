@@ -7,7 +7,7 @@ mod builder;
 mod conversion;
 pub mod convert;
 mod due;
-mod elements;
+pub mod elements;
 mod images;
 mod kinds;
 mod laws;

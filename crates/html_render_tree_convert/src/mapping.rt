@@ -22,7 +22,7 @@ use html_render_layout_nodes::text::NodeText;
 use html_render_layout_nodes::tree::{Emphasis, Image, NodeKind, NodeStyle};
 use std::alloc::Global;
 
-/// What becomes of an element whose children have no results that count.
+/// The end of an element whose children have no results that count.
 #[derive(Clone, Copy)]
 pub enum IfEmpty {
     /// A node without children.
@@ -31,7 +31,7 @@ pub enum IfEmpty {
     Vanishes,
 }
 
-/// What an element becomes that stands over what its children become.
+/// Kind of an element over the results of its children.
 #[derive(Drop)]
 pub enum ElementKind {
     /// A node of this kind.
@@ -40,40 +40,40 @@ pub enum ElementKind {
     Part(Part),
 }
 
-/// What becomes of an element, its style aside.
+/// The conversion of an element, its style aside.
 #[derive(Drop)]
 pub enum Mapping {
-    /// Nothing; what stands in it isn't converted.
+    /// It becomes nothing, and its children aren't converted.
     Nothing,
-    /// A node without children; what stands in it isn't converted.
+    /// It becomes a node without children; its own aren't converted.
     Leaf(NodeKind),
-    /// A node, or a part of a table, over what its children become.
+    /// It becomes a node, or a part of a table, over the results of its children.
     Parent(ElementKind, IfEmpty),
 }
 
-/// A node over what its children become, where these have results that count.
+/// Returns the mapping to a node over the results of its children, where some of them count.
 fn vanishing(kind: NodeKind) -> Mapping
     ensures { result ≡ Mapping.Parent (ElementKind.Node kind) IfEmpty.Vanishes }
 {
     Mapping::Parent(ElementKind::Node(kind), IfEmpty::Vanishes)
 }
 
-/// A node over what its children become.
+/// Returns the mapping to a node over the results of its children.
 fn standing(kind: NodeKind) -> Mapping
     ensures { result ≡ Mapping.Parent (ElementKind.Node kind) IfEmpty.Stands }
 {
     Mapping::Parent(ElementKind::Node(kind), IfEmpty::Stands)
 }
 
-/// A part of a table.
+/// Returns the mapping to a part of a table.
 fn table_part(part: Part, if_empty: IfEmpty) -> Mapping
     ensures { result ≡ Mapping.Parent (ElementKind.Part part) if_empty }
 {
     Mapping::Parent(ElementKind::Part(part), if_empty)
 }
 
-/// What becomes of an element of HTML whose node holds no text, by its local name and its attributes. Cells and rows, of which
-/// there are most in a long table, are looked for first.
+/// Returns the mapping of an element of HTML whose node holds no text, by its local name and its attributes. Cells and rows, of
+/// which there are most in a long table, are looked for first.
 #[inline(always)]
 pub(crate) fn html_mapping(name: &str, attributes: &[Attribute]) -> Mapping
     ensures { result ≡ html_mapping name.now (map property_of attributes.now) }
@@ -112,7 +112,7 @@ pub(crate) fn html_mapping(name: &str, attributes: &[Attribute]) -> Mapping
     }
 }
 
-/// What becomes of an `a`, by its attributes: a link to its first `href`, if it has one.
+/// Returns the mapping of an `a`, by its attributes: a link to its first `href`, if it has one.
 fn link_mapping(alloc: Global, attributes: &[Attribute]) -> Result<Mapping, Error>
     ensures ok { IfOk result (λ mapping. mapping ≡ link_mapping (first_value (codes "href") (map property_of attributes.now))) }
     ensures err { OnlyOutOfMemory result }
@@ -126,7 +126,7 @@ fn link_mapping(alloc: Global, attributes: &[Attribute]) -> Result<Mapping, Erro
     }
 }
 
-/// What becomes of an `img`, by its source and its title: nothing without a source.
+/// Returns the mapping of an `img`, by its source and its title: nothing without a source.
 fn image_mapping(alloc: Global, source: &str, title: &str) -> Result<Mapping, Error>
     ensures ok { IfOk result (λ mapping. mapping ≡ (if is_filled source.now
         then Mapping.Leaf (NodeKind.Image (record { source = source.now; title = title.now })) else Mapping.Nothing)) }
@@ -141,7 +141,7 @@ fn image_mapping(alloc: Global, source: &str, title: &str) -> Result<Mapping, Er
     Ok(Mapping::Leaf(NodeKind::Image(image)))
 }
 
-/// Reports whether what becomes of an element of HTML of this name may have a text of its own.
+/// Reports whether the node of an element of HTML of this name may have a text of its own.
 #[inline(always)]
 pub(crate) fn is_mapped_apart(name: &str) -> bool
     ensures { result ≡ (bytes_eq name.now (codes "a") || (bytes_eq name.now (codes "img") || bytes_eq name.now (codes "wbr"))) }
@@ -149,7 +149,7 @@ pub(crate) fn is_mapped_apart(name: &str) -> bool
     name == "a" || (name == "img" || name == "wbr")
 }
 
-/// What becomes of an element of HTML, by its local name and its attributes.
+/// Returns the mapping of an element of HTML, by its local name and its attributes.
 fn html_element_mapping(
     alloc: Global,
     name: &str,
@@ -172,7 +172,7 @@ fn html_element_mapping(
     }
 }
 
-/// What becomes of an element of this name and with these attributes. Outside HTML's namespace no name but SVG's `svg`
+/// Returns the mapping of an element of this name and with these attributes. Outside HTML's namespace no name but SVG's `svg`
 /// is special.
 pub(crate) fn element_mapping(
     alloc: Global,
@@ -219,7 +219,7 @@ pub(crate) fn preformat(style: &mut ComputedStyle)
     style.internal_pre = true;
 }
 
-/// What an element's style gives the node that it becomes.
+/// Returns the style that an element's style gives its node.
 pub fn node_style(style: &ComputedStyle) -> NodeStyle
     ensures { result ≡ node_style (style_of style.now) }
 {

@@ -6,14 +6,15 @@ ghost use Rattle.html_render_dom_values.specs.Forest.{Forest};
 ghost use Rattle.html_render_dom_values.specs.Outcome.{OnlyOutOfMemory};
 ghost use Rattle.html_render_dom_nodes.specs.Content.{Content, name_of, property_of, space_of};
 ghost use Rattle.html_render_dom.specs.Dom.{IsForest, IsNode};
-ghost use Rattle.html_render_dom.specs.ElementStyle.{style_by, style_of};
+ghost use Rattle.html_render_dom.specs.ElementStyle.{ElementStyle, element_style, style_of};
 ghost use Rattle.html_render_dom.specs.RuleIndex.{Finds};
 ghost use Rattle.html_render_dom_styles.specs.Rules.{Rule, rule_of};
 ghost use Rattle.html_render_layout_nodes.specs.RenderNodes.{without_style};
-ghost use Rattle.html_render_tree_convert.specs.Conversion.{element_mapping, is_preformatted, own_style};
+ghost use Rattle.html_render_tree_convert.specs.Conversion.{element_mapping, is_preformatted, node_style, own_style};
 ghost use Rattle.html_render_tree_convert.specs.ElementTexts.{has_any, no_texts};
 ghost use Rattle.html_render_tree_convert.specs.Marks.{mark_of};
-ghost use Rattle.html_render_tree_convert.specs.Plans.{document_element, element_of, element_plan, mark_plan, plain_element, plan_at, texts_of};
+ghost use Rattle.html_render_tree_convert.specs.Plans.{displayed_plan, document_element, element_plan, mark_plan, plan_at, texts_of};
+ghost use Rattle.html_render_tree_convert.specs.KnownElements.{known_element, known_style};
 
 use crate::attributes::mark_of;
 use crate::mapping::{
@@ -26,7 +27,6 @@ use html_render_dom::style::{ComputedStyle, RuleIndex, StyleRule};
 use html_render_layout_nodes::text::NodeText;
 use html_render_layout_nodes::tree::{NodeKind, NodeStyle, RenderNode};
 use std::alloc::{AllocError, Global};
-use std::marker::Model;
 
 /// Texts that an element inserts.
 #[derive(Drop)]
@@ -74,69 +74,6 @@ impl ElementTexts {
     }
 }
 
-/// Texts that an element inserts, boxed since most elements insert none.
-#[derive(Drop)]
-pub struct InsertedTexts {
-    texts: Option<Box<ElementTexts>>,
-}
-
-impl Model for InsertedTexts {
-    ghost use Rattle.std.specs.Prelude.{option_map, unwrap_or};
-    ghost use Rattle.html_render_tree_convert.specs.ElementTexts.{no_texts};
-    ghost use Rattle.html_render_tree_convert.specs.declared.plans.ElementTexts.{ElementTexts};
-
-    ghost Value = { ElementTexts };
-
-    ghost view = { λ t. unwrap_or (option_map (λ b. b.value) t.texts) no_texts };
-}
-
-impl InsertedTexts {
-    /// Returns no texts.
-    #[inline]
-    pub fn none() -> InsertedTexts
-        ensures { result ≡ no_texts }
-    {
-        InsertedTexts { texts: None }
-    }
-
-    /// Creates the texts that an element inserts. Without any, nothing is allocated.
-    ///
-    /// # Errors
-    ///
-    /// `OutOfMemory` if an allocation is refused.
-    pub fn new(alloc: Global, texts: ElementTexts) -> Result<InsertedTexts, Error>
-        ensures ok { IfOk result (λ t. t ≡ texts) }
-        ensures err { OnlyOutOfMemory result }
-    {
-        if !texts.has_any() {
-            return Ok(InsertedTexts::none());
-        }
-        let texts = Box::new(alloc, texts)?;
-        Ok(InsertedTexts { texts: Some(texts) })
-    }
-
-    /// Reports whether there is a text.
-    #[inline]
-    pub fn has_any(&self) -> bool
-        ensures { result ≡ has_any self.now }
-    {
-        match &self.texts {
-            Some(texts) => texts.has_any(),
-            None => false,
-        }
-    }
-
-    /// Converts the texts into a record of them.
-    pub fn into_texts(self) -> ElementTexts
-        ensures { result ≡ self }
-    {
-        match self.texts {
-            Some(texts) => Box::into_inner(texts),
-            None => ElementTexts::none(),
-        }
-    }
-}
-
 /// An element that becomes a node or a part of a table.
 #[derive(Drop)]
 pub struct Element {
@@ -147,7 +84,7 @@ pub struct Element {
     /// What becomes of it if its children have no results that count.
     pub if_empty: IfEmpty,
     /// Texts that it inserts.
-    pub texts: InsertedTexts,
+    pub texts: ElementTexts,
 }
 
 /// Plan of a node of a document.
@@ -177,7 +114,11 @@ fn mark_plan(mark: Option<NodeText>) -> Plan
 }
 
 /// Returns a copy of a text, if there is one.
-fn copy_of(text: Option<&NodeText>) -> Result<Option<NodeText>, AllocError>
+///
+/// # Errors
+///
+/// `AllocError` if an allocation is refused.
+pub fn copy_of(text: Option<&NodeText>) -> Result<Option<NodeText>, AllocError>
     ensures { IfOk result (λ copy. copy ≡ option_copied text.entry) }
 {
     match text {
@@ -186,62 +127,44 @@ fn copy_of(text: Option<&NodeText>) -> Result<Option<NodeText>, AllocError>
     }
 }
 
+/// Returns the plan of an element that is displayed.
+fn displayed_plan(mapping: Mapping, style: NodeStyle, texts: ElementTexts) -> Plan
+    ensures { (own : ElementStyle) → style ≡ node_style own → texts ≡ texts_of texts.mark own → result ≡ displayed_plan mapping texts.mark own }
+{
+    let (kind, if_empty, has_children) = match mapping {
+        Mapping::Nothing => return mark_plan(texts.mark),
+        Mapping::Leaf(kind) => (ElementKind::Node(kind), IfEmpty::Stands, false),
+        Mapping::Parent(kind, if_empty) => (kind, if_empty, true),
+    };
+    let element = Element {
+        kind,
+        style,
+        if_empty,
+        texts,
+    };
+    Plan::Over {
+        element,
+        has_children,
+    }
+}
+
 /// Returns the plan of an element that has a style.
+///
+/// # Errors
+///
+/// `AllocError` if an allocation is refused.
 fn styled_plan(
-    alloc: Global,
     mapping: Mapping,
     mark: Option<NodeText>,
     style: &ComputedStyle,
-) -> Result<Plan, Error>
-    ensures ok { IfOk result (λ plan. plan ≡ element_plan mapping mark (style_of style.now)) }
-    ensures err { OnlyOutOfMemory result }
+) -> Result<Plan, AllocError>
+    ensures { IfOk result (λ plan. plan ≡ element_plan mapping mark (style_of style.now)) }
 {
     if style.display.val().is_some() {
         return Ok(Plan::Nothing);
     }
-    let (kind, if_empty, has_children) = match mapping {
-        Mapping::Nothing => return Ok(mark_plan(mark)),
-        Mapping::Leaf(kind) => (ElementKind::Node(kind), IfEmpty::Stands, false),
-        Mapping::Parent(kind, if_empty) => (kind, if_empty, true),
-    };
     let texts = ElementTexts::of(mark, style)?;
-    let element = Element {
-        kind,
-        style: node_style(style),
-        if_empty,
-        texts: InsertedTexts::new(alloc, texts)?,
-    };
-    Ok(Plan::Over {
-        element,
-        has_children,
-    })
-}
-
-/// Returns the plan of an element whose style is that without any declaration.
-fn unstyled_plan(alloc: Global, mapping: Mapping, mark: Option<NodeText>) -> Result<Plan, Error>
-    ensures ok { IfOk result (λ plan. plan ≡ element_plan mapping mark (style_by [])) }
-    ensures err { OnlyOutOfMemory result }
-{
-    let (kind, if_empty, has_children) = match mapping {
-        Mapping::Nothing => return Ok(mark_plan(mark)),
-        Mapping::Leaf(kind) => (ElementKind::Node(kind), IfEmpty::Stands, false),
-        Mapping::Parent(kind, if_empty) => (kind, if_empty, true),
-    };
-    let texts = ElementTexts {
-        mark,
-        before: None,
-        after: None,
-    };
-    let element = Element {
-        kind,
-        style: NodeStyle::default(),
-        if_empty,
-        texts: InsertedTexts::new(alloc, texts)?,
-    };
-    Ok(Plan::Over {
-        element,
-        has_children,
-    })
+    Ok(displayed_plan(mapping, node_style(style), texts))
 }
 
 /// Returns the style of an element of its own: what the rules state of it, and for `pre` that white space is preserved.
@@ -282,118 +205,93 @@ fn element_plan(
     let mark = mark_of(alloc, name, attributes)?;
     if is_preformatted(name) || index.may_select(name.local.as_str(), attributes) {
         let style = own_style(alloc, rules, index, name, attributes)?;
-        return styled_plan(alloc, mapping, mark, &style);
+        return Ok(styled_plan(mapping, mark, &style)?);
     }
-    unstyled_plan(alloc, mapping, mark)
+    let texts = ElementTexts {
+        mark,
+        ..ElementTexts::none()
+    };
+    Ok(displayed_plan(mapping, NodeStyle::default(), texts))
 }
 
-/// Reports whether an element without attributes has the style without any declaration.
+/// An element whose plan is known by its name, and whose children are converted.
+pub struct KnownElement<'a> {
+    /// What it becomes.
+    pub kind: ElementKind,
+    /// What becomes of it if its children have no results that count.
+    pub if_empty: IfEmpty,
+    /// Its style; `None` for that without any declaration.
+    pub style: Option<&'a ComputedStyle>,
+}
+
+/// Returns the style of an element of this name without attributes that isn't `pre`; `None` where that needs more to be known, or
+/// it is not displayed.
 #[inline(always)]
-fn is_unstyled(rules: &[StyleRule], index: &RuleIndex, name: &QualName) -> bool
+fn known_style<'a>(
+    rules: &[StyleRule],
+    index: &'a RuleIndex,
+    name: &str,
+) -> Option<Option<&'a ComputedStyle>>
     requires { Finds index.now (map rule_of rules.now) }
-    ensures { OnTrue result (own_style (map rule_of rules.now) (name_of name.now) [] ≡ style_by []) }
+    ensures style { IfSome result (λ style. known_style style ≡ element_style (map rule_of rules.now) name.now []) }
+    ensures displayed { IfSome result (λ style. (known_style style).display ≡ None) }
 {
-    if is_preformatted(name) {
-        return false;
+    if rules.is_empty() || !index.may_select(name, &[]) {
+        return Some(None);
     }
-    rules.is_empty() || !index.may_select(name.local.as_str(), &[])
+    match index.plain_style(name) {
+        Some(style) if style.display.val().is_none() => Some(Some(style)),
+        _ => None,
+    }
 }
 
-/// Returns what an element becomes that has no attributes and whose style is that without any declaration, if its children are
-/// converted; `None` for an element that needs more to be known.
+/// Returns the element that an element of this name is without attributes; `None` where that needs more to be known, it is not
+/// displayed, or its children aren't converted.
 #[inline(never)]
-fn plain_kind(
+fn known_name<'a>(
     rules: &[StyleRule],
-    index: &RuleIndex,
+    index: &'a RuleIndex,
     name: &QualName,
-) -> Option<(ElementKind, IfEmpty)>
+) -> Option<KnownElement<'a>>
     requires { Finds index.now (map rule_of rules.now) }
-    ensures { IfSome result (λ r. (below : Forest Content) →
+    ensures { IfSome result (λ known. (below : Forest Content) →
         element_plan (element_mapping (space_of name.now.ns) name.now.local [] below) (mark_of (name_of name.now) []) (own_style (map rule_of rules.now) (name_of name.now) [])
-        ≡ Plan.Over (plain_element r.0 r.1) true) }
+        ≡ Plan.Over (known_element known) true) }
 {
     let Namespace::Html = name.ns else {
         return None;
     };
     let local = name.local.as_str();
-    if is_mapped_apart(local) || !is_unstyled(rules, index, name) {
+    if is_mapped_apart(local) || is_preformatted(name) {
         return None;
     }
+    let style = known_style(rules, index, local)?;
     match html_mapping(local, &[]) {
-        Mapping::Parent(kind, if_empty) => Some((kind, if_empty)),
+        Mapping::Parent(kind, if_empty) => Some(KnownElement {
+            kind,
+            if_empty,
+            style,
+        }),
         _ => None,
     }
 }
 
-/// Returns what an element of HTML becomes that has no attributes and that no rule selects, if its children are converted;
-/// `None` for other nodes, and where that needs more to be known. `index` is that of the rules.
+/// Returns a node of a document as an element whose plan is known by its name; `None` for an element with attributes, where more
+/// needs to be known, and for any other node. `index` is that of the rules.
 #[inline(always)]
-pub fn plain_element(
-    rules: &[StyleRule],
-    index: &RuleIndex,
-    dom: &RcDom,
-    node: Handle,
-) -> Option<(ElementKind, IfEmpty)>
-    requires index { Finds index.now (map rule_of rules.now) }
-    requires node { IsNode dom.now node }
-    ensures { IfSome result (λ r. plan_at (map rule_of rules.now) dom.now node ≡ Plan.Over (plain_element r.0 r.1) true) }
-{
-    match dom.data(node) {
-        NodeData::Element { name, attrs, .. } if attrs.as_slice().is_empty() => {
-            plain_kind(rules, index, name)
-        }
-        _ => None,
-    }
-}
-
-/// Returns what an element becomes that has no attributes and whose style is known by its name, with that style, if it is
-/// displayed and its children are converted; `None` for an element that needs more to be known.
-#[inline(never)]
-fn styled_kind<'a>(
-    rules: &[StyleRule],
-    index: &'a RuleIndex,
-    name: &QualName,
-) -> Option<(ElementKind, IfEmpty, &'a ComputedStyle)>
-    requires { Finds index.now (map rule_of rules.now) }
-    ensures { IfSome result (λ r. (below : Forest Content) →
-        element_plan (element_mapping (space_of name.now.ns) name.now.local [] below) (mark_of (name_of name.now) []) (own_style (map rule_of rules.now) (name_of name.now) [])
-        ≡ Plan.Over (element_of r.0 r.1 None (style_of r.2.now)) true) }
-{
-    let Namespace::Html = name.ns else {
-        return None;
-    };
-    let local = name.local.as_str();
-    if rules.is_empty() || is_mapped_apart(local) || is_preformatted(name) {
-        return None;
-    }
-    let Some(plain) = index.plain_style(local) else {
-        return None;
-    };
-    if plain.display.val().is_some() {
-        return None;
-    }
-    match html_mapping(local, &[]) {
-        Mapping::Parent(kind, if_empty) => Some((kind, if_empty, plain)),
-        _ => None,
-    }
-}
-
-/// Returns what an element of HTML becomes that has no attributes and whose style is known by its name, with that style, if its
-/// children are converted; `None` for other nodes, and where that needs more to be known. `index` is that of the rules.
-#[inline(always)]
-pub fn styled_element<'a>(
+pub fn known_element<'a>(
     rules: &[StyleRule],
     index: &'a RuleIndex,
     dom: &RcDom,
     node: Handle,
-) -> Option<(ElementKind, IfEmpty, &'a ComputedStyle)>
+) -> Option<KnownElement<'a>>
     requires index { Finds index.now (map rule_of rules.now) }
     requires node { IsNode dom.now node }
-    ensures { IfSome result (λ r. plan_at (map rule_of rules.now) dom.now node ≡ Plan.Over (element_of r.0 r.1 None (style_of r.2.now)) true) }
+    ensures { IfSome result (λ known. plan_at (map rule_of rules.now) dom.now node ≡ Plan.Over (known_element known) true) }
 {
     match dom.data(node) {
         NodeData::Element { name, attrs, .. } if attrs.as_slice().is_empty() => {
-            styled_kind(rules, index, name)
+            known_name(rules, index, name)
         }
         _ => None,
     }
@@ -420,7 +318,7 @@ fn document_plan() -> Plan
             kind: ElementKind::Node(NodeKind::Container),
             style: NodeStyle::default(),
             if_empty: IfEmpty::Stands,
-            texts: InsertedTexts::none(),
+            texts: ElementTexts::none(),
         },
         has_children: true,
     }

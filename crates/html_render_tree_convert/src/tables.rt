@@ -11,14 +11,14 @@ pub enum Part {
     Row,
     /// A cell, and what it spans: of `td` and `th`.
     Cell(CellSpan),
-    /// What stands above a table: of `caption`.
+    /// The text above a table: of `caption`.
     Caption,
 }
 
 /// What a cell asks for.
 #[derive(Clone, Copy)]
 pub struct CellSpan {
-    /// How many columns: 0 stands for as many as its row has left, in its part of the table.
+    /// How many columns: 0 means as many as its row has left, in its part of the table.
     pub colspan: usize,
     /// How many rows, its own included: at least 1.
     pub rowspan: usize,

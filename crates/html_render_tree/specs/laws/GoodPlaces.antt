@@ -21,7 +21,7 @@ and-map {a} {b} {a'} {b'} inner outer h = let both = and_parts a b h in and_from
 -- ---- rows with equal numbers of cells
 
 -- some cell of a grid
-abbrev pub some_cell : GridCell
+abbrev some_cell : GridCell
 some_cell = record { rowspan = 0; first = 0; columns = 0 }
 
 -- some cell for each of these
@@ -54,7 +54,7 @@ own_rows-alike edges row hung (cells ∷ rows) =
 
 -- ---- a first tree and its later siblings
 
-abbrev pub good_over : TreePlace → NodeKind → (children others : Nodes) → Bool
+abbrev good_over : TreePlace → NodeKind → (children others : Nodes) → Bool
 good_over place kind children others = are_good_below (λ p. are_good p children) (λ p. are_good p others) (places_around place kind)
 
 -- the later siblings may be others, if these are good
@@ -65,12 +65,11 @@ at-anywhere TableRow t u u' outer h = cc
 at-anywhere TableCell t u u' outer h = cc
 at-anywhere kind t u u' outer h = and-map {a = are_good (if is_leaf kind then Nowhere else Anywhere) t} (λ e. e) outer h
 
--- in a row and in a table the children may be others too
-pub at-row : (kind : NodeKind) (c : GridCell) (cs ds : List GridCell) (t t' u u' : Nodes) →
-    (are_good Anywhere t ≡ true → are_good Anywhere t' ≡ true) → (are_good (InRow cs) u ≡ true → are_good (InRow ds) u' ≡ true) →
-    good_over (InRow (c ∷ cs)) kind t u ≡ true → good_over (InRow (c ∷ ds)) kind t' u' ≡ true
-at-row TableCell c cs ds t t' u u' inner outer h = and-map inner outer h
-at-row kind c cs ds t t' u u' inner outer h = cc
+-- in a row the children may be others, and in a table both
+at-row : (kind : NodeKind) (c : GridCell) (cs : List GridCell) (t t' u : Nodes) → (are_good Anywhere t ≡ true → are_good Anywhere t' ≡ true) →
+    good_over (InRow (c ∷ cs)) kind t u ≡ true → good_over (InRow (c ∷ cs)) kind t' u ≡ true
+at-row TableCell c cs t t' u inner h = and-map inner (λ e. e) h
+at-row kind c cs t t' u inner h = cc
 
 at-table : (kind : NodeKind) (c : List GridCell) (cs ds : List (List GridCell)) (t t' u u' : Nodes) →
     (are_good (InRow c) t ≡ true → are_good (InRow c) t' ≡ true) → (are_good (InTable cs) u ≡ true → are_good (InTable ds) u' ≡ true) →
@@ -125,7 +124,7 @@ module _ (front back : Nodes) (f : are_good Anywhere front ≡ true) (b : are_go
   into_cell-good cells none h = h
   into_cell-good [] (node n children others) h = cc
   into_cell-good (c ∷ cs) (node n children others) h =
-      at-row n.kind c cs cs children (followed_by front (followed_by children back)) others others (between-good children) (λ e. e) h
+      at-row n.kind c cs children (followed_by front (followed_by children back)) others (between-good children) h
 
   pub into_row-good : (rows : List (List GridCell)) (t : Nodes) → are_good (InTable rows) t ≡ true →
       are_good (InTable rows) (in_first 2 front back t) ≡ true

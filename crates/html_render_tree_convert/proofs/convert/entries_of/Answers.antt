@@ -5,14 +5,15 @@ use Rattle.html_render_dom_styles.specs.Rules.{rule_of}
 use Rattle.html_render_dom.specs.Dom.{IsNode, tree_of}
 use Rattle.html_render_parts.specs.laws.Refusal.{Fails-same}
 use Rattle.html_render_tree_convert.specs.Plans.{plan_at}
+use Rattle.html_render_tree_convert.specs.Steps.{all_written, converted}
 use Rattle.html_render_tree_convert.specs.Visits.{followed}
 use Rattle.html_render_tree_walk.specs.Walk.{coming}
 use Rattle.html_render_tree_walk.specs.declared.cursor.Position.{Position}
 use Rattle.html_render_tree_walk.specs.declared.cursor.Visit.TheVariants.{Node}
-use Rattle.html_render_tree_convert.proofs.VisitRuns.{ended, fails-whole, followed-nodes, goes-on, one_left, starts, visits-close, visits-node}
+use Rattle.html_render_tree_convert.proofs.VisitRuns.{ended, fails-whole, followed-nodes, goes-on, starts, visits-close, visits-node}
 use Rattle.html_render_tree_convert.proofs.VisitsLeft.{node-less, work}
 use Rattle.html_render_tree_convert.proofs.convert.entries_of.Goals as goal
-use Rattle.html_render_tree_convert.proofs.convert.entries_of.Goals.{In-Node, In_ok-convert_node-in-Node}
+use Rattle.html_render_tree_convert.proofs.convert.entries_of.Goals.{In-Node, In_default, In_ok-convert_node-in-Node}
 
 pub visits-init : goal.visits-init
 visits-init c =
@@ -96,18 +97,18 @@ returns-in_err-close-in-Close-clause-err c =
     (visits-close rules dom c.visits.cursor ps c.visits.conversion (rw c.in-Close.is at (rw c.in-Some.is at c.next.ensures.visit))
     c.visits.invariant.comes) c.in_err-close-in-Close.ensures.err c.from_residual-in_err-close-in-Close.ensures.1
 
+-- nothing comes any more
+written : (c : In_default) → converted (map rule_of c.args.rules.now) (tree_of c.args.dom.now 0) ≡ all_written c.visits.conversion
+written c =
+    ended (map rule_of c.args.rules.now) c.args.dom.now c.visits.cursor c.visits.conversion (rw c.in_default.is at c.next.ensures.visit)
+    c.visits.invariant.comes
+
 pub returns-clause-ok : goal.returns-clause-ok
 returns-clause-ok c =
-    let dom = c.args.dom.now in
-    let rules = map rule_of c.args.rules.now in
-    let over : coming dom c.visits.cursor ≡ [] = rw c.in_default.is at c.next.ensures.visit in
-    let left = one_left rules (tree_of dom 0) c.visits.conversion (ended rules dom c.visits.cursor c.visits.conversion over c.visits.invariant.comes) in
-    IfOk-weaker c.into_entries.result _ _ (λ entries is. left.2 ∙ sym is) (c.into_entries.ensures.ok left.0 left.1)
+    let m = (goal.at.returns-clause-ok c).In_default in
+    IfOk-weaker c.into_entries.result _ _ (λ entries is. written m ∙ is) c.into_entries.ensures.ok
 
 pub returns-clause-err : goal.returns-clause-err
 returns-clause-err c =
-    let dom = c.args.dom.now in
-    let rules = map rule_of c.args.rules.now in
-    let over : coming dom c.visits.cursor ≡ [] = rw c.in_default.is at c.next.ensures.visit in
-    let left = one_left rules (tree_of dom 0) c.visits.conversion (ended rules dom c.visits.cursor c.visits.conversion over c.visits.invariant.comes) in
-    IfErr-weaker c.into_entries.result _ _ (λ e fails. Fails-same e _ left.0.written left.2 fails) (c.into_entries.ensures.err left.0 left.1)
+    let m = (goal.at.returns-clause-err c).In_default in
+    IfErr-weaker c.into_entries.result _ _ (λ e fails. Fails-same e _ _ (written m) fails) c.into_entries.ensures.err

@@ -1,5 +1,5 @@
 use Rattle.std.proofs.Common.{◌≡◌, ◌++◌}
-use Rattle.html_render_tree_convert.specs.OpenElements.{leaves}
+use Rattle.html_render_tree_convert.specs.Held.{leaves}
 use Rattle.html_render_tree_convert.proofs.due.put_all.Given as goal
 
 abbrev pub invariant-loop-node : goal.invariant-loop-node
