@@ -148,16 +148,16 @@ impl<T: Tag, M: Copy> RowCells<T, M> {
         Ok(())
     }
 
-    /// Returns the columns of the cells.
-    pub(crate) fn widths(&self, alloc: Global) -> Result<Vec<usize>, AllocError>
-        ensures { IfOk result (λ v. separators_between v.items ≡ definition.separators_of self.now) }
+    /// Replaces `widths` by the columns of the cells.
+    pub(crate) fn put_widths(&self, widths: &mut Vec<usize>) -> Result<(), AllocError>
+        ensures { OnOk result (separators_between widths.new.items ≡ definition.separators_of self.now) }
     {
+        widths.clear();
         let cells = self.cells.as_slice();
-        let mut widths = Vec::with_capacity(alloc, cells.len())?;
         for cell in cells {
             widths.push(cell.width)?;
         }
-        Ok(widths)
+        Ok(())
     }
 }
 

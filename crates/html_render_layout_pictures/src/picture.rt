@@ -90,27 +90,28 @@ impl<T: Tag> Frame<T> {
         Ok(lines)
     }
 
-    /// Appends the border that is due, above a row whose cells have these columns.
+    /// Appends the border that is due, above a row whose cells have these columns. Returns the memory of the columns above
+    /// it.
     fn put_due<M: Copy>(
         &self,
+        alloc: Global,
         to: &mut LineBuffer<T, M>,
         due: Option<Border<M>>,
         below: &[usize],
-    ) -> Result<(), AllocError>
+    ) -> Result<Vec<usize>, AllocError>
         requires { to.old.line ≡ [] }
         ensures { OnOk result (to.new ≡ record {
           lines = to.old.lines ++ drawing.due_lines self.now due (separators_between below.now);
           line = [];
         }) }
     {
-        match due {
-            Some(Border { marks, above }) => {
-                to.push_marks(marks.as_slice())?;
-                self.put_border(to, above.as_slice(), below)?;
-                to.end_line()
-            }
-            None => Ok(()),
-        }
+        let Some(Border { marks, above }) = due else {
+            return Ok(Vec::new(alloc));
+        };
+        to.push_marks(marks.as_slice())?;
+        self.put_border(to, above.as_slice(), below)?;
+        to.end_line()?;
+        Ok(above)
     }
 
     /// Returns the border below a row whose cells have these columns.
@@ -139,6 +140,8 @@ pub struct Picture<T, M> {
     last: LineBuffer<T, M>,
     waiting: Vec<M>,
     due: Option<Border<M>>,
+    /// Buffer for the columns of a row's cells.
+    widths: Vec<usize>,
     /// A row without cells, in the memory of one that is drawn.
     spare: Option<RowCells<T, M>>,
 }
@@ -201,6 +204,7 @@ impl<T: Tag, M: Copy> Picture<T, M> {
             last: LineBuffer::new(alloc),
             waiting,
             due,
+            widths: Vec::new(alloc),
             spare: None,
         }
     }
@@ -237,19 +241,6 @@ impl<T: Tag, M: Copy> Picture<T, M> {
         }
     }
 
-    /// Returns the columns of a row's cells, if a border may show what stands between them.
-    fn shown_widths(&self, row: &RowCells<T, M>) -> Result<Vec<usize>, AllocError>
-        ensures above { IfOk result (λ v. drawing.due_lines {M = M} self.now.frame self.now.due (separators_between v.items)
-            ≡ drawing.due_lines self.now.frame self.now.due (definition.separators_of row.now)) }
-        ensures below { IfOk result (λ v. drawing.due_below {M = M} self.now.frame (separators_between v.items)
-            ≡ drawing.due_below self.now.frame (definition.separators_of row.now)) }
-    {
-        if !self.frame.borders && self.due.is_none() {
-            return Ok(Vec::new(self.alloc));
-        }
-        row.widths(self.alloc)
-    }
-
     /// Adds the lines of a row, after the border that is due.
     fn draw_row(&mut self, row: RowCells<T, M>) -> Result<(), AllocError>
         requires { 0 < length row }
@@ -271,10 +262,16 @@ impl<T: Tag, M: Copy> Picture<T, M> {
           due = drawing.due_below self.old.frame (definition.separators_of row.now);
         }) }
     {
-        let widths = self.shown_widths(row)?;
+        if !self.frame.borders && self.due.is_none() {
+            return Ok(());
+        }
+        let mut widths = mem::replace(&mut self.widths, Vec::new(self.alloc));
+        row.put_widths(&mut widths)?;
         let due = mem::replace(&mut self.due, None);
         let mut last = mem::replace(&mut self.last, LineBuffer::new(self.alloc));
-        self.frame.put_due(&mut last, due, widths.as_slice())?;
+        self.widths = self
+            .frame
+            .put_due(self.alloc, &mut last, due, widths.as_slice())?;
         self.last = last;
         self.due = self.frame.due_below(self.alloc, widths);
         Ok(())
@@ -324,6 +321,7 @@ impl<T: Tag, M: Copy> Picture<T, M> {
         ensures err { OnlyOutOfMemory result }
     {
         let Picture {
+            alloc,
             frame,
             mut before,
             mut last,
@@ -331,7 +329,7 @@ impl<T: Tag, M: Copy> Picture<T, M> {
             due,
             ..
         } = self;
-        frame.put_due(&mut last, due, &[])?;
+        frame.put_due(alloc, &mut last, due, &[])?;
         before.append_buffer(&mut last)?;
         Ok(Drawn {
             lines: before,

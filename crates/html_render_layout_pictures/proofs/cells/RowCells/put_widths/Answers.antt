@@ -6,7 +6,7 @@ use Rattle.html_render_layout_pictures.specs.RowCells.{cells_of}
 use Rattle.html_render_layout_pictures.specs.Separators.{separators_between}
 use Rattle.html_render_layout_pictures.proofs.CellLines.{cells-widths}
 use Rattle.html_render_layout_pictures.proofs.Separators.{separators_widths}
-use Rattle.html_render_layout_pictures.proofs.cells.RowCells.widths.Goals as goal
+use Rattle.html_render_layout_pictures.proofs.cells.RowCells.put_widths.Goals as goal
 
 pub returns : goal.returns
 returns g c =
