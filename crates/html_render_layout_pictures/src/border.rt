@@ -3,11 +3,12 @@
 ghost use Rattle.std.specs.Prelude.{◌≡◌, ℕ, ◌+◌, ◌<◌, ◌≤◌, ◌++◌, ◌∷◌, [], false, get_or, length, map, OnOk, IfOk, IfSome};
 ghost use Rattle.std.specs.List.{range_with_len};
 ghost use Rattle.html_render_layout_lines.specs.declared.line.Element.TheVariants.{Character};
+ghost use Rattle.html_render_layout_buffer.specs.Padding.{repeated};
 ghost use Rattle.html_render_layout_pictures.specs.Picture as definition;
 ghost use Rattle.html_render_layout_pictures.specs.Separators.{separators_from, separators_between, blank_before, joint_at};
 
 use crate::borders::BORDERS;
-use crate::gaps::{Filler, push_fillers};
+use crate::gaps::{CHUNK, Filler, joint, push_fillers};
 use crate::picture::Frame;
 use html_render_layout_buffer::buffer::LineBuffer;
 use html_render_layout_lines::tag::Tag;
@@ -84,30 +85,25 @@ impl<'a> Columns<'a> {
     }
 }
 
-/// Returns the border character at a column. `above` and `below` say whether the adjacent rows have a separator there.
-fn joint(above: bool, below: bool) -> char
-    ensures { result ≡ definition.joint above below }
-{
-    match (above, below) {
-        (true, true) => BORDERS.cross,
-        (true, false) => BORDERS.above,
-        (false, true) => BORDERS.below,
-        (false, false) => BORDERS.line,
-    }
-}
-
 impl<T: Tag> Frame<T> {
-    /// Appends the border character of a column. `above` and `below` say whether the adjacent rows have a separator there.
-    #[tactic(auto, using(crate::specs::laws::Glyphs::joint_width))]
+    /// Appends horizontal border characters of `dashes` columns and the border character of the next column. `above` and
+    /// `below` say whether the adjacent rows have a separator there.
+    #[tactic(auto, using(crate::proofs::LawSets::gaps_put))]
     fn draw_joint<M: Copy>(
         &self,
         to: &mut LineBuffer<T, M>,
+        dashes: usize,
         above: bool,
         below: bool,
     ) -> Result<(), AllocError>
-        ensures { OnOk result (to.new ≡ record { lines = to.old.lines; line = to.old.line ++ Character (definition.joint above below) self.now.tag ∷ [] }) }
+        ensures { OnOk result (to.new ≡ record {
+          lines = to.old.lines;
+          line = (to.old.line ++ repeated self.now.tag BORDERS.line dashes) ++ Character (definition.joint above below) self.now.tag ∷ [];
+        }) }
     {
-        to.push_char(joint(above, below), 1, self.tag)
+        let few = dashes.min(CHUNK - 1);
+        push_fillers(to, Filler::Dash, dashes - few, self.tag)?;
+        to.push_str(joint(above, below, few), few + 1, self.tag)
     }
 
     /// Draws a border up to the next column with a separator above or below, that column included, and at most `most` columns.
@@ -131,12 +127,12 @@ impl<T: Tag> Frame<T> {
             ≡ get_or (separators_from below.old.blank below.old.others.now) (n + j) false) }
     {
         let dashes = above.blank().min(below.blank()).min(most);
-        push_fillers(to, Filler::Dash, dashes, self.tag)?;
         if dashes == most {
+            push_fillers(to, Filler::Dash, dashes, self.tag)?;
             return Ok(most);
         }
         let (up, down) = (above.pass(dashes), below.pass(dashes));
-        self.draw_joint(to, up, down)?;
+        self.draw_joint(to, dashes, up, down)?;
         Ok(dashes + 1)
     }
 

@@ -36,5 +36,14 @@ pub const CHUNK: usize = 64;
 /// `CHUNK` horizontal border characters.
 pub const LINES: &str = "────────────────────────────────────────────────────────────────";
 
+/// `CHUNK - 1` horizontal border characters and one with a separator above and below it.
+pub const LINES_CROSS: &str = "───────────────────────────────────────────────────────────────┼";
+
+/// `CHUNK - 1` horizontal border characters and one with a separator above it only.
+pub const LINES_ABOVE: &str = "───────────────────────────────────────────────────────────────┴";
+
+/// `CHUNK - 1` horizontal border characters and one with a separator below it only.
+pub const LINES_BELOW: &str = "───────────────────────────────────────────────────────────────┬";
+
 /// `CHUNK` slashes.
 pub const SLASHES: &str = "////////////////////////////////////////////////////////////////";

@@ -4,9 +4,10 @@ ghost use Rattle.std.specs.Prelude.{◌≡◌, ◌≤◌, ◌<◌, ◌++◌, ◌
 ghost use Rattle.std.specs.Str.{chars, encode_utf8_all};
 ghost use Rattle.html_render_layout_buffer.specs.Padding.{repeated};
 ghost use Rattle.html_render_layout_pictures.specs.Fillers.{character_of};
+ghost use Rattle.html_render_layout_pictures.specs.Picture as definition;
 
 pub use crate::borders::CHUNK;
-use crate::borders::{BORDERS, LINES, SLASHES};
+use crate::borders::{BORDERS, LINES, LINES_ABOVE, LINES_BELOW, LINES_CROSS, SLASHES};
 use html_render_layout_buffer::buffer::LineBuffer;
 use html_render_layout_lines::tag::Tag;
 use std::alloc::AllocError;
@@ -45,13 +46,13 @@ pub fn few_spaces(count: usize) -> &'static str
 /// `CHUNK - 1` spaces and a separator.
 const GAP: &str = "                                                               │";
 
-/// Returns the last `few` spaces of a text of `CHUNK - 1` spaces and a separator, with the separator.
-fn last_of_gap(text: &'static str, few: usize) -> &'static str
-    requires text { text.now ≡ encode_utf8_all (replicate 63 0x20 ++ BORDERS.separator ∷ []) }
+/// Returns the last `few + 1` characters of a text that consists of `CHUNK - 1` times `character` and `last`.
+fn last_of(text: &'static str, character: char, last: char, few: usize) -> &'static str
+    requires text { text.now ≡ encode_utf8_all (replicate 63 character ++ last ∷ []) }
     requires few { few < CHUNK }
-    ensures { chars result.now ≡ replicate few 0x20 ++ BORDERS.separator ∷ [] }
+    ensures { chars result.now ≡ replicate few character ++ last ∷ [] }
 {
-    &text[CHUNK - 1 - few..]
+    &text[(CHUNK - 1 - few) * character.len_utf8()..]
 }
 
 /// Returns `few` spaces and the separator between two cells, without an allocation. Without borders it is another space.
@@ -61,9 +62,24 @@ pub(crate) fn gap(borders: bool, few: usize) -> &'static str
     ensures { chars result.now ≡ replicate few 0x20 ++ cond borders BORDERS.separator 0x20 ∷ [] }
 {
     if borders {
-        last_of_gap(GAP, few)
+        last_of(GAP, ' ', BORDERS.separator, few)
     } else {
         few_spaces(few + 1)
+    }
+}
+
+/// Returns `few` horizontal border characters and the one of the next column, without an allocation. `above` and `below` say
+/// whether the adjacent rows have a separator there.
+#[tactic(auto, using(crate::proofs::LawSets::gaps))]
+pub(crate) fn joint(above: bool, below: bool, few: usize) -> &'static str
+    requires { few < CHUNK }
+    ensures { chars result.now ≡ replicate few BORDERS.line ++ definition.joint above below ∷ [] }
+{
+    match (above, below) {
+        (true, true) => last_of(LINES_CROSS, BORDERS.line, BORDERS.cross, few),
+        (true, false) => last_of(LINES_ABOVE, BORDERS.line, BORDERS.above, few),
+        (false, true) => last_of(LINES_BELOW, BORDERS.line, BORDERS.below, few),
+        (false, false) => first_of(LINES, BORDERS.line, few + 1),
     }
 }
 

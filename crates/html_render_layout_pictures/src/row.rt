@@ -61,29 +61,14 @@ fn height<M: Copy>(cells: &[RowCell<M>]) -> usize
 }
 
 impl<T: Tag> Frame<T> {
-    /// Appends what stands between a cell and the next one, where many spaces are missing after its line.
-    #[tactic(auto, using(crate::proofs::LawSets::gaps_put))]
-    fn put_wide_gap<M: Copy>(
-        &self,
-        to: &mut LineBuffer<T, M>,
-        missing: usize,
-    ) -> Result<(), AllocError>
-        ensures { OnOk result (to.new ≡ record { lines = to.old.lines; line = (to.old.line ++ repeated self.now.tag 0x20 missing) ++ definition.separator self.now ∷ [] }) }
-    {
-        let few = missing.min(CHUNK - 1);
-        push_fillers(to, Filler::Space, missing - few, self.tag)?;
-        to.push_str(gap(self.borders, few), few + 1, self.tag)
-    }
-
     /// Appends what stands between a cell and the next one: the spaces that are missing after its line, and a separator.
     #[tactic(auto, using(crate::proofs::LawSets::gaps_put))]
     fn put_gap<M: Copy>(&self, to: &mut LineBuffer<T, M>, missing: usize) -> Result<(), AllocError>
         ensures { OnOk result (to.new ≡ record { lines = to.old.lines; line = (to.old.line ++ repeated self.now.tag 0x20 missing) ++ definition.separator self.now ∷ [] }) }
     {
-        if missing >= CHUNK {
-            return self.put_wide_gap(to, missing);
-        }
-        to.push_str(gap(self.borders, missing), missing + 1, self.tag)
+        let few = missing.min(CHUNK - 1);
+        push_fillers(to, Filler::Space, missing - few, self.tag)?;
+        to.push_str(gap(self.borders, few), few + 1, self.tag)
     }
 
     /// Appends a cell's own line, if the cell is as high, and after its last one the marks that wait there. Returns how many

@@ -19,6 +19,7 @@ use Rattle.html_render_layout_lines.specs.Line.{Line}
 use Rattle.html_render_layout_lines.specs.TaggedText.{text_columns, under}
 use Rattle.html_render_layout_buffer.specs.Padding.{repeated}
 use Rattle.html_render_layout_pictures.specs.Fillers.{character_of}
+use Rattle.html_render_layout_pictures.specs.Picture.{joint}
 use Rattle.html_render_layout_pictures.specs.declared.gaps.Filler.{Filler}
 use Rattle.html_render_layout_pictures.specs.declared.gaps.Filler.TheVariants.{Space, Slash, Dash}
 use Rattle.html_render_layout_pictures.specs.laws.Glyphs.{space_width, slash_width, joint_width, separator_width}
@@ -61,40 +62,41 @@ module _ (c count all bytes : ℕ) (text : List ℕ) (s : scalar c ≡ true) (is
 pub chars-spaces : (count : ℕ) → chars (replicate count 0x20) ≡ replicate count 0x20
 chars-spaces count = chars-IsAscii (replicate count 0x20) (IsAscii-from_all (replicate count 0x20) (All-replicate (λ b. b < 128) count 0x20 (omega arith)))
 
--- ---- spaces before a separator
+-- ---- a character many times, and another one behind it
 
-gap-scalars : (n : ℕ) → scalars (replicate n 0x20 ++ BORDERS.separator ∷ []) ≡ true
-gap-scalars zero = refl
-gap-scalars (suc n) = gap-scalars n
-
--- the last of the spaces of a text, and the separator behind them
-module _ (few : ℕ) (text : List ℕ) (is : text ≡ encodes (replicate 63 0x20 ++ BORDERS.separator ∷ [])) (h : few < 64) where
+-- the last characters of such a text, in UTF-8
+module _ (c end few bytes : ℕ) (text : List ℕ) (s : scalar c ≡ true) (e : scalar end ≡ true) (is : text ≡ encodes (replicate 63 c ++ end ∷ []))
+    (each : bytes ≡ len_utf8 c) (h : few < 64) where
   abbrev before : List ℕ
-  before = replicate (63 - few) 0x20
+  before = replicate (63 - few) c
 
   abbrev last : List ℕ
-  last = replicate few 0x20 ++ BORDERS.separator ∷ []
+  last = replicate few c ++ end ∷ []
 
-  gap-parted : text ≡ encodes before ++ encodes last
-  gap-parted =
+  last-scalars : (n : ℕ) → scalars (replicate n c ++ end ∷ []) ≡ true
+  last-scalars zero = ap (λ b. b && true) e
+  last-scalars (suc n) = ap (λ b. b && scalars (replicate n c ++ end ∷ [])) s ∙ last-scalars n
+
+  last-parted : text ≡ encodes before ++ encodes last
+  last-parted =
       let whole : 63 ≡ (63 - few) + few = omega (arith, h) in
-      is ∙ ap (λ n. encodes (replicate n 0x20 ++ BORDERS.separator ∷ [])) whole
-      ∙ ap (λ l. encodes (l ++ BORDERS.separator ∷ [])) (sym (replicate-append-replicate (63 - few) few 0x20))
-      ∙ ap encodes (append_assoc before (replicate few 0x20) (BORDERS.separator ∷ []))
+      is ∙ ap (λ n. encodes (replicate n c ++ end ∷ [])) whole
+      ∙ ap (λ l. encodes (l ++ end ∷ [])) (sym (replicate-append-replicate (63 - few) few c))
+      ∙ ap encodes (append_assoc before (replicate few c) (end ∷ []))
       ∙ encodes-append before last
 
-  before-length : length (encodes before) ≡ 63 - few
-  before-length = omega (arith, encodes-length 0x20 (63 - few))
+  before-length : length (encodes before) ≡ (63 - few) * bytes
+  before-length = encodes-length c (63 - few) ∙ ap (λ n. (63 - few) * n) (sym each)
 
-  pub gap_boundary : IsCharBoundary text (63 - few)
-  gap_boundary = subst (IsCharBoundary text) before-length
-      (IsCharBoundary-at_seam text (encodes before) (encodes last) gap-parted (last, (gap-scalars few, refl)))
+  pub last_boundary : IsCharBoundary text ((63 - few) * bytes)
+  last_boundary = subst (IsCharBoundary text) before-length
+      (IsCharBoundary-at_seam text (encodes before) (encodes last) last-parted (last, (last-scalars few, refl)))
 
-  pub gap_chars : chars (drop (63 - few) text) ≡ last
-  gap_chars =
-      ap (λ bs. chars (drop (63 - few) bs)) gap-parted
-      ∙ ap chars (drop_at (encodes before) (encodes last) (63 - few) before-length)
-      ∙ chars-encodes last (gap-scalars few)
+  pub last_chars : chars (drop ((63 - few) * bytes) text) ≡ last
+  last_chars =
+      ap (λ bs. chars (drop ((63 - few) * bytes) bs)) last-parted
+      ∙ ap chars (drop_at (encodes before) (encodes last) ((63 - few) * bytes) before-length)
+      ∙ chars-encodes last (last-scalars few)
 
 -- ---- on a line
 
@@ -131,31 +133,46 @@ gap_width borders count =
     let one : width_of c ≡ 1 = separator_width borders in
     omega (arith, sum_by-append width_of (replicate count 0x20) (c ∷ []), sum_by-replicate width_of count 0x20, ap (λ w. count * w) space_width, one)
 
-pub space_more : (count : ℕ) → replicate {A = ℕ} (count + 1) 0x20 ≡ replicate count 0x20 ++ 0x20 ∷ []
-space_more count = sym (replicate-append-replicate {A = ℕ} count 1 0x20)
+-- horizontal border characters, and the one of the next column
+pub joint_columns : (above below : Bool) (count : ℕ) → text_columns (replicate count BORDERS.line ++ joint above below ∷ []) ≡ count + 1
+joint_columns above below count =
+    let c = joint above below in
+    omega (
+      arith,
+      sum_by-append width_of (replicate count BORDERS.line) (c ∷ []),
+      sum_by-replicate width_of count BORDERS.line,
+      ap (λ w. count * w) (joint_width false false),
+      joint_width above below,
+    )
 
-under-push : {T : Type 0} (M : Type 0) (tag : T) (count c : ℕ) →
-    under {M = M} tag (replicate count 0x20 ++ c ∷ []) ≡ repeated tag 0x20 count ++ Character c tag ∷ []
-under-push M tag zero c = refl
-under-push M tag (suc count) c = ap (λ l. Character 0x20 tag ∷ l) (under-push M tag count c)
+pub one_more : (c count : ℕ) → replicate {A = ℕ} (count + 1) c ≡ replicate count c ++ c ∷ []
+one_more c count = sym (replicate-append-replicate {A = ℕ} count 1 c)
 
--- spaces with a separator behind them
-pub few_put : {T M : Type 0} (tag : T) (line : Line T M) (few c : ℕ) →
-    line ++ under tag (replicate few 0x20 ++ c ∷ []) ≡ (line ++ repeated tag 0x20 few) ++ Character c tag ∷ []
-few_put {T} {M} tag line few c =
-    ap (λ l. line ++ l) (under-push M tag few c) ∙ sym (append_assoc line (repeated tag 0x20 few) (Character c tag ∷ []))
+under-push : {T : Type 0} (M : Type 0) (tag : T) (b count c : ℕ) →
+    under {M = M} tag (replicate count b ++ c ∷ []) ≡ repeated tag b count ++ Character c tag ∷ []
+under-push M tag b zero c = refl
+under-push M tag b (suc count) c = ap (λ l. Character b tag ∷ l) (under-push M tag b count c)
 
--- spaces, and the last of them with a separator behind them
-pub gap_put : {T M : Type 0} (tag : T) (line : Line T M) (count few c : ℕ) → few ≤ count →
-    (line ++ repeated tag (character_of Space) (count - few)) ++ under tag (replicate few 0x20 ++ c ∷ [])
-    ≡ (line ++ repeated tag 0x20 count) ++ Character c tag ∷ []
-gap_put {T} {M} tag line count few c h =
-    let start : Line T M = repeated tag 0x20 (count - few) in
-    let rest : Line T M = repeated tag 0x20 few in
+-- a character many times, and the last of them with another one behind them
+last_put : {T M : Type 0} (tag : T) (line : Line T M) (b count few c : ℕ) → few ≤ count →
+    (line ++ repeated tag b (count - few)) ++ under tag (replicate few b ++ c ∷ []) ≡ (line ++ repeated tag b count) ++ Character c tag ∷ []
+last_put {T} {M} tag line b count few c h =
+    let start : Line T M = repeated tag b (count - few) in
+    let rest : Line T M = repeated tag b few in
     let whole : (count - few) + few ≡ count = omega (arith, h) in
-    ap (λ l. (line ++ start) ++ l) (under-push M tag few c)
+    ap (λ l. (line ++ start) ++ l) (under-push M tag b few c)
     ∙ sym (append_assoc (line ++ start) rest (Character c tag ∷ []))
     ∙ ap (λ l. l ++ Character c tag ∷ [])
     (append_assoc line start rest
-    ∙ ap (λ l. line ++ l) (replicate-append-replicate (count - few) few (Character 0x20 tag))
-    ∙ ap (λ n. line ++ repeated tag 0x20 n) whole)
+    ∙ ap (λ l. line ++ l) (replicate-append-replicate (count - few) few (Character b tag))
+    ∙ ap (λ n. line ++ repeated tag b n) whole)
+
+pub gap_put : {T M : Type 0} (tag : T) (line : Line T M) (count few c : ℕ) → few ≤ count →
+    (line ++ repeated tag (character_of Space) (count - few)) ++ under tag (replicate few 0x20 ++ c ∷ [])
+    ≡ (line ++ repeated tag 0x20 count) ++ Character c tag ∷ []
+gap_put tag line count few c h = last_put tag line 0x20 count few c h
+
+pub joint_put : {T M : Type 0} (tag : T) (line : Line T M) (count few c : ℕ) → few ≤ count →
+    (line ++ repeated tag (character_of Dash) (count - few)) ++ under tag (replicate few BORDERS.line ++ c ∷ [])
+    ≡ (line ++ repeated tag BORDERS.line count) ++ Character c tag ∷ []
+joint_put tag line count few c h = last_put tag line BORDERS.line count few c h

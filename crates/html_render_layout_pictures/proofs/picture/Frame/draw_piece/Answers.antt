@@ -31,7 +31,6 @@ returns-clause-drawn g c =
     let hb : n ≤ blank_before below.blank below.others.now = omega arith in
     let sign : Line g.row.T.Denot g.row.M.Denot = Character (joint c.pass-up.result c.pass-down.result) tag ∷ [] in
     ap (λ (b : BufferedLines g.row.T.Denot g.row.M.Denot). b.line) c.in_ok-draw_joint.ensures
-    ∙ ap (λ (b : BufferedLines g.row.T.Denot g.row.M.Denot). b.line ++ sign) c.in_ok-push_fillers.ensures
     ∙ append_assoc c.args.to.now.line (repeated tag BORDERS.line n) sign
     ∙ ap (λ l. c.args.to.now.line ++ l)
     (sym (piece-drawn g.row.M.Denot c.args.self.now above.blank above.others.now below.blank below.others.now n c.pass-up.result c.pass-down.result
