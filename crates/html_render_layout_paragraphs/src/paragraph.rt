@@ -25,8 +25,6 @@ mod feeding;
 mod line_buffer;
 mod word;
 
-pub use cut::push_cut_text;
-
 /// Whether a word is open, and how the white space of its text is treated.
 #[derive(Clone, Copy)]
 enum OpenWord {
@@ -100,6 +98,7 @@ impl<T: Tag, M: Copy> Paragraph<T, M> {
     }
 
     /// Resets to an empty paragraph for lines of `width` columns, reusing the memory.
+    #[inline(always)]
     pub fn renew(&mut self, width: usize, overflow: bool)
         ensures { self.new ≡ start (record { width = width; overflow = overflow }) [] }
     {

@@ -19,6 +19,7 @@ use html_render_layout_pictures::gaps::Filler;
 use html_render_layout_pictures::picture::Picture;
 use html_render_parts::table::cells::RowsAhead;
 use std::alloc::{AllocError, Global};
+use std::mem;
 
 /// Place of the next cell.
 #[derive(Clone, Copy)]
@@ -41,18 +42,22 @@ pub enum CellPlace<T> {
 fn next_row<T: Tag, M: Copy>(
     alloc: Global,
     picture: &mut Picture<T, M>,
-    widths: &Widths,
+    widths: &mut Widths,
     ahead: &mut RowsAhead,
 ) -> Result<OpenRow<T, M>, Error>
     ensures picture { OnOk result (picture.new ≡ picture.old) }
-    ensures row { IfOk result (λ row. row ≡ open_row widths.now (slice_index_or ahead.old 0 [])) }
+    ensures widths { widths.new ≡ widths.old }
+    ensures row { IfOk result (λ row. row ≡ open_row widths.old (slice_index_or ahead.old 0 [])) }
     ensures ahead { OnOk result (ahead.new ≡ drop 1 ahead.old) }
     ensures err { OnlyOutOfMemory result }
 {
-    let Some(cells) = ahead.next(alloc)? else {
+    let mut cells = mem::replace(&mut widths.cells, Vec::new(alloc));
+    if !ahead.next(&mut cells)? {
         return Ok(OpenRow::new(alloc, widths, &[], picture.take_row())?);
-    };
-    Ok(OpenRow::new(alloc, widths, cells.as_slice(), picture.take_row())?)
+    }
+    let row = OpenRow::new(alloc, widths, cells.as_slice(), picture.take_row())?;
+    widths.cells = cells;
+    Ok(row)
 }
 
 impl<T: Tag, M: Copy> OpenTable<Picture<T, M>, T, M> {
@@ -134,7 +139,12 @@ impl<T: Tag, M: Copy> OpenTable<Picture<T, M>, T, M> {
         ensures err { OnlyOutOfMemory result }
     {
         match self {
-            OpenTable::Across { picture, row, .. } => add_open(alloc, picture, row.take()),
+            OpenTable::Across {
+                picture,
+                widths,
+                row,
+                ..
+            } => add_open(alloc, picture, widths, row.take()),
             OpenTable::Stacked { .. } => Ok(()),
         }
     }

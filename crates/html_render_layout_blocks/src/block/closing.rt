@@ -19,7 +19,7 @@ use html_render_dom_values::Error;
 use html_render_layout_buffer::finished::FinishedLines;
 use html_render_layout_lines::line::text_columns;
 use html_render_layout_lines::tag::Tag;
-use html_render_layout_paragraphs::paragraph::push_cut_text;
+use html_render_layout_paragraphs::paragraph::Paragraph;
 use std::alloc::{AllocError, Global};
 
 impl<T: Tag, M: Copy> Block<T, M> {
@@ -140,7 +140,7 @@ fn on_one_line(alloc: Global, text: &str) -> Result<String, AllocError>
 
 /// Appends the lines of a text without newlines: cut where they are full, or one line.
 fn push_text<T: Tag, M: Copy>(
-    alloc: Global,
+    paragraph: &mut Paragraph<T, M>,
     lines: &mut FinishedLines<T, M>,
     setting: BlockSetting,
     text: &str,
@@ -153,7 +153,7 @@ fn push_text<T: Tag, M: Copy>(
         (text_lines {M = M} (record { width = setting.width; overflow = setting.overflow }) cut tag (chars text.now))) }
 {
     if cut {
-        return push_cut_text(alloc, lines, text, tag, setting.width, setting.overflow);
+        return paragraph.push_cut_text(lines, text, tag, setting.width, setting.overflow);
     }
     lines.push_text_line(text, text_columns(text), tag)?;
     Ok(())
@@ -162,6 +162,7 @@ fn push_text<T: Tag, M: Copy>(
 /// Appends the lines of a text, with a space for each newline: cut where they are full, or one line.
 fn push_closing_text<T: Tag, M: Copy>(
     alloc: Global,
+    paragraph: &mut Paragraph<T, M>,
     lines: &mut FinishedLines<T, M>,
     setting: BlockSetting,
     text: &str,
@@ -174,10 +175,10 @@ fn push_closing_text<T: Tag, M: Copy>(
         (text_lines {M = M} (record { width = setting.width; overflow = setting.overflow }) cut tag (on_one_line (chars text.now)))) }
 {
     if is_on_one_line(text) {
-        return push_text(alloc, lines, setting, text, tag, cut);
+        return push_text(paragraph, lines, setting, text, tag, cut);
     }
     let line = on_one_line(alloc, text)?;
-    push_text(alloc, lines, setting, line.as_str(), tag, cut)
+    push_text(paragraph, lines, setting, line.as_str(), tag, cut)
 }
 
 /// Returns the lines of texts, with a space for each newline: cut where they are full, or one line for each text.
@@ -193,8 +194,17 @@ fn closing_lines<T: Tag, M: Copy>(
     ensures err { IfErr result (λ e. Refuses e (closing_lines {M = M} setting cut tag (map (λ t. chars (string_bytes t)) texts.now))) }
 {
     let mut lines = FinishedLines::new(alloc);
+    let mut paragraph = Paragraph::new(alloc, setting.width, setting.overflow);
     for text in texts {
-        push_closing_text(alloc, &mut lines, setting, text.as_str(), tag, cut)?;
+        push_closing_text(
+            alloc,
+            &mut paragraph,
+            &mut lines,
+            setting,
+            text.as_str(),
+            tag,
+            cut,
+        )?;
     }
     Ok(lines)
 }

@@ -39,7 +39,7 @@ fn column_widths(
         return Ok(None);
     }
     match widths_across(alloc, needs, width)? {
-        Some(widths) => Ok(Some(Widths::new(widths))),
+        Some(widths) => Ok(Some(Widths::new(alloc, widths))),
         None => Ok(None),
     }
 }

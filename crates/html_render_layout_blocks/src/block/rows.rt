@@ -11,6 +11,7 @@ use html_render_layout_pictures::picture::Row;
 use html_render_parts::table::{CellKind, PlacedCell};
 use std::alloc::{AllocError, Global};
 use std::marker::Model;
+use std::mem;
 
 /// A place in a row, of a cell, a placeholder or a gap.
 #[derive(Clone, Copy)]
@@ -45,6 +46,10 @@ impl<T, M> Model for OpenRow<T, M> {
 #[derive(Drop)]
 pub struct Widths {
     widths: Vec<usize>,
+    /// Buffer for the places of a row.
+    places: Vec<RowPlace>,
+    /// Buffer for the cells of a row.
+    pub cells: Vec<PlacedCell>,
     ghost fit: { sum widths.items + (length widths.items - 1) < 2 ^ 64 },
 }
 
@@ -112,17 +117,17 @@ fn columns_at(widths: &[usize], columns: usize) -> (&[usize], &[usize])
     widths.split_at(columns.min(widths.len()))
 }
 
-/// Returns the places of a row over columns of these widths.
+/// Replaces `row` by the places of a row over columns of these widths.
 #[tactic(auto, using(crate::proofs::Places::own_fits, crate::proofs::Places::behind_fits))]
-fn places_of(
-    alloc: Global,
+fn put_places(
+    row: &mut Vec<RowPlace>,
     widths: &[usize],
     cells: &[PlacedCell],
-) -> Result<Vec<RowPlace>, AllocError>
+) -> Result<(), AllocError>
     requires { sum widths.now + (length widths.now - 1) < 2 ^ 64 }
-    ensures { IfOk result (λ v. v.items ≡ rows.places widths.now cells.now) }
+    ensures { OnOk result (row.new.items ≡ rows.places widths.now cells.now) }
 {
-    let mut row = Vec::with_capacity(alloc, cells.len())?;
+    row.clear();
     let mut rest = widths;
     for cell in cells {
         let (own, behind) = columns_at(rest, cell.columns);
@@ -132,7 +137,7 @@ fn places_of(
         })?;
         rest = behind;
     }
-    Ok(row)
+    Ok(())
 }
 
 /// Returns the columns of the next cell; `None` if it is skipped or there is none. The next place is the last one in
@@ -207,11 +212,15 @@ fn count_filled(widths: &[usize]) -> usize
 
 impl Widths {
     /// Returns the widths of a table's columns. With the separators between them, their sum must fit a machine word.
-    pub fn new(widths: Vec<usize>) -> Widths
+    pub fn new(alloc: Global, widths: Vec<usize>) -> Widths
         requires { sum widths.items + (length widths.items - 1) < 2 ^ 64 }
         ensures { result ≡ widths.items }
     {
-        Widths { widths }
+        Widths {
+            widths,
+            places: Vec::new(alloc),
+            cells: Vec::new(alloc),
+        }
     }
 
     /// Returns the width of the table: that of its columns, and of the separators between those that have a width.
@@ -229,14 +238,16 @@ impl<T: Tag, M: Copy> OpenRow<T, M> {
     /// of `row`, which has none yet.
     pub fn new(
         alloc: Global,
-        widths: &Widths,
+        widths: &mut Widths,
         cells: &[PlacedCell],
         row: RowCells<T, M>,
     ) -> Result<OpenRow<T, M>, AllocError>
         requires { row ≡ [] }
-        ensures { IfOk result (λ row. row ≡ rows.open_row widths.now cells.now) }
+        ensures row { IfOk result (λ row. row ≡ rows.open_row widths.old cells.now) }
+        ensures widths { widths.new ≡ widths.old }
     {
-        let mut ahead = places_of(alloc, widths.widths.as_slice(), cells)?;
+        let mut ahead = mem::replace(&mut widths.places, Vec::new(alloc));
+        put_places(&mut ahead, widths.widths.as_slice(), cells)?;
         ahead.reverse();
         Ok(OpenRow {
             ahead,
@@ -274,10 +285,12 @@ impl<T: Tag, M: Copy> OpenRow<T, M> {
     }
 
     /// Returns the whole row. Places ahead are empty cells.
-    pub fn finish(mut self, alloc: Global) -> Result<Row<T, M>, AllocError>
-        ensures { IfOk result (λ row. row ≡ rows.whole_row self) }
+    pub fn finish(mut self, alloc: Global, widths: &mut Widths) -> Result<Row<T, M>, AllocError>
+        ensures row { IfOk result (λ row. row ≡ rows.whole_row self) }
+        ensures widths { widths.new ≡ widths.old }
     {
         push_rest(alloc, self.ahead.as_slice(), &mut self.cells)?;
+        widths.places = self.ahead;
         Ok(Row {
             cells: self.cells,
             has_placeholder: self.placeholder,

@@ -60,13 +60,15 @@ impl<T: Tag, M: Copy> OpenTable<Picture<T, M>, T, M> {
 pub(super) fn add_open<T: Tag, M: Copy>(
     alloc: Global,
     picture: &mut Picture<T, M>,
+    widths: &mut Widths,
     row: Option<OpenRow<T, M>>,
 ) -> Result<(), Error>
     ensures ok { OnOk result (picture.new ≡ with_open machine picture.old row) }
+    ensures widths { widths.new ≡ widths.old }
     ensures err { OnlyOutOfMemory result }
 {
     match row {
-        Some(row) => picture.add_row(row.finish(alloc)?),
+        Some(row) => picture.add_row(row.finish(alloc, widths)?),
         None => Ok(()),
     }
 }
@@ -76,17 +78,18 @@ pub(super) fn add_open<T: Tag, M: Copy>(
 fn add_rest<T: Tag, M: Copy>(
     alloc: Global,
     picture: &mut Picture<T, M>,
-    widths: &Widths,
+    widths: &mut Widths,
     ahead: &mut RowsAhead,
     row: Option<OpenRow<T, M>>,
 ) -> Result<(), Error>
-    ensures ok { OnOk result (picture.new ≡ with_ahead machine widths.now ahead.old (with_open machine picture.old row)) }
+    ensures ok { OnOk result (picture.new ≡ with_ahead machine widths.old ahead.old (with_open machine picture.old row)) }
     ensures err { OnlyOutOfMemory result }
 {
-    add_open(alloc, picture, row)?;
-    while let Some(cells) = ahead.next(alloc)? {
+    add_open(alloc, picture, widths, row)?;
+    let mut cells = Vec::new(alloc);
+    while ahead.next(&mut cells)? {
         let row = OpenRow::new(alloc, widths, cells.as_slice(), picture.take_row())?;
-        add_open(alloc, picture, Some(row))?;
+        add_open(alloc, picture, widths, Some(row))?;
     }
     Ok(())
 }
@@ -95,11 +98,11 @@ fn add_rest<T: Tag, M: Copy>(
 fn picture_of<T: Tag, M: Copy>(
     alloc: Global,
     mut picture: Picture<T, M>,
-    widths: &Widths,
+    widths: &mut Widths,
     ahead: &mut RowsAhead,
     row: Option<OpenRow<T, M>>,
 ) -> Result<Drawn<T, M>, Error>
-    ensures ok { IfOk result (λ d. (d.lines, d.waiting.items) ≡ (machine).drawn (with_ahead machine widths.now ahead.old (with_open machine picture row))) }
+    ensures ok { IfOk result (λ d. (d.lines, d.waiting.items) ≡ (machine).drawn (with_ahead machine widths.old ahead.old (with_open machine picture row))) }
     ensures err { OnlyOutOfMemory result }
 {
     add_rest(alloc, &mut picture, widths, ahead, row)?;
@@ -136,11 +139,11 @@ impl<T: Tag, M: Copy> Block<T, M> {
         match Box::into_inner(table) {
             OpenTable::Across {
                 picture,
-                widths,
+                mut widths,
                 mut ahead,
                 row,
             } => {
-                let drawn = picture_of(self.alloc, picture, &widths, &mut ahead, row)?;
+                let drawn = picture_of(self.alloc, picture, &mut widths, &mut ahead, row)?;
                 self.add_drawn(drawn)
             }
             OpenTable::Stacked { .. } => Ok(()),

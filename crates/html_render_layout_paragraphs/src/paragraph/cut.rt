@@ -13,7 +13,7 @@ use html_render_dom_values::white_space::WhiteSpace;
 use html_render_layout_buffer::finished::FinishedLines;
 use html_render_layout_lines::character::TextStyle;
 use html_render_layout_lines::tag::Tag;
-use std::alloc::{AllocError, Global};
+use std::alloc::AllocError;
 
 /// Returns the style of a text whose white space is preserved and that has one tag on all lines.
 fn kept_style<T: Copy>(tag: T) -> TextStyle<T>
@@ -47,32 +47,33 @@ impl<T: Tag, M: Copy> Paragraph<T, M> {
         self.move_ended_lines(lines)?;
         Ok(())
     }
-}
 
-/// Appends a text to `lines`, as lines of `width` columns that are cut exactly where a line is full.
-///
-/// Each character is kept, also white space and control characters. An empty text is one empty line. A character that
-/// is wider than a line is alone on its line with `overflow`.
-///
-/// # Errors
-///
-/// - `OutOfMemory`.
-/// - `TooNarrow`, with overflow off, if a character is wider than a line.
-///
-/// The contents of `lines` are then unspecified.
-#[tactic(auto, using(html_render_dom_values::specs::laws::Outcome::refusals))]
-pub fn push_cut_text<T: Tag, M: Copy>(
-    alloc: Global,
-    lines: &mut FinishedLines<T, M>,
-    text: &str,
-    tag: T,
-    width: usize,
-    overflow: bool,
-) -> Result<(), Error>
-    ensures ok { OnOk result (option_map (λ cut. lines.old ++ cut)
-        (text_lines (record { width = width; overflow = overflow }) true tag (chars text.now)) ≡ Some lines.new) }
-    ensures err { IfErr result (λ e. Refuses e (text_lines {M = M} (record { width = width; overflow = overflow }) true tag (chars text.now))) }
-{
-    let mut paragraph: Paragraph<T, M> = Paragraph::new(alloc, width, overflow);
-    paragraph.cut_text(lines, text, tag)
+    /// Appends a text to `lines`, as lines of `width` columns that are cut exactly where a line is full. The paragraph's
+    /// own contents are dropped, and its memory is reused.
+    ///
+    /// Each character is kept, also white space and control characters. An empty text is one empty line. A character that
+    /// is wider than a line is alone on its line with `overflow`.
+    ///
+    /// # Errors
+    ///
+    /// - `OutOfMemory`.
+    /// - `TooNarrow`, with overflow off, if a character is wider than a line.
+    ///
+    /// The contents of `lines` are then unspecified.
+    #[tactic(auto, using(html_render_dom_values::specs::laws::Outcome::refusals))]
+    pub fn push_cut_text(
+        &mut self,
+        lines: &mut FinishedLines<T, M>,
+        text: &str,
+        tag: T,
+        width: usize,
+        overflow: bool,
+    ) -> Result<(), Error>
+        ensures ok { OnOk result (option_map (λ cut. lines.old ++ cut)
+            (text_lines (record { width = width; overflow = overflow }) true tag (chars text.now)) ≡ Some lines.new) }
+        ensures err { IfErr result (λ e. Refuses e (text_lines {M = M} (record { width = width; overflow = overflow }) true tag (chars text.now))) }
+    {
+        self.renew(width, overflow);
+        self.cut_text(lines, text, tag)
+    }
 }

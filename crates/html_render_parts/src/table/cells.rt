@@ -289,26 +289,27 @@ impl TableCells {
     }
 }
 
-/// Returns the places of the next row of a table if it is simple. Otherwise `None`, and nothing changes.
+/// Replaces `places` by those of the next row of a table if it is simple. Otherwise returns false, and only `places` changes.
 fn next_simple(
-    alloc: Global,
     cells: &TableCells,
     row: &mut usize,
     placer: &RowPlacer,
-) -> Result<Option<Vec<PlacedCell>>, AllocError>
+    places: &mut Vec<PlacedCell>,
+) -> Result<bool, AllocError>
     requires { AreAhead cells.now row.old placer.now.hanging }
-    ensures placed { IfOk result (λ found. MatchOption found (row.new ≡ row.old)
-        (λ places. rows_ahead cells.now row.old placer.now.hanging ≡ places.items ∷ rows_ahead cells.now row.new placer.now.hanging)) }
+    ensures placed { IfOk result (λ found. MatchBool found
+        (rows_ahead cells.now row.old placer.now.hanging ≡ places.new.items ∷ rows_ahead cells.now row.new placer.now.hanging)
+        (row.new ≡ row.old)) }
     ensures ahead { AreAhead cells.now row.new placer.now.hanging }
 {
     if let Some(own) = cells.rows().get(*row) {
         if placer.hangs_nothing() && simple::cells_end(own) {
-            let places = simple::places_on(alloc, cells.edges(), own)?;
+            simple::put_places(places, cells.edges(), own)?;
             *row += 1;
-            return Ok(Some(places));
+            return Ok(true);
         }
     }
-    Ok(None)
+    Ok(false)
 }
 
 /// Places the next row of a table, and returns whether there is one.
@@ -363,14 +364,14 @@ impl Model for RowsLeft {
 }
 
 impl RowsLeft {
-    /// Returns the places of the next row, from the first column on: cells, placeholders and gaps. `None` after the last
-    /// row.
-    fn next(&mut self, alloc: Global) -> Result<Option<Vec<PlacedCell>>, Error>
-        ensures ok { IfOk result (λ row. MatchOption row ((self.old ≡ []) × (self.new ≡ [])) (λ places. self.old ≡ places.items ∷ self.new)) }
+    /// Replaces `places` by those of the next row, from the first column on: cells, placeholders and gaps. Returns false
+    /// after the last row.
+    fn next(&mut self, places: &mut Vec<PlacedCell>) -> Result<bool, Error>
+        ensures ok { IfOk result (λ found. MatchBool found (self.old ≡ places.new.items ∷ self.new) ((self.old ≡ []) × (self.new ≡ []))) }
         ensures err { OnlyOutOfMemory result }
     {
-        if let Some(places) = next_simple(alloc, &self.cells, &mut self.row, &self.placer)? {
-            return Ok(Some(places));
+        if next_simple(&self.cells, &mut self.row, &self.placer, places)? {
+            return Ok(true);
         }
         let placed = place_next(
             &self.cells,
@@ -378,11 +379,10 @@ impl RowsLeft {
             &mut self.placer,
             &mut self.spans,
         )?;
-        if !placed {
-            return Ok(None);
+        if placed {
+            numbering::put_numbered(places, self.cells.edges(), self.placer.places())?;
         }
-        let places = numbering::numbered_row(alloc, self.cells.edges(), self.placer.places())?;
-        Ok(Some(places))
+        Ok(placed)
     }
 
     /// Whether all rows are placed.
@@ -412,23 +412,23 @@ impl Model for RowsAhead {
 }
 
 impl RowsAhead {
-    /// Returns the places of the next row, from the first column on: cells, placeholders and gaps. `None` after the last
-    /// row.
+    /// Replaces `places` by those of the next row, from the first column on: cells, placeholders and gaps. Returns false
+    /// after the last row.
     ///
     /// # Errors
     ///
     /// `OutOfMemory`.
-    pub fn next(&mut self, alloc: Global) -> Result<Option<Vec<PlacedCell>>, Error>
-        ensures ok { IfOk result (λ row. MatchOption row ((self.old ≡ []) × (self.new ≡ [])) (λ places. self.old ≡ places.items ∷ self.new)) }
+    pub fn next(&mut self, places: &mut Vec<PlacedCell>) -> Result<bool, Error>
+        ensures ok { IfOk result (λ found. MatchBool found (self.old ≡ places.new.items ∷ self.new) ((self.old ≡ []) × (self.new ≡ []))) }
         ensures err { OnlyOutOfMemory result }
     {
         let Some(left) = &mut self.left else {
-            return Ok(None);
+            return Ok(false);
         };
-        let places = left.next(alloc)?;
+        let found = left.next(places)?;
         if left.is_over() {
             self.left = None;
         }
-        Ok(places)
+        Ok(found)
     }
 }

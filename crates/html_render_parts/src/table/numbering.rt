@@ -79,17 +79,17 @@ pub(crate) fn rank_near(edges: &[u128], position: u128, guess: usize) -> usize
     rank(edges, position)
 }
 
-/// Returns a row's places, each with its number of columns.
-pub(crate) fn numbered_row(
-    alloc: Global,
+/// Replaces `cells` by a row's places, each with its number of columns.
+pub(crate) fn put_numbered(
+    cells: &mut Vec<PlacedCell>,
     edges: &[u128],
     places: &[Place],
-) -> Result<Vec<PlacedCell>, AllocError>
+) -> Result<(), AllocError>
     requires rising { IsStrictlyIncreasing edges.now }
     requires ordered { All (λ p. p.start ≤ p.end) places.now }
-    ensures { IfOk result (λ v. v.items ≡ map (numbered edges.now) places.now) }
+    ensures { OnOk result (cells.new.items ≡ map (numbered edges.now) places.now) }
 {
-    let mut cells = Vec::with_capacity(alloc, places.len())?;
+    cells.clear();
     let mut behind = 0;
     for place in places {
         let first = rank_near(edges, place.start, behind);
@@ -101,7 +101,7 @@ pub(crate) fn numbered_row(
             columns: behind - first,
         })?;
     }
-    Ok(cells)
+    Ok(())
 }
 
 /// Returns the places of all rows, each with its number of columns.
@@ -116,7 +116,9 @@ pub(crate) fn numbered_rows(
 {
     let mut rows = Vec::with_capacity(alloc, placed.len())?;
     for places in placed {
-        rows.push(numbered_row(alloc, edges, places)?)?;
+        let mut row = Vec::with_capacity(alloc, places.len())?;
+        put_numbered(&mut row, edges, places)?;
+        rows.push(row)?;
     }
     Ok(rows)
 }

@@ -85,16 +85,16 @@ pub(crate) fn cells_on(
     Ok(row)
 }
 
-/// Returns the places of these cells, if they are side by side from position 0 on.
-pub(crate) fn places_on(
-    alloc: Global,
+/// Replaces `places` by the places of these cells, if they are side by side from position 0 on.
+pub(crate) fn put_places(
+    places: &mut Vec<PlacedCell>,
     edges: &[u128],
     cells: &[GridCell],
-) -> Result<Vec<PlacedCell>, AllocError>
+) -> Result<(), AllocError>
     requires { All (λ c. c.first + c.columns < length edges.now) cells.now }
-    ensures { IfOk result (λ v. v.items ≡ map (place_on edges.now) cells.now) }
+    ensures { OnOk result (places.new.items ≡ map (place_on edges.now) cells.now) }
 {
-    let mut places = Vec::with_capacity(alloc, cells.len())?;
+    places.clear();
     for cell in cells {
         places.push(PlacedCell {
             kind: CellKind::Cell,
@@ -103,5 +103,5 @@ pub(crate) fn places_on(
             columns: cell.columns,
         })?;
     }
-    Ok(places)
+    Ok(())
 }

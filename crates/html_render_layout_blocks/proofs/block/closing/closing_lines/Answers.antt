@@ -1,4 +1,5 @@
 use Rattle.std.proofs.Common.{◌+◌, ◌∷◌, ◌++◌, map, drop, sym, ap, ◌∙◌, option_map}
+use Rattle.std.proofs.lemmas.Iterator.Adapters.{option_map_id}
 use Rattle.std.proofs.lemmas.List.{at_drop_more}
 use Rattle.std.proofs.lemmas.Result.{err_from_is_err_and}
 use Rattle.std.specs.Prelude.{string_bytes}
@@ -6,6 +7,9 @@ use Rattle.std.specs.Str.{chars}
 use Rattle.html_render_layout_blocks.specs.Closing.{closing_lines}
 use Rattle.html_render_layout_blocks.proofs.Closing.{closing-step, closing-refused}
 use Rattle.html_render_layout_blocks.proofs.block.closing.closing_lines.Goals as goal
+
+pub loop-text-init : goal.loop-text-init
+loop-text-init g c = rw c.new-lines.ensures (sym (option_map_id _))
 
 pub loop-text-preserved : goal.loop-text-preserved
 loop-text-preserved g c =

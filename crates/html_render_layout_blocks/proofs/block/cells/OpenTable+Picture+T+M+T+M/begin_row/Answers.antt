@@ -10,7 +10,8 @@ returns-in_ok-next_row-in-Across-clause-ok g c =
     let widths = c.in-Across.widths in
     let ahead = c.in-Across.ahead in
     let closed : c.in-Across.row ≡ None = none_is c.in-Across.row c.is_none.result c.is_none.ensures c.if-is_none.true in
-    ap (λ p. Across p widths c.next_row.new.ahead (Some c.in_ok-next_row-in-Across.field-0)) c.in_ok-next_row-in-Across.ensures.picture
+    ap (λ w. Across c.next_row.new.picture w c.next_row.new.ahead (Some c.in_ok-next_row-in-Across.field-0)) c.next_row.ensures.widths
+    ∙ ap (λ p. Across p widths c.next_row.new.ahead (Some c.in_ok-next_row-in-Across.field-0)) c.in_ok-next_row-in-Across.ensures.picture
     ∙ ap (λ a. Across picture widths a (Some c.in_ok-next_row-in-Across.field-0)) c.in_ok-next_row-in-Across.ensures.ahead
     ∙ ap (λ r. Across picture widths (drop 1 ahead) (Some r)) c.in_ok-next_row-in-Across.ensures.row
     ∙ ap (λ o. with_row_open (Across picture widths ahead o)) (sym closed)

@@ -10,7 +10,8 @@ returns-in-Across-clause-ok g c =
     let widths = c.in-Across.widths in
     let ahead = c.in-Across.ahead in
     on_ok_weaker c.add_open.result
-    (λ e. ap (λ o. Across c.add_open.new.picture widths ahead o) c.take.ensures.after
+    (λ e. ap (λ o. Across c.add_open.new.picture c.add_open.new.widths ahead o) c.take.ensures.after
+    ∙ ap (λ w. Across c.add_open.new.picture w ahead None) c.add_open.ensures.widths
     ∙ ap (λ p. Across p widths ahead None) (e ∙ ap (λ o. with_open machine c.in-Across.picture o) c.take.ensures.value)
     ∙ ap (λ t. with_row_over machine t) (sym c.in-Across.is))
     c.add_open.ensures.ok

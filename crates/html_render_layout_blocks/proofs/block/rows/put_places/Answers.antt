@@ -1,6 +1,6 @@
 use Rattle.std.proofs.Common.{◌+◌, ◌-◌, ◌<◌, length, sum, subst, sym, arith}
 use Rattle.html_render_layout_blocks.proofs.Places.{places-step, behind_fits}
-use Rattle.html_render_layout_blocks.proofs.block.rows.places_of.Goals as goal
+use Rattle.html_render_layout_blocks.proofs.block.rows.put_places.Goals as goal
 
 pub loop-cell-preserved : goal.loop-cell-preserved
 loop-cell-preserved c = record {

@@ -1,6 +1,6 @@
 use Rattle.html_render_parts.specs.declared.table.CellKind.TheVariants.{Cell}
 use Rattle.html_render_parts.proofs.EdgeRanks.{rank-mono}
-use Rattle.html_render_parts.proofs.table.numbering.numbered_row.Goals as goal
+use Rattle.html_render_parts.proofs.table.numbering.put_numbered.Goals as goal
 
 pub overflow_sub-behind : goal.overflow_sub-behind
 overflow_sub-behind c =

@@ -1,6 +1,6 @@
 use Rattle.std.proofs.Common.{◌≡◌, ◌+◌, ◌-◌, ◌<◌, ◌++◌, length, sum, drop}
 use Rattle.html_render_layout_blocks.specs.OpenRows.{places}
-use Rattle.html_render_layout_blocks.proofs.block.rows.places_of.Given as goal
+use Rattle.html_render_layout_blocks.proofs.block.rows.put_places.Given as goal
 
 -- All places are those so far, followed by those of the remaining cells over the remaining columns.
 abbrev pub invariant-loop-cell : goal.invariant-loop-cell
