@@ -1,7 +1,8 @@
 //! Links with their numbers, and fragment marks.
 #![tactic(auto, using(html_render_dom_values::specs::laws::Outcome::refusals))]
 
-ghost use Rattle.std.specs.Prelude.{◌≡◌, ◌∷◌, Some, OnOk, IfErr};
+ghost use Rattle.std.specs.Fmt.{decimal};
+ghost use Rattle.std.specs.Prelude.{◌≡◌, ◌∷◌, ◌++◌, Some, codes, IfOk, OnOk, IfErr};
 ghost use Rattle.html_render_dom_values.specs.Outcome.{OnlyOutOfMemory, Refuses};
 ghost use Rattle.html_render_parts.specs.Decoration.{link};
 ghost use Rattle.html_render_layout.specs.Layout.{AddTarget, AddMark, start, perform, perform_all, write_number};
@@ -13,9 +14,12 @@ use super::texts::add_text;
 use crate::state::{CloseAction, TextContext};
 use crate::tagging::Tagging;
 use crate::working::State;
+use arrayvec::ArrayString;
 use html_render_dom_values::Error;
 use html_render_parts::decorate::TextDecorator;
 use std::alloc::Global;
+use std::fmt;
+use std::fmt::Write as _;
 
 /// Adds a fragment mark to the open paragraph, and its name to the state's names.
 ///
@@ -53,6 +57,15 @@ pub fn begin_link<D: TextDecorator, G: Tagging<D::Annotation>>(
     begin(alloc, start, state)
 }
 
+/// Returns the number of a link in brackets. Allocates nothing.
+fn bracketed(number: usize) -> Result<ArrayString<22>, fmt::Error>
+    ensures { IfOk result (λ text. text.bytes ≡ codes "[" ++ decimal number ++ codes "]") }
+{
+    let mut text = ArrayString::<22>::new();
+    write!(text, "[{number}]")?;
+    Ok(text)
+}
+
 /// Adds the number of a link in brackets, if links have footnotes.
 fn add_number<D: TextDecorator, G: Tagging<D::Annotation>>(
     alloc: Global,
@@ -65,8 +78,10 @@ fn add_number<D: TextDecorator, G: Tagging<D::Annotation>>(
     if !state.settings.link_footnotes {
         return Ok(());
     }
-    let number = format!(in alloc; "[{number}]")?;
-    add_text(alloc, number.as_str(), state)
+    match bracketed(number) {
+        Ok(text) => add_text(alloc, text.as_str(), state),
+        Err(_) => Err(Error::OutOfMemory),
+    }
 }
 
 /// Ends a link: adds the decorator's text after it, restores the treatment of texts to `text`, and adds the link's number in
