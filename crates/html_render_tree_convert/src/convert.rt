@@ -118,6 +118,32 @@ fn enter(
     Ok(())
 }
 
+/// Converts a node by its plan as far as can be without its children, which come next if they are converted.
+///
+/// # Errors
+///
+/// Those of [`Conversion::close`].
+#[inline(never)]
+fn convert_planned(
+    rules: &[StyleRule],
+    index: &RuleIndex,
+    dom: &RcDom,
+    node: Handle,
+    cursor: &mut Cursor,
+    conversion: &mut Conversion,
+) -> Result<(), Error>
+    requires index { Finds index.now (map rule_of rules.now) }
+    requires forest { IsForest dom.now }
+    requires node { IsNode dom.now node }
+    ensures ok { OnOk result (run (done_at_once (plan_at (map rule_of rules.now) dom.now node)) conversion.old ≡ Some conversion.new) }
+    ensures cursor { OnOk result (cursor.new ≡ followed (plan_at (map rule_of rules.now) dom.now node) node cursor.old) }
+    ensures err { IfErr result (λ e. Fails e (run (done_at_once (plan_at (map rule_of rules.now) dom.now node)) conversion.old)) }
+{
+    let alloc = conversion.allocator();
+    let plan = plan_of(alloc, rules, index, dom, node)?;
+    follow(alloc, plan, node, cursor, conversion)
+}
+
 /// Converts a node as far as can be without its children, which come next if they are converted. Texts, and elements without
 /// attributes, take the shortest way, since most nodes are these.
 ///
@@ -140,15 +166,13 @@ fn convert_node(
     ensures cursor { OnOk result (cursor.new ≡ followed (plan_at (map rule_of rules.now) dom.now node) node cursor.old) }
     ensures err { IfErr result (λ e. Fails e (run (done_at_once (plan_at (map rule_of rules.now) dom.now node)) conversion.old)) }
 {
-    let alloc = conversion.allocator();
     if let Some(text) = text_at(dom, node) {
         return conversion.put_text(text);
     }
     if let Some(known) = known_element(rules, index, dom, node) {
         return enter(known, node, cursor, conversion);
     }
-    let plan = plan_of(alloc, rules, index, dom, node)?;
-    follow(alloc, plan, node, cursor, conversion)
+    convert_planned(rules, index, dom, node, cursor, conversion)
 }
 
 /// Returns the nodes of a document in pre-order. It takes no more stack for a deep document than for a flat one.

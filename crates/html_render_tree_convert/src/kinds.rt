@@ -22,6 +22,7 @@ pub enum Keeping {
 
 impl Keeping {
     /// Returns what a node of this kind keeps and counts.
+    #[inline(always)]
     pub fn of(kind: &NodeKind) -> Keeping
         ensures { result ≡ keeping_of kind.now }
     {

@@ -11,7 +11,6 @@ use crate::due::Due;
 use crate::elements::{Open, OpenKind, Role};
 use crate::spans::grid_of;
 use html_render_dom_values::Error;
-use html_render_layout_nodes::text::NodeText;
 use html_render_layout_nodes::tree::{NodeKind, RenderNode};
 use std::alloc::Global;
 
@@ -61,7 +60,37 @@ impl Conversion {
 /// `Fail` exactly if it is a table and a cell ends after column or row `u128::MAX`, and `OutOfMemory` if an allocation is
 /// refused.
 #[inline(always)]
-fn close_in(
+fn close_in(alloc: Global, element: Open, parent: &mut Open, tree: &mut Tree) -> Result<(), Error>
+    ensures ok { OnOk result (Some (record { element = parent.new; tree = tree.new.items })
+        ≡ closed_in element (record { element = parent.old; tree = tree.old.items })) }
+    ensures err { IfErr result (λ e. Fails e (closed_in element (record { element = parent.old; tree = tree.old.items }))) }
+{
+    // most elements become nodes that have no role in a table
+    if !matches!(element.kind, OpenKind::Node(_)) {
+        return close_part(alloc, element, parent, tree);
+    }
+    if element.vanishes() {
+        return vanish(element, parent, tree);
+    }
+    write_due(element.due, element.start, tree)?;
+    close_node(
+        Role::Contents,
+        element.has_children,
+        element.is_stray,
+        element.start,
+        parent,
+        tree,
+    )
+}
+
+/// Closes a table, a part of one, or any other element in its parent.
+///
+/// # Errors
+///
+/// `Fail` exactly if it is a table and a cell ends after column or row `u128::MAX`, and `OutOfMemory` if an allocation is
+/// refused.
+#[inline(never)]
+fn close_part(
     alloc: Global,
     mut element: Open,
     parent: &mut Open,
@@ -74,8 +103,7 @@ fn close_in(
     give_back(alloc, &mut element, parent)?;
     set_grid(alloc, &element.kind, element.start, tree)?;
     if element.vanishes() {
-        tree.truncate(element.start);
-        return put_mark(element.due.into_mark(), parent, tree);
+        return vanish(element, parent, tree);
     }
     close_standing(element, parent, tree)
 }
@@ -118,18 +146,19 @@ fn set_grid(alloc: Global, kind: &OpenKind, start: usize, tree: &mut Tree) -> Re
     Ok(())
 }
 
-/// Puts the mark of an element that vanishes, if it has one.
+/// Removes the nodes of an element that vanishes, and puts its mark, if it has one.
 ///
 /// # Errors
 ///
 /// `OutOfMemory` if an allocation is refused.
 #[inline(never)]
-fn put_mark(mark: Option<NodeText>, parent: &mut Open, tree: &mut Tree) -> Result<(), Error>
+fn vanish(element: Open, parent: &mut Open, tree: &mut Tree) -> Result<(), Error>
     ensures ok { OnOk result (record { element = parent.new; tree = tree.new.items }
-        ≡ come (mark_left mark) (record { element = parent.old; tree = tree.old.items })) }
+        ≡ come (mark_left element.due.mark) (record { element = parent.old; tree = take element.start tree.old.items })) }
     ensures err { OnlyOutOfMemory result }
 {
-    match mark {
+    tree.truncate(element.start);
+    match element.due.into_mark() {
         Some(name) => put_in(
             RenderNode::from(NodeKind::FragmentStart(name)),
             parent,
@@ -144,35 +173,7 @@ fn put_mark(mark: Option<NodeText>, parent: &mut Open, tree: &mut Tree) -> Resul
 /// # Errors
 ///
 /// `OutOfMemory` if an allocation is refused.
-#[inline(always)]
 fn close_standing(element: Open, parent: &mut Open, tree: &mut Tree) -> Result<(), Error>
-    ensures ok { OnOk result (record { element = parent.new; tree = tree.new.items }
-        ≡ come (closed_as element.kind element (drop element.start tree.old.items))
-        (record { element = parent.old; tree = take element.start tree.old.items })) }
-    ensures err { OnlyOutOfMemory result }
-{
-    // most elements become nodes that have no role in a table
-    if let OpenKind::Node(_) = element.kind {
-        write_due(element.due, element.start, tree)?;
-        return close_node(
-            Role::Contents,
-            element.has_children,
-            element.is_stray,
-            element.start,
-            parent,
-            tree,
-        );
-    }
-    close_part(element, parent, tree)
-}
-
-/// Closes a table, a part of one, or any other element that doesn't vanish.
-///
-/// # Errors
-///
-/// `OutOfMemory` if an allocation is refused.
-#[inline(never)]
-fn close_part(element: Open, parent: &mut Open, tree: &mut Tree) -> Result<(), Error>
     ensures ok { OnOk result (record { element = parent.new; tree = tree.new.items }
         ≡ come (closed_as element.kind element (drop element.start tree.old.items))
         (record { element = parent.old; tree = take element.start tree.old.items })) }

@@ -146,10 +146,28 @@ impl Conversion {
             ElementKind::Part(Part::Cell(span)) if self.innermost.due.is_none() => {
                 self.open_plain_cell(span, style)
             }
-            ElementKind::Part(part) => {
-                self.open_part(alloc, part, style, if_empty, ElementTexts::none())
-            }
+            ElementKind::Part(part) => self.open_plain_part(alloc, part, style, if_empty),
         }
+    }
+
+    /// Opens a part of a table, or a table, that inserts nothing.
+    ///
+    /// # Errors
+    ///
+    /// `OutOfMemory` if an allocation is refused.
+    #[inline(never)]
+    fn open_plain_part(
+        &mut self,
+        alloc: Global,
+        part: Part,
+        style: NodeStyle,
+        if_empty: IfEmpty,
+    ) -> Result<(), Error>
+        ensures ok { OnOk result (self.new
+            ≡ opened (record { kind = ElementKind.Part part; style = style; if_empty = if_empty; texts = no_texts }) self.old) }
+        ensures err { OnlyOutOfMemory result }
+    {
+        self.open_part(alloc, part, style, if_empty, ElementTexts::none())
     }
 
     /// Opens an element that becomes a node and inserts these texts: in the node, or round it in a container that closes with it.
