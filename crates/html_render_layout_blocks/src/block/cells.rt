@@ -56,7 +56,7 @@ fn next_row<T: Tag, M: Copy>(
         return Ok(OpenRow::new(alloc, widths, &[], picture.take_row())?);
     }
     let row = OpenRow::new(alloc, widths, cells.as_slice(), picture.take_row())?;
-    widths.cells = cells;
+    widths.keep_cells(cells);
     Ok(row)
 }
 

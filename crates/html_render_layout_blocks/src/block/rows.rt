@@ -13,6 +13,9 @@ use std::alloc::{AllocError, Global};
 use std::marker::Model;
 use std::mem;
 
+/// Number of places up to which a row's memory is kept for the next row.
+const KEPT_PLACES: usize = 1_024;
+
 /// A place in a row, of a cell, a placeholder or a gap.
 #[derive(Clone, Copy)]
 struct RowPlace {
@@ -128,6 +131,7 @@ fn put_places(
     ensures { OnOk result (row.new.items ≡ rows.places widths.now cells.now) }
 {
     row.clear();
+    row.reserve_exact(cells.len())?;
     let mut rest = widths;
     for cell in cells {
         let (own, behind) = columns_at(rest, cell.columns);
@@ -223,6 +227,24 @@ impl Widths {
         }
     }
 
+    /// Keeps the memory of few places for those of the next row.
+    fn keep_places(&mut self, places: Vec<RowPlace>)
+        ensures { self.new ≡ self.old }
+    {
+        if places.capacity() <= KEPT_PLACES {
+            self.places = places;
+        }
+    }
+
+    /// Keeps the memory of few cells for those of the next row.
+    pub fn keep_cells(&mut self, cells: Vec<PlacedCell>)
+        ensures { self.new ≡ self.old }
+    {
+        if cells.capacity() <= KEPT_PLACES {
+            self.cells = cells;
+        }
+    }
+
     /// Returns the width of the table: that of its columns, and of the separators between those that have a width.
     #[tactic(auto, using(crate::specs::laws::TableWithin::frame_width_within))]
     pub fn frame_width(&self) -> usize
@@ -290,7 +312,7 @@ impl<T: Tag, M: Copy> OpenRow<T, M> {
         ensures widths { widths.new ≡ widths.old }
     {
         push_rest(alloc, self.ahead.as_slice(), &mut self.cells)?;
-        widths.places = self.ahead;
+        widths.keep_places(self.ahead);
         Ok(Row {
             cells: self.cells,
             has_placeholder: self.placeholder,
