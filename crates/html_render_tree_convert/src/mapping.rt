@@ -72,6 +72,15 @@ fn table_part(part: Part, if_empty: IfEmpty) -> Mapping
     Mapping::Parent(ElementKind::Part(part), if_empty)
 }
 
+/// Reports whether a name is `other`. Lengths are compared first, in place: a `match` would call a comparison of texts for each
+/// name that it lists.
+#[inline(always)]
+fn is(name: &str, other: &str) -> bool
+    ensures { result ≡ bytes_eq name.now other.now }
+{
+    name.len() == other.len() && name == other
+}
+
 /// Returns the mapping of an element of HTML whose node holds no text, by its local name and its attributes. Cells and rows, of
 /// which there are most in a long table, are looked for first.
 #[inline(always)]
@@ -79,35 +88,49 @@ pub(crate) fn html_mapping(name: &str, attributes: &[Attribute]) -> Mapping
     ensures { result ≡ html_mapping name.now (map property_of attributes.now) }
 {
     match name {
-        "td" | "th" => table_part(Part::Cell(span_of(attributes)), IfEmpty::Stands),
-        "tr" => table_part(Part::Row, IfEmpty::Stands),
-        "div" => vanishing(NodeKind::Div),
-        "p" => vanishing(NodeKind::Block),
-        "pre" => standing(NodeKind::Block),
-        "li" => standing(NodeKind::ListItem),
-        "em" | "i" | "ins" => standing(NodeKind::Emphasis(Emphasis::Em)),
-        "strong" | "b" => standing(NodeKind::Emphasis(Emphasis::Strong)),
-        "code" => standing(NodeKind::Emphasis(Emphasis::Code)),
-        "br" => Mapping::Leaf(NodeKind::Break),
-        "ul" => vanishing(NodeKind::Ul),
-        "ol" => vanishing(NodeKind::Ol(start_of(attributes))),
-        "h1" => standing(NodeKind::Header(1)),
-        "h2" => standing(NodeKind::Header(2)),
-        "h3" => standing(NodeKind::Header(3)),
-        "h4" => standing(NodeKind::Header(4)),
-        "h5" => standing(NodeKind::Header(5)),
-        "h6" => standing(NodeKind::Header(6)),
-        "blockquote" => vanishing(NodeKind::BlockQuote),
-        "s" | "del" => standing(NodeKind::Strikeout),
-        "sup" => standing(NodeKind::Superscript),
-        "dl" => vanishing(NodeKind::Dl),
-        "dt" => standing(NodeKind::Dt),
-        "dd" => standing(NodeKind::Dd),
-        "table" => table_part(Part::Table, IfEmpty::Vanishes),
-        "thead" | "tbody" | "tfoot" => table_part(Part::Body, IfEmpty::Vanishes),
-        "caption" => table_part(Part::Caption, IfEmpty::Vanishes),
-        "html" | "body" => standing(NodeKind::Container),
-        "head" | "link" | "meta" | "hr" | "script" | "style" => Mapping::Nothing,
+        _ if is(name, "td") || is(name, "th") => table_part(
+            Part::Cell(span_of(attributes)),
+            IfEmpty::Stands,
+        ),
+        _ if is(name, "tr") => table_part(Part::Row, IfEmpty::Stands),
+        _ if is(name, "div") => vanishing(NodeKind::Div),
+        _ if is(name, "p") => vanishing(NodeKind::Block),
+        _ if is(name, "pre") => standing(NodeKind::Block),
+        _ if is(name, "li") => standing(NodeKind::ListItem),
+        _ if is(name, "em") || is(name, "i") || is(name, "ins") => standing(NodeKind::Emphasis(
+            Emphasis::Em,
+        )),
+        _ if is(name, "strong") || is(name, "b") => standing(NodeKind::Emphasis(Emphasis::Strong)),
+        _ if is(name, "code") => standing(NodeKind::Emphasis(Emphasis::Code)),
+        _ if is(name, "br") => Mapping::Leaf(NodeKind::Break),
+        _ if is(name, "ul") => vanishing(NodeKind::Ul),
+        _ if is(name, "ol") => vanishing(NodeKind::Ol(start_of(attributes))),
+        _ if is(name, "h1") => standing(NodeKind::Header(1)),
+        _ if is(name, "h2") => standing(NodeKind::Header(2)),
+        _ if is(name, "h3") => standing(NodeKind::Header(3)),
+        _ if is(name, "h4") => standing(NodeKind::Header(4)),
+        _ if is(name, "h5") => standing(NodeKind::Header(5)),
+        _ if is(name, "h6") => standing(NodeKind::Header(6)),
+        _ if is(name, "blockquote") => vanishing(NodeKind::BlockQuote),
+        _ if is(name, "s") || is(name, "del") => standing(NodeKind::Strikeout),
+        _ if is(name, "sup") => standing(NodeKind::Superscript),
+        _ if is(name, "dl") => vanishing(NodeKind::Dl),
+        _ if is(name, "dt") => standing(NodeKind::Dt),
+        _ if is(name, "dd") => standing(NodeKind::Dd),
+        _ if is(name, "table") => table_part(Part::Table, IfEmpty::Vanishes),
+        _ if is(name, "thead") || is(name, "tbody") || is(name, "tfoot") => table_part(
+            Part::Body,
+            IfEmpty::Vanishes,
+        ),
+        _ if is(name, "caption") => table_part(Part::Caption, IfEmpty::Vanishes),
+        _ if is(name, "html") || is(name, "body") => standing(NodeKind::Container),
+        _
+            if is(name, "head")
+                || is(name, "link")
+                || is(name, "meta")
+                || is(name, "hr")
+                || is(name, "script")
+                || is(name, "style") => Mapping::Nothing,
         _ => vanishing(NodeKind::Container),
     }
 }
@@ -146,7 +169,7 @@ fn image_mapping(alloc: Global, source: &str, title: &str) -> Result<Mapping, Er
 pub(crate) fn is_mapped_apart(name: &str) -> bool
     ensures { result ≡ (bytes_eq name.now (codes "a") || (bytes_eq name.now (codes "img") || bytes_eq name.now (codes "wbr"))) }
 {
-    name == "a" || (name == "img" || name == "wbr")
+    is(name, "a") || (is(name, "img") || is(name, "wbr"))
 }
 
 /// Returns the mapping of an element of HTML, by its local name and its attributes.
@@ -159,12 +182,12 @@ fn html_element_mapping(
     ensures err { OnlyOutOfMemory result }
 {
     match name {
-        "a" => link_mapping(alloc, attributes),
-        "img" => {
+        _ if is(name, "a") => link_mapping(alloc, attributes),
+        _ if is(name, "img") => {
             let (source, title) = image_parts(attributes);
             image_mapping(alloc, source, title)
         }
-        "wbr" => {
+        _ if is(name, "wbr") => {
             let space = NodeText::from_str(alloc, "\u{200b}")?;
             Ok(Mapping::Leaf(NodeKind::Text(space)))
         }
@@ -203,7 +226,7 @@ pub(crate) fn is_preformatted(name: &QualName) -> bool
     ensures { result ≡ is_preformatted (name_of name.now) }
 {
     match name.ns {
-        Namespace::Html => name.local.as_str() == "pre",
+        Namespace::Html => is(name.local.as_str(), "pre"),
         _ => false,
     }
 }
