@@ -1,8 +1,9 @@
 //! Attributes of an element, with an index of names if there are many.
 
-ghost use Rattle.std.specs.Prelude.{◌≡◌, ◌+◌, ◌^◌, ◌<◌, ◌++◌, [], drop, if◌then◌else◌, IfOk, length, List, ℕ, map, None, OnErr, OnOk, Some, string_bytes};
+ghost use Rattle.std.specs.Prelude.{◌≡◌, ◌+◌, ◌^◌, ◌<◌, ◌++◌, ◌∷◌, [], drop, false, if◌then◌else◌, IfOk, length, List, ℕ, map, None, OnErr, OnOk, Some, string_bytes};
 ghost use Rattle.std.specs.BTreeMap.{get_by_text};
 ghost use Rattle.std.specs.Str.{bytes_eq};
+ghost use Rattle.html_render_dom_nodes.specs.AttributeLists.{attributes_in, is_single};
 ghost use Rattle.html_render_dom_nodes.specs.Content.{name_of, property_of};
 ghost use Rattle.html_render_dom_nodes.specs.Elements.{has_name, with_missing};
 ghost use Rattle.html_render_dom_nodes.specs.Places.{first_of, place_of, TellsPlaces};
@@ -13,6 +14,7 @@ use std::alloc::{AllocError, Global};
 use std::collections::BTreeMap;
 use std::marker::Model;
 use std::mem::{self, size_of};
+use std::slice;
 
 /// Maximum number of attributes that are searched one by one, without an index.
 const LINEAR_SCAN_MAX: usize = 16;
@@ -162,14 +164,70 @@ impl AttributeList {
         given.retain(|a| !self.has(&a.name));
         self.append(given)
     }
+
+    /// Appends an attribute, and records its place if there is an index. An error leaves the list unchanged.
+    fn push(&mut self, given: Attribute) -> Result<(), AllocError>
+        ensures ok { OnOk result (self.new ≡ self.old ++ given ∷ []) }
+        ensures err { OnErr result (self.new ≡ self.old) }
+    {
+        // taken out, so that an error leaves no index with the place of an attribute that isn't appended
+        let alloc = *self.list.allocator();
+        let mut noted = mem::replace(&mut self.places, None);
+        if let Some(places) = &mut noted {
+            note(alloc, places, &given.name.local, self.list.len())?;
+        }
+        self.list.push(given)?;
+        self.places = noted;
+        Ok(())
+    }
+
+    /// Appends an attribute, unless the list has one with its name. An error leaves the list unchanged.
+    fn add_one_missing(&mut self, given: Attribute) -> Result<(), AllocError>
+        ensures ok { OnOk result (map property_of self.new ≡ with_missing (map property_of self.old) (property_of given ∷ [])) }
+        ensures err { OnErr result (map property_of self.new ≡ map property_of self.old) }
+    {
+        self.index()?;
+        if self.has(&given.name) {
+            return Ok(());
+        }
+        self.push(given)
+    }
+}
+
+/// Storage of an element's attributes.
+#[derive(Drop)]
+enum Storage {
+    /// No attribute.
+    Empty,
+    /// One attribute, in one allocation.
+    Single(Box<Attribute>),
+    /// A list of attributes.
+    Several(Box<AttributeList>),
+}
+
+/// Moves a single attribute into a list with memory for another one. An error leaves the storage unchanged.
+fn spread(alloc: Global, storage: &mut Storage) -> Result<(), AllocError>
+    ensures same { attributes_in storage.new ≡ attributes_in storage.old }
+    ensures spread { OnOk result (is_single storage.new ≡ false) }
+{
+    if let Storage::Single(_) = storage {
+        let mut list = Vec::with_capacity(alloc, 2)?;
+        let mut boxed = Box::new(alloc, AttributeList::of(Vec::new(alloc)))?;
+        if let Storage::Single(attribute) = mem::replace(storage, Storage::Empty) {
+            let _ = list.push(Box::into_inner(attribute));
+        }
+        *boxed = AttributeList::of(list);
+        *storage = Storage::Several(boxed);
+    }
+    Ok(())
 }
 
 /// The attributes of an element, in the order in which they were given, in 16 bytes.
 ///
-/// The list is in an allocation, and an empty list needs none.
+/// One attribute takes one allocation, and none takes none.
 #[derive(Drop)]
 pub struct Attributes {
-    list: Option<Box<AttributeList>>,
+    storage: Storage,
 }
 
 const _: () = prove!(size_of::<Attributes>() == 16);
@@ -177,12 +235,11 @@ const _: () = prove!(size_of::<Attributes>() == 16);
 impl Model for Attributes {
     ghost use Rattle.std.specs.Prelude.{List};
     ghost use Rattle.html_render_dom_nodes.specs.declared.names.Attribute.{Attribute};
-    ghost use Rattle.std.specs.Option.{option_map};
     ghost use Rattle.html_render_dom_nodes.specs.AttributeLists.{attributes_in};
 
     ghost Value = { List Attribute };
 
-    ghost view = { λ a. attributes_in (option_map (λ list. list.value) a.list) };
+    ghost view = { λ a. attributes_in a.storage };
 }
 
 impl Attributes {
@@ -191,7 +248,20 @@ impl Attributes {
     pub fn new() -> Attributes
         ensures { result ≡ [] }
     {
-        Attributes { list: None }
+        Attributes {
+            storage: Storage::Empty,
+        }
+    }
+
+    /// Creates a list of one attribute.
+    #[inline]
+    fn single(alloc: Global, attribute: Attribute) -> Result<Attributes, AllocError>
+        ensures { IfOk result (λ made. made ≡ attribute ∷ []) }
+    {
+        let attribute = Box::new(alloc, attribute)?;
+        Ok(Attributes {
+            storage: Storage::Single(attribute),
+        })
     }
 
     /// Creates a list of these attributes.
@@ -200,14 +270,19 @@ impl Attributes {
     ///
     /// Returns an error if an allocation is refused.
     #[inline]
-    pub fn of(alloc: Global, list: Vec<Attribute>) -> Result<Attributes, AllocError>
+    pub fn of(alloc: Global, mut list: Vec<Attribute>) -> Result<Attributes, AllocError>
         ensures { IfOk result (λ made. made ≡ list.items) }
     {
-        if list.is_empty() {
-            return Ok(Attributes::new());
+        if list.len() > 1 {
+            let list = Box::new(alloc, AttributeList::of(list))?;
+            return Ok(Attributes {
+                storage: Storage::Several(list),
+            });
         }
-        let list = Box::new(alloc, AttributeList::of(list))?;
-        Ok(Attributes { list: Some(list) })
+        match list.pop() {
+            Some(attribute) => Attributes::single(alloc, attribute),
+            None => Ok(Attributes::new()),
+        }
     }
 
     /// Returns a slice of all attributes, in order.
@@ -215,9 +290,10 @@ impl Attributes {
     pub fn as_slice(&self) -> &[Attribute]
         ensures { result.now ≡ self.now }
     {
-        match &self.list {
-            Some(list) => list.as_slice(),
-            None => &[],
+        match &self.storage {
+            Storage::Empty => &[],
+            Storage::Single(attribute) => slice::from_ref(&**attribute),
+            Storage::Several(list) => list.as_slice(),
         }
     }
 
@@ -243,10 +319,33 @@ impl Attributes {
         ensures ok { OnOk result (map property_of self.new ≡ with_missing (map property_of self.old) (map property_of given.items)) }
         ensures err { OnErr result (map property_of self.new ≡ map property_of self.old) }
     {
-        if let Some(list) = &mut self.list {
+        spread(*given.allocator(), &mut self.storage)?;
+        if let Storage::Several(list) = &mut self.storage {
             return list.add_missing(given);
         }
         self.fill(given)?;
+        Ok(())
+    }
+
+    /// Appends an attribute, unless the element has one with its name.
+    ///
+    /// # Errors
+    ///
+    /// Returns an error if an allocation is refused. The attributes are then unchanged.
+    #[inline]
+    pub(crate) fn add_one_missing(
+        &mut self,
+        alloc: Global,
+        given: Attribute,
+    ) -> Result<(), AllocError>
+        ensures ok { OnOk result (map property_of self.new ≡ with_missing (map property_of self.old) (property_of given ∷ [])) }
+        ensures err { OnErr result (map property_of self.new ≡ map property_of self.old) }
+    {
+        spread(alloc, &mut self.storage)?;
+        if let Storage::Several(list) = &mut self.storage {
+            return list.add_one_missing(given);
+        }
+        *self = Attributes::single(alloc, given)?;
         Ok(())
     }
 }

@@ -312,3 +312,27 @@ pub fn complete(
     }
     Ok(())
 }
+
+/// Appends an attribute to those of the element, unless it has one with its name. Does nothing for another node.
+///
+/// # Errors
+///
+/// Returns an error if an allocation is refused. The nodes are then unchanged.
+#[inline]
+pub fn complete_one(
+    alloc: Global,
+    nodes: &mut Vec<Node>,
+    node: Handle,
+    given: Attribute,
+) -> Result<(), AllocError>
+    requires { node < vec_len nodes.old }
+    ensures len { vec_len nodes.new ≡ vec_len nodes.old }
+    ensures ok { let old = nodes_of nodes.old.items in OnOk result (nodes_of nodes.new.items
+        ≡ with_content old node (completed (node_in old node).content (property_of given ∷ []))) }
+    ensures err { OnErr result (nodes_of nodes.new.items ≡ nodes_of nodes.old.items) }
+{
+    if let NodeData::Element { attrs, .. } = &mut nodes[node.number()].data {
+        attrs.add_one_missing(alloc, given)?;
+    }
+    Ok(())
+}

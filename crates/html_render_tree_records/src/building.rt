@@ -279,9 +279,7 @@ fn add_attribute(
     }
     let name = given.name(alloc)?;
     let value = given.value_copied(alloc)?;
-    let mut attributes = Vec::with_capacity(alloc, 1)?;
-    attributes.push(Attribute { name, value })?;
-    dom.add_attrs_if_missing(alloc, element, attributes)?;
+    dom.add_attr_if_missing(alloc, element, Attribute { name, value })?;
     Ok(())
 }
 

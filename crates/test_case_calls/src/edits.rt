@@ -9,8 +9,11 @@ use crate::pages::{Page, UNKNOWN};
 use crate::tags::{Tag, attribute, attributes};
 use crate::texts::{split_word, unescaped};
 use crate::watch::Watch;
-use html_render_dom::dom::{Attribute, ElementFlags, Handle, NodeOrText, QuirksMode, RcDom};
+use html_render_dom::dom::{ElementFlags, Handle, NodeOrText, QuirksMode, RcDom};
 use std::alloc::Global;
+
+/// Fault of a node that is no element, and can have no attributes.
+const NO_ELEMENT: Fault = Fault::Malformed("the node is no element");
 
 /// Reports whether a word is the name of a call that changes a document or names a node.
 pub fn is_call(word: &str) -> bool {
@@ -411,10 +414,19 @@ fn add_attributes(
         return Err(Fault::Malformed("there are no attributes"));
     };
     let given = attributes(alloc, fields)?;
-    complete(alloc, page, node, given, watch)
+    let Some(node) = page.find(node) else {
+        return Err(UNKNOWN);
+    };
+    if !page.dom.is_element(node) {
+        return Err(NO_ELEMENT);
+    }
+    watch.begin("add_attrs_if_missing");
+    let came = page.dom.add_attrs_if_missing(alloc, node, given);
+    watch.end(&came);
+    Ok(came?)
 }
 
-/// Makes the call `add_attrs_if_missing` with one attribute, `NAME=VALUE`, whose value may have `@`.
+/// Makes the call `add_attr_if_missing` with an attribute `NAME=VALUE`, whose value may have `@`.
 fn add_attribute(
     alloc: Global,
     page: &mut Page,
@@ -422,27 +434,15 @@ fn add_attribute(
     field: &str,
     watch: Watch,
 ) -> Result<(), Fault> {
-    let mut given = Vec::new(alloc);
-    given.push(attribute(alloc, field)?)?;
-    complete(alloc, page, node, given, watch)
-}
-
-/// Adds attributes to an element with a name, if it lacks them.
-fn complete(
-    alloc: Global,
-    page: &mut Page,
-    node: &str,
-    given: Vec<Attribute>,
-    watch: Watch,
-) -> Result<(), Fault> {
+    let given = attribute(alloc, field)?;
     let Some(node) = page.find(node) else {
         return Err(UNKNOWN);
     };
     if !page.dom.is_element(node) {
-        return Err(Fault::Malformed("the node is no element"));
+        return Err(NO_ELEMENT);
     }
-    watch.begin("add_attrs_if_missing");
-    let came = page.dom.add_attrs_if_missing(alloc, node, given);
+    watch.begin("add_attr_if_missing");
+    let came = page.dom.add_attr_if_missing(alloc, node, given);
     watch.end(&came);
     Ok(came?)
 }

@@ -255,6 +255,30 @@ impl RcDom {
         Ok(())
     }
 
+    /// Appends `attr` to the element's attributes, unless the element has one with its name.
+    ///
+    /// Names are compared as in [`add_attrs_if_missing`](RcDom::add_attrs_if_missing). No vector is needed.
+    ///
+    /// # Errors
+    ///
+    /// Returns `OutOfMemory` if an allocation is refused. The document is then unchanged, and `attr` is dropped.
+    pub fn add_attr_if_missing(
+        &mut self,
+        alloc: Global,
+        node: Handle,
+        attr: Attribute,
+    ) -> Result<(), Error>
+        requires { IsElement (content_at self.old node) }
+        ensures ok { OnOk result (self.new ≡ record self.old
+            { nodes = with_content self.old.nodes node (completed (content_at self.old node) (property_of attr ∷ [])) }) }
+        ensures unchanged { OnErr result (self.new ≡ self.old) }
+        ensures err { OnlyOutOfMemory result }
+        ensures grows { node_count self.old ≤ node_count self.new }
+    {
+        nodes::complete_one(alloc, &mut self.nodes, node, attr)?;
+        Ok(())
+    }
+
     /// Appends the message of a parse error to [`errors`](RcDom::errors).
     ///
     /// # Errors

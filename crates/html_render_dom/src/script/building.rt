@@ -103,9 +103,7 @@ fn set_attribute(
         ns: Namespace::None,
         local: LocalName::from_str(alloc, name)?,
     };
-    let mut attributes = Vec::with_capacity(alloc, 1)?;
-    attributes.push(Attribute { name, value })?;
-    Ok(dom.add_attrs_if_missing(alloc, element, attributes)?)
+    Ok(dom.add_attr_if_missing(alloc, element, Attribute { name, value })?)
 }
 
 /// Appends a comment to the current node.
