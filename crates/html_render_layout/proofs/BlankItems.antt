@@ -19,9 +19,10 @@ use Rattle.html_render_layout_nodes.specs.declared.tree.RenderNode.{RenderNode}
 use Rattle.html_render_layout_nodes.specs.Visitor.{Way, Past, past}
 use Rattle.html_render_layout_blocks.specs.Machine as machine
 use Rattle.html_render_layout_blocks.specs.Machine.{MachineBlock}
+use Rattle.html_render_layout_blocks.specs.declared.held.Prefixing.{Prefixing}
 use Rattle.html_render_layout_blocks.specs.laws.BlankItems.{blank_item}
-use Rattle.html_render_layout.specs.declared.nesting.OwnBlock.{OwnBlock}
-use Rattle.html_render_layout.specs.declared.nesting.OwnBlock.TheVariants as block
+use Rattle.html_render_layout.specs.Layout.{OwnBlock}
+use Rattle.html_render_layout.specs.Layout as layout
 use Rattle.html_render_layout.specs.declared.state.Outer.{Outer}
 use Rattle.html_render_layout.specs.declared.state.Suspended.TheVariants.{Indented}
 use Rattle.html_render_layout.specs.declared.state.OpenNode.{OpenNode}
@@ -49,7 +50,7 @@ module _ {S A K T : Type 0} (d : Decoration S A) (push : K → T → A → K × 
   St = LayoutState S K T (MachineBlock T ℕ)
 
   abbrev Ways : Type 0
-  Ways = Way St (OpenNode S T (MachineBlock T ℕ))
+  Ways = Way St (OpenNode S T (Prefixing (MachineBlock T ℕ) T) (MachineBlock T ℕ))
 
   -- a style that changes nothing
   plain-style : (q : St) (style : NodeStyle) → IsPlain style → perform_all algebra q (style_steps d style) q ≡ Some q
@@ -63,7 +64,7 @@ module _ {S A K T : Type 0} (d : Decoration S A) (push : K → T → A → K × 
       ∙ ap (λ b. Some (record q { text = record q.text { preformatted = b } })) (or-false q.text.preformatted)
 
   module _ (n : RenderNode) (trees : Forest RenderNode) (prefix : List ℕ) (columns min_width : ℕ) (s : St) (is : IsBlank n s.text) where
-    abbrev outer : Outer S T (MachineBlock T ℕ)
+    abbrev outer : Outer S (Prefixing (MachineBlock T ℕ) T)
     outer = interrupted algebra s prefix columns
 
     abbrev style : TextStyle T
@@ -123,7 +124,7 @@ module _ {S A K T : Type 0} (d : Decoration S A) (push : K → T → A → K × 
           ∙ ap (λ k. kind_way q k) is.kind ∙ text-way
 
     -- THE LAW: the item is a new line, if its sub-block isn't too narrow
-    pub blank_opened : (b : OwnBlock) → b ≡ block.Indented prefix columns min_width → block_opened algebra n trees b s
+    pub blank_opened : (b : OwnBlock) → b ≡ layout.Indented prefix columns min_width → block_opened algebra n trees b s
         ≡ option_map left (option_and_then (λ (sub : MachineBlock T ℕ). machine.operations.new_line s.block) (machine.operations.sub_block s.block columns min_width))
     blank_opened b e =
         ap (λ c. block_opened algebra n trees c s) e ∙ by (machine.operations.sub_block s.block columns min_width)
@@ -138,11 +139,11 @@ module _ {S A K T : Type 0} (d : Decoration S A) (push : K → T → A → K × 
     abbrev wanted : Option (MachineBlock T ℕ)
     wanted = option_and_then (λ (sub : MachineBlock T ℕ). machine.operations.new_line s.block) (machine.operations.sub_block s.block columns min_width)
 
-    pub blank_passed : (b : OwnBlock) → b ≡ block.Indented prefix columns min_width → (new : MachineBlock T ℕ) → wanted ≡ Some new →
+    pub blank_passed : (b : OwnBlock) → b ≡ layout.Indented prefix columns min_width → (new : MachineBlock T ℕ) → wanted ≡ Some new →
         block_opened algebra n trees b s ≡ Some (left new)
     blank_passed b e new done = blank_opened b e ∙ ap (option_map left) done
 
-    pub blank_refused : (b : OwnBlock) → b ≡ block.Indented prefix columns min_width → (error : Error) → Refuses error wanted →
+    pub blank_refused : (b : OwnBlock) → b ≡ layout.Indented prefix columns min_width → (error : Error) → Refuses error wanted →
         Refuses error (block_opened algebra n trees b s)
     blank_refused b e TooNarrow refused = blank_opened b e ∙ ap (option_map left) refused
     blank_refused b e Fail refused = absurd refused

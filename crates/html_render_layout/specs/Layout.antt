@@ -35,8 +35,6 @@ use Rattle.html_render_layout_blocks.specs.Definition as definition
 use Rattle.html_render_layout_blocks.specs.Definition.{definition as defined_parts, DefinedBlock}
 use Rattle.html_render_layout_estimates.specs.Estimates.{prefix_columns, number_columns, measured}
 use Rattle.html_render_layout_estimates.specs.Words.{with_words}
-use Rattle.html_render_layout.specs.declared.nesting.OwnBlock.{OwnBlock}
-use Rattle.html_render_layout.specs.declared.nesting.OwnBlock.TheVariants.{Shared, Prefixed, Indented}
 use Rattle.html_render_layout.specs.declared.state.LayoutState.{LayoutState}
 use Rattle.html_render_layout.specs.declared.state.TextContext.{TextContext}
 use Rattle.html_render_layout_estimates.specs.declared.settings.LayoutSettings.{LayoutSettings}
@@ -75,8 +73,17 @@ pub data Step (S A : Type 0) : Type 0 where
 pub data Shape (S A : Type 0) : Type 0 where
   Steps : List (Step S A) → Shape S A  -- steps alone; children are skipped
   Around : (before after : List (Step S A)) → Shape S A  -- steps before the children and after them
-  Items : (S → ℕ → List ℕ) → (S → ℕ) → (min_width : ℕ) → Shape S A  -- children in sub-blocks: prefix by number, its columns, minimum width
+  -- children in sub-blocks: prefix by the decorators of the list and of the item and by the item's number, columns of the
+  -- prefix by the decorator of the list, and minimum width
+  Items : (S → S → ℕ → List ℕ) → (S → ℕ) → (min_width : ℕ) → Shape S A
   Cells : Shape S A  -- children as cells of the table's next row
+
+-- block that a node is laid out into: that of its siblings, a sub-block each of whose lines follows the prefix, or one whose
+-- first line follows the prefix and whose later lines follow as many spaces as are reserved for it
+pub data OwnBlock : Type 0 where
+  Shared : OwnBlock
+  Prefixed : (prefix : List ℕ) → (min_width : ℕ) → OwnBlock
+  Indented : (prefix : List ℕ) → (columns min_width : ℕ) → OwnBlock
 
 abbrev pub spaces : ℕ → List ℕ
 spaces count = replicate count 32
@@ -138,9 +145,10 @@ module _ {S A : Type 0} (d : Decoration S A) where
   shape_of settings Block e trees = Around (StartBlock ∷ []) (EndBlock ∷ [])
   shape_of settings Div e trees = Around (NewLine ∷ []) (NewLine ∷ [])
   shape_of settings (Emphasis m) e trees = Around (start (emphasis_decoration m)) (end (emphasis_decoration m) ∷ [])
-  shape_of settings Ul e trees = Items (λ x n. d.unordered_item_prefix x) (λ x. prefix_columns (d.unordered_item_prefix x)) (e.min_width - e.prefix)
+  shape_of settings Ul e trees = Items (λ x y n. d.unordered_item_prefix x) (λ x. prefix_columns (d.unordered_item_prefix x)) (e.min_width - e.prefix)
   shape_of settings (Ol first) e trees =
-      Items (λ x n. d.ordered_item_prefix x (saturate_signed w64 (first +ℤ pos n))) (λ x. number_columns d x first e.children) (e.min_width - e.prefix)
+      Items (λ x y n. padded (number_columns d x first e.children) (d.ordered_item_prefix y (saturate_signed w64 (first +ℤ pos n))))
+      (λ x. number_columns d x first e.children) (e.min_width - e.prefix)
   shape_of settings ListItem e trees = Around (StartBlock ∷ []) (EndBlock ∷ [])
   shape_of settings Dl e trees = Around (StartBlock ∷ []) []
   shape_of settings Dt e trees = Around (NewLine ∷ start d.em) (end d.em ∷ [])
@@ -279,7 +287,7 @@ module _ {S A K T B : Type 0} (m : Algebra S A K T B) where
   shape_layout (Steps steps) s = Leaf (perform_all s steps s)
   shape_layout (Around before after) s = Inner (perform_all s before s) bare (perform_all s after)
   shape_layout (Items prefix columns min_width) s =
-      let c = columns s.decorator in Inner (Some s) (λ n r. block_place (Indented (padded c (prefix r.decorator n)) c min_width) r) (λ r. Some r)
+      let x = s.decorator in Inner (Some s) (λ n r. block_place (Indented (prefix x r.decorator n) (columns x) min_width) r) (λ r. Some r)
   shape_layout Cells s =
       Inner (Some (record s { block = m.operations.begin_row s.block })) (λ n r. cell_place (m.operations.cell_block r.block) r)
       (on_block m.operations.end_row)

@@ -1,4 +1,6 @@
 -- definitions of the layout, and of the code's machine
+-- bullets of lists
+pub mod Bullets
 pub mod Images
 pub mod Ending
 pub mod Layout

@@ -4,6 +4,7 @@ use Rattle.std.specs.Int.{saturate_signed, w64}
 use Rattle.std.specs.Str.{chars}
 use Rattle.html_render_dom_values.specs.Forest.{Forest}
 use Rattle.html_render_dom_values.specs.Outcome.{◌>>=◌}
+use Rattle.html_render_layout_blocks.specs.declared.held.Prefixing.{Prefixing}
 use Rattle.html_render_layout_estimates.specs.Estimates.{prefix_columns, number_columns}
 use Rattle.html_render_layout_nodes.specs.declared.tree.Emphasis.TheVariants.{Em}
 use Rattle.html_render_layout_nodes.specs.declared.tree.Estimate.{Estimate}
@@ -12,9 +13,9 @@ use Rattle.html_render_layout_nodes.specs.declared.tree.NodeKind.TheVariants.{Bl
 use Rattle.html_render_layout_nodes.specs.declared.tree.NodeStyle.{NodeStyle}
 use Rattle.html_render_layout_nodes.specs.declared.tree.RenderNode.{RenderNode}
 use Rattle.html_render_layout_nodes.specs.Visitor.{Visits, Places, Way, Into, Past, past, opened_with}
-use Rattle.html_render_layout.specs.declared.nesting.OwnBlock.{OwnBlock}
-use Rattle.html_render_layout.specs.declared.nesting.OwnBlock.TheVariants as block
-use Rattle.html_render_layout.specs.declared.nesting.OwnBlock.TheVariants.{Shared, Prefixed}
+use Rattle.html_render_layout.specs.Layout.{OwnBlock}
+use Rattle.html_render_layout.specs.Layout as layout
+use Rattle.html_render_layout.specs.Layout.{Shared, Prefixed}
 use Rattle.html_render_layout.specs.declared.state.OpenNode.{OpenNode}
 use Rattle.html_render_layout.specs.declared.state.Suspended.{Suspended}
 use Rattle.html_render_layout.specs.declared.state.Suspended.TheVariants.{NoBlock, Quoted, Indented, Cell}
@@ -23,7 +24,6 @@ use Rattle.html_render_layout.specs.declared.state.CloseAction.TheVariants.{Noth
 use Rattle.html_render_layout.specs.declared.state.CloseAction.TheVariants.{Bullets, Numbers}
 use Rattle.html_render_layout.specs.declared.state.CloseAction.TheVariants.{EndStrikeout, EndSuperscript, EndLink, EndTable, EndRow}
 use Rattle.html_render_layout.specs.declared.state.Outer.{Outer}
-use Rattle.html_render_layout.specs.declared.state.OuterTable.{OuterTable}
 use Rattle.html_render_layout.specs.declared.state.TextContext.{TextContext}
 use Rattle.html_render_layout.specs.Layout.{Algebra, State, write_number, spaces, padded, emphasis_decoration}
 use Rattle.html_render_layout.specs.Layout.{block_of, shape_of, style_steps, layout_of}
@@ -35,20 +35,22 @@ number_from first n = saturate_signed w64 (first +ℤ pos n)
 
 module _ {S A K T B : Type 0} (m : Algebra S A K T B) where
   -- suspended block of the state, for a sub-block after this prefix
-  abbrev pub interrupted : State m → (prefix : List ℕ) → (columns : ℕ) → Outer S T B
-  interrupted s prefix columns = record { decorator = s.decorator; block = s.block; prefix = prefix; columns = columns; tag = s.text.tag }
+  abbrev pub interrupted : State m → (prefix : List ℕ) → (columns : ℕ) → Outer S (Prefixing B T)
+  interrupted s prefix columns =
+      record { decorator = s.decorator; block = record { block = s.block; prefix = prefix; columns = columns; tag = s.text.tag } }
 
   -- state after an indented sub-block is closed
-  abbrev pub indent_closed : Outer S T B → State m → Option (State m)
+  abbrev pub indent_closed : Outer S (Prefixing B T) → State m → Option (State m)
   indent_closed u r =
-      option_map (λ b. record r { decorator = u.decorator; block = b }) (m.operations.append u.block r.block u.tag (chars u.prefix) (spaces u.columns))
+      option_map (λ b. record r { decorator = u.decorator; block = b })
+      (m.operations.append u.block.block r.block u.block.tag (chars u.block.prefix) (spaces u.block.columns))
 
   -- state after the sub-block of a heading or a quote is closed
-  abbrev pub quote_closed : Outer S T B → State m → Option (State m)
-  quote_closed u r = option_map (λ b. record r { decorator = u.decorator; block = b }) (appended_block m u.tag u.prefix u.block r.block)
+  abbrev pub quote_closed : Outer S (Prefixing B T) → State m → Option (State m)
+  quote_closed u r = option_map (λ b. record r { decorator = u.decorator; block = b }) (appended_block m u.block.tag u.block.prefix u.block.block r.block)
 
   -- state after a cell's block is closed and the cell is added to its row
-  abbrev pub cell_closed : OuterTable S B → State m → Option (State m)
+  abbrev pub cell_closed : Outer S B → State m → Option (State m)
   cell_closed u r = option_map (λ b. record r { decorator = u.decorator; block = b }) (m.operations.add_cell u.block r.block)
 
   -- state after a table is closed; `in_table` is whether it is nested
@@ -56,7 +58,7 @@ module _ {S A K T B : Type 0} (m : Algebra S A K T B) where
   table_closed in_table r = perform m r Fence (record r { block = m.operations.end_table r.block; in_table = in_table })
 
   -- state after a suspended block is resumed, if there is one
-  abbrev pub continued : Suspended S T B → State m → Option (State m)
+  abbrev pub continued : Suspended S (Prefixing B T) B → State m → Option (State m)
   continued NoBlock r = Some r
   continued (Quoted u) r = quote_closed u r
   continued (Indented u) r = indent_closed u r
@@ -64,7 +66,7 @@ module _ {S A K T B : Type 0} (m : Algebra S A K T B) where
 
   -- way of a node, by that of its kind: its pending work holds what it suspends and the treatment of texts, and past it both
   -- are restored
-  abbrev pub keeping : Suspended S T B → TextContext T → Way (State m) (CloseAction S T B) → Option (Way (State m) (OpenNode S T B))
+  abbrev pub keeping : Suspended S (Prefixing B T) B → TextContext T → Way (State m) (CloseAction S T (Prefixing B T) B) → Option (Way (State m) (OpenNode S T (Prefixing B T) B))
   keeping item text (Into q k) = Some (Into q (record { item = item; text = text; kind = k }))
   keeping item text (Past r) = past (continued item (record r { text = text }))
 
@@ -74,23 +76,23 @@ module _ {S A K T B : Type 0} (m : Algebra S A K T B) where
   abbrev pub block_begun : OwnBlock → State m → Option (State m)
   block_begun Shared s = Some s
   block_begun (Prefixed prefix min_width) s = nested m (prefix_columns prefix) min_width s
-  block_begun (block.Indented prefix columns min_width) s = nested m columns min_width s
+  block_begun (layout.Indented prefix columns min_width) s = nested m columns min_width s
 
   -- what a node suspends as its block is begun
-  abbrev pub block_kept : OwnBlock → State m → Suspended S T B
+  abbrev pub block_kept : OwnBlock → State m → Suspended S (Prefixing B T) B
   block_kept Shared s = NoBlock
   block_kept (Prefixed prefix min_width) s = Quoted (interrupted s prefix (prefix_columns prefix))
-  block_kept (block.Indented prefix columns min_width) s = Indented (interrupted s prefix columns)
+  block_kept (layout.Indented prefix columns min_width) s = Indented (interrupted s prefix columns)
 
   -- ---- kinds of nodes
 
   -- closing action of a kind, where `own` is what the node suspends with a block of its own
-  abbrev pub kind_kept : (own : Suspended S T B) → NodeKind → Estimate → State m → CloseAction S T B
+  abbrev pub kind_kept : (own : Suspended S (Prefixing B T) B) → NodeKind → Estimate → State m → CloseAction S T (Prefixing B T) B
   kind_kept own Block e s = EndBlock
   kind_kept own ListItem e s = EndBlock
   kind_kept own Div e s = NewLine
   kind_kept own (Emphasis x) e s = EndEmphasis x
-  kind_kept own Ul e s = Bullets (prefix_columns (m.decoration.unordered_item_prefix s.decorator)) (e.min_width - e.prefix)
+  kind_kept own Ul e s = Bullets (m.decoration.unordered_item_prefix s.decorator) (e.min_width - e.prefix)
   kind_kept own (Ol first) e s = Numbers first (number_columns m.decoration s.decorator first e.children) (e.min_width - e.prefix)
   kind_kept own Dt e s = EndEmphasis Em
   kind_kept own Strikeout e s = EndStrikeout s.text.struck_out
@@ -101,17 +103,17 @@ module _ {S A K T B : Type 0} (m : Algebra S A K T B) where
   kind_kept own _ e s = Nothing own
 
   -- way of a kind of node in its block, where `own` is what that suspends
-  abbrev pub kind_opened : (own : Suspended S T B) → NodeKind → Estimate → (trees : Forest RenderNode) → State m →
-      Option (Way (State m) (CloseAction S T B))
+  abbrev pub kind_opened : (own : Suspended S (Prefixing B T) B) → NodeKind → Estimate → (trees : Forest RenderNode) → State m →
+      Option (Way (State m) (CloseAction S T (Prefixing B T) B))
   kind_opened own k e trees s = opened_with (shape_layout m (shape_of m.decoration s.settings k e trees) s) (kind_kept own k e s)
 
   -- state after the closing action of a kind
-  abbrev pub kind_closed : CloseAction S T B → State m → Option (State m)
+  abbrev pub kind_closed : CloseAction S T (Prefixing B T) B → State m → Option (State m)
   kind_closed (Nothing own) r = continued own r
   kind_closed EndBlock r = Some (record r { block = m.operations.end_block r.block })
   kind_closed NewLine r = on_block m.operations.new_line r
   kind_closed (EndEmphasis x) r = write m (chars ((emphasis_decoration m.decoration x).end r.decorator)) r
-  kind_closed (Bullets columns min_width) r = Some r
+  kind_closed (Bullets bullet min_width) r = Some r
   kind_closed (Numbers first columns min_width) r = Some r
   kind_closed (EndStrikeout struck_out) r =
       write m (chars (m.decoration.strikeout.end r.decorator)) (record r { text = record r.text { struck_out = struck_out } })
@@ -125,21 +127,21 @@ module _ {S A K T B : Type 0} (m : Algebra S A K T B) where
   kind_closed EndRow r = on_block m.operations.end_row r
 
   -- block of a child, by its parent's closing action and its number: a sub-block for an item of a list
-  abbrev pub child_block : S → CloseAction S T B → (number : ℕ) → OwnBlock
-  child_block x (Bullets columns min_width) number = block.Indented (padded columns (m.decoration.unordered_item_prefix x)) columns min_width
+  abbrev pub child_block : S → CloseAction S T (Prefixing B T) B → (number : ℕ) → OwnBlock
+  child_block x (Bullets bullet min_width) number = layout.Indented bullet (prefix_columns bullet) min_width
   child_block x (Numbers first columns min_width) number =
-      block.Indented (padded columns (m.decoration.ordered_item_prefix x (number_from first number))) columns min_width
+      layout.Indented (padded columns (m.decoration.ordered_item_prefix x (number_from first number))) columns min_width
   child_block x _ number = Shared
 
   -- places of the children of a node, by its closing action
-  abbrev pub kind_below : CloseAction S T B → Places (State m)
+  abbrev pub kind_below : CloseAction S T (Prefixing B T) B → Places (State m)
   kind_below EndRow number s = cell_place m (m.operations.cell_block s.block) s
   kind_below kind number s = block_place m (child_block s.decorator kind number) s
 
   -- ---- nodes
 
   -- way of a node in its style and its block, where `item` is what it suspends as an item or as a cell
-  abbrev pub opened_in : Suspended S T B → RenderNode → Forest RenderNode → State m → Option (Way (State m) (OpenNode S T B))
+  abbrev pub opened_in : Suspended S (Prefixing B T) B → RenderNode → Forest RenderNode → State m → Option (Way (State m) (OpenNode S T (Prefixing B T) B))
   opened_in item n trees s = do
     q ← perform_all m s (style_steps m.decoration n.style) s
     p ← block_begun (block_of m.decoration q.settings q.decorator n.kind n.estimate) q
@@ -147,37 +149,37 @@ module _ {S A K T B : Type 0} (m : Algebra S A K T B) where
     keeping item s.text w
 
   -- way of a text in the block of its siblings
-  abbrev pub text_opened : List ℕ → NodeStyle → State m → Option (Way (State m) (OpenNode S T B))
+  abbrev pub text_opened : List ℕ → NodeStyle → State m → Option (Way (State m) (OpenNode S T (Prefixing B T) B))
   text_opened t style s = do
     q ← perform_all m s (style_steps m.decoration style) s
     r ← write m (chars t) q
     Some (Past (record r { text = s.text }))
 
   -- way of the next cell of a row in its block; without one the cell is skipped
-  abbrev pub cell_opened : RenderNode → Forest RenderNode → Option B → State m → Option (Way (State m) (OpenNode S T B))
+  abbrev pub cell_opened : RenderNode → Forest RenderNode → Option B → State m → Option (Way (State m) (OpenNode S T (Prefixing B T) B))
   cell_opened n trees None s = Some (Past (record s { block = m.operations.skip_cell s.block }))
   cell_opened n trees (Some cell) s = opened_in (Cell (record { decorator = s.decorator; block = s.block })) n trees (within m cell s)
 
   -- way of a node in this block
-  abbrev pub block_opened : RenderNode → Forest RenderNode → OwnBlock → State m → Option (Way (State m) (OpenNode S T B))
+  abbrev pub block_opened : RenderNode → Forest RenderNode → OwnBlock → State m → Option (Way (State m) (OpenNode S T (Prefixing B T) B))
   block_opened n trees b s = do
     q ← block_begun b s
     opened_in (block_kept b s) n trees q
 
   -- way of a child, by its parent's closing action and its number
-  abbrev pub opened_below : CloseAction S T B → (number : ℕ) → RenderNode → Forest RenderNode → State m → Option (Way (State m) (OpenNode S T B))
+  abbrev pub opened_below : CloseAction S T (Prefixing B T) B → (number : ℕ) → RenderNode → Forest RenderNode → State m → Option (Way (State m) (OpenNode S T (Prefixing B T) B))
   opened_below EndRow number n trees s = cell_opened n trees (m.operations.cell_block s.block) s
   opened_below kind number n trees s = block_opened n trees (child_block s.decorator kind number) s
 
-  abbrev pub opened : (parent : Option (OpenNode S T B)) → (number : ℕ) → RenderNode → Forest RenderNode → State m →
-      Option (Way (State m) (OpenNode S T B))
+  abbrev pub opened : (parent : Option (OpenNode S T (Prefixing B T) B)) → (number : ℕ) → RenderNode → Forest RenderNode → State m →
+      Option (Way (State m) (OpenNode S T (Prefixing B T) B))
   opened None number n trees s = block_opened n trees Shared s
   opened (Some c) number n trees s = opened_below c.kind number n trees s
 
-  abbrev pub below : OpenNode S T B → Places (State m)
+  abbrev pub below : OpenNode S T (Prefixing B T) B → Places (State m)
   below c number s = kind_below c.kind number s
 
-  abbrev pub closed : OpenNode S T B → State m → Option (State m)
+  abbrev pub closed : OpenNode S T (Prefixing B T) B → State m → Option (State m)
   closed c r = do
     t ← kind_closed c.kind r
     continued c.item (record t { text = c.text })
@@ -187,12 +189,12 @@ module _ {S A K T B : Type 0} (m : Algebra S A K T B) where
   unfoldable pub walk_visits : Visits RenderNode (State m)
   walk_visits = layout_of m
 
-  unfoldable pub walk_below : OpenNode S T B → Places (State m)
+  unfoldable pub walk_below : OpenNode S T (Prefixing B T) B → Places (State m)
   walk_below = below
 
-  unfoldable pub walk_opened : (parent : Option (OpenNode S T B)) → (number : ℕ) → RenderNode → Forest RenderNode → State m →
-      Option (Way (State m) (OpenNode S T B))
+  unfoldable pub walk_opened : (parent : Option (OpenNode S T (Prefixing B T) B)) → (number : ℕ) → RenderNode → Forest RenderNode → State m →
+      Option (Way (State m) (OpenNode S T (Prefixing B T) B))
   walk_opened = opened
 
-  unfoldable pub walk_closed : OpenNode S T B → State m → Option (State m)
+  unfoldable pub walk_closed : OpenNode S T (Prefixing B T) B → State m → Option (State m)
   walk_closed = closed

@@ -1,38 +1,28 @@
 //! Items of lists: the sub-block of each, and white space between them.
+#![tactic(auto, using(html_render_dom_values::specs::laws::Outcome::refusals))]
 
-ghost use Rattle.std.specs.Prelude.{◌≡◌, ℕ, IfOk, IfSome, string_bytes};
+ghost use Rattle.std.specs.Prelude.{◌≡◌, ℕ, Some, OnOk, IfOk, IfErr, IfSome, string_bytes};
 ghost use Rattle.std.specs.Bool.{OnTrue};
-ghost use Rattle.html_render_dom_values.specs.Outcome.{OnlyOutOfMemory};
+ghost use Rattle.html_render_dom_values.specs.Outcome.{Refuses};
+ghost use Rattle.html_render_layout_estimates.specs.Estimates.{prefix_columns};
 ghost use Rattle.html_render_layout.specs.Blank.{IsBlank, IsIndented, IsPlain};
-ghost use Rattle.html_render_layout.specs.Layout.{padded};
-ghost use Rattle.html_render_layout.specs.Opening.{number_from, child_block};
+ghost use Rattle.html_render_layout.specs.Layout.{Indented, padded};
+ghost use Rattle.html_render_layout.specs.Opening.{number_from, child_block, block_begun, block_kept};
 ghost use Rattle.html_render_layout.specs.Working.{by_tags};
 
-use crate::nesting::OwnBlock;
+use crate::bullet::Bullet;
+use crate::nesting::nest;
 use crate::spaces::padded;
-use crate::state::{CloseAction, TextContext};
+use crate::state::{CloseAction, Suspended, TextContext};
 use crate::tagging::Tagging;
-use crate::working::KindKept;
+use crate::working::{Interrupted, KindKept, State};
 use html_render_dom_values::Error;
-use html_render_dom_values::text::Text;
 use html_render_dom_values::white_space::WhiteSpace;
 use html_render_layout_blocks::block::is_collapsible_alone;
+use html_render_layout_blocks::held::PrefixText;
 use html_render_layout_nodes::tree::{NodeKind, NodeStyle, RenderNode};
 use html_render_parts::decorate::TextDecorator;
 use std::alloc::Global;
-
-/// Returns the sub-block of an item. Pads its prefix with spaces to `columns` columns.
-fn item_block(prefix: String, columns: usize, min_width: usize) -> Result<OwnBlock, Error>
-    ensures ok { IfOk result (λ b. b ≡ OwnBlock.Indented (padded columns (string_bytes prefix)) columns min_width) }
-    ensures err { OnlyOutOfMemory result }
-{
-    let prefix = padded(prefix, columns)?;
-    Ok(OwnBlock::Indented {
-        prefix: Text::from(prefix),
-        columns,
-        min_width,
-    })
-}
 
 /// Returns the number of an item: that of the list's first item plus `number`, the item's index from 0. It saturates.
 fn number_from(first: i64, number: usize) -> i64
@@ -41,35 +31,80 @@ fn number_from(first: i64, number: usize) -> i64
     first.saturating_add_unsigned(number as u64)
 }
 
-/// Returns the block of a child by its parent's closing action: a sub-block if the parent is a list, and otherwise that of
-/// the siblings. `number` is the child's index, from 0.
+/// Begins the sub-block of an item after a bullet. Returns the block that it suspends.
+fn begin_bulleted<D: TextDecorator, G: Tagging<D::Annotation>>(
+    alloc: Global,
+    bullet: &Bullet,
+    min_width: usize,
+    state: &mut State<D, G>,
+) -> Result<Interrupted<D, G>, Error>
+    ensures ok { OnOk result (block_begun (by_tags D.decoration G.annotated)
+        (Indented bullet.now (prefix_columns bullet.now) min_width) state.old ≡ Some state.new) }
+    ensures kept { IfOk result (λ i. i ≡ block_kept (by_tags D.decoration G.annotated)
+        (Indented bullet.now (prefix_columns bullet.now) min_width) state.old) }
+    ensures err { IfErr result (λ e. Refuses e (block_begun (by_tags D.decoration G.annotated)
+        (Indented bullet.now (prefix_columns bullet.now) min_width) state.old)) }
+{
+    let prefix = PrefixText::from_str(alloc, bullet.as_str())?;
+    let outer = nest(alloc, prefix, bullet.columns(), min_width, state)?;
+    Ok(Suspended::Indented(outer))
+}
+
+/// Begins the sub-block of an item after a prefix, which is padded with spaces to `columns` columns. Returns the block that
+/// it suspends.
+fn begin_padded<D: TextDecorator, G: Tagging<D::Annotation>>(
+    alloc: Global,
+    prefix: String,
+    columns: usize,
+    min_width: usize,
+    state: &mut State<D, G>,
+) -> Result<Interrupted<D, G>, Error>
+    ensures ok { OnOk result (block_begun (by_tags D.decoration G.annotated)
+        (Indented (padded columns (string_bytes prefix)) columns min_width) state.old ≡ Some state.new) }
+    ensures kept { IfOk result (λ i. i ≡ block_kept (by_tags D.decoration G.annotated)
+        (Indented (padded columns (string_bytes prefix)) columns min_width) state.old) }
+    ensures err { IfErr result (λ e. Refuses e (block_begun (by_tags D.decoration G.annotated)
+        (Indented (padded columns (string_bytes prefix)) columns min_width) state.old)) }
+{
+    let prefix = padded(prefix, columns)?;
+    let outer = nest(alloc, PrefixText::from(prefix), columns, min_width, state)?;
+    Ok(Suspended::Indented(outer))
+}
+
+/// Begins the sub-block of a child of a list with this closing action. Returns the block that it suspends. `number` is the
+/// child's index, from 0.
 ///
 /// # Errors
 ///
-/// `OutOfMemory`.
-pub fn child_block<D: TextDecorator, G: Tagging<D::Annotation>>(
+/// `TooNarrow` if overflow is off and the prefix leaves fewer columns than the sub-block's minimum width. `OutOfMemory`.
+#[inline]
+pub fn begin_item<D: TextDecorator, G: Tagging<D::Annotation>>(
     alloc: Global,
-    decorator: &D,
-    parent: &KindKept<D, G>,
+    list: &KindKept<D, G>,
     number: usize,
-) -> Result<OwnBlock, Error>
-    ensures ok { IfOk result (λ b. b ≡ child_block (by_tags D.decoration G.annotated) decorator.now parent.now number) }
-    ensures err { OnlyOutOfMemory result }
+    state: &mut State<D, G>,
+) -> Result<Interrupted<D, G>, Error>
+    ensures ok { OnOk result (block_begun (by_tags D.decoration G.annotated)
+        (child_block (by_tags D.decoration G.annotated) state.old.decorator list.now number) state.old ≡ Some state.new) }
+    ensures kept { IfOk result (λ i. i ≡ block_kept (by_tags D.decoration G.annotated)
+        (child_block (by_tags D.decoration G.annotated) state.old.decorator list.now number) state.old) }
+    ensures err { IfErr result (λ e. Refuses e (block_begun (by_tags D.decoration G.annotated)
+        (child_block (by_tags D.decoration G.annotated) state.old.decorator list.now number) state.old)) }
 {
-    match parent {
-        CloseAction::Bullets { columns, min_width } => {
-            let bullet = decorator.unordered_item_prefix(alloc)?;
-            item_block(bullet, *columns, *min_width)
+    match list {
+        CloseAction::Bullets { bullet, min_width } => {
+            begin_bulleted(alloc, bullet, *min_width, state)
         }
         CloseAction::Numbers {
             first,
             columns,
             min_width,
         } => {
-            let prefix = decorator.ordered_item_prefix(alloc, number_from(*first, number))?;
-            item_block(prefix, *columns, *min_width)
+            let item = number_from(*first, number);
+            let prefix = state.decorator.ordered_item_prefix(alloc, item)?;
+            begin_padded(alloc, prefix, *columns, *min_width, state)
         }
-        _ => Ok(OwnBlock::Shared),
+        _ => Ok(Suspended::NoBlock),
     }
 }
 
@@ -91,8 +126,11 @@ pub fn indent_of<D: TextDecorator, G: Tagging<D::Annotation>>(
         IsIndented (child_block (by_tags D.decoration G.annotated) x list.now number) indent.columns indent.min_width) }
 {
     match list {
-        CloseAction::Bullets { columns, min_width }
-        | CloseAction::Numbers {
+        CloseAction::Bullets { bullet, min_width } => Some(Indent {
+            columns: bullet.columns(),
+            min_width: *min_width,
+        }),
+        CloseAction::Numbers {
             columns,
             min_width,
             ..

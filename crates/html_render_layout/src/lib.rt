@@ -1,6 +1,7 @@
 //! Layout of a render tree: the effect of each node on the block that it is laid out into.
 #![tactic(auto)]
 
+mod bullet;
 mod items;
 mod nesting;
 mod spaces;

@@ -1,16 +1,10 @@
 //! State of a layout, and the pending work of open nodes.
 
-ghost use Rattle.std.specs.Prelude.{◌≡◌, IfOk};
-ghost use Rattle.html_render_dom_values.specs.Outcome.{OnlyOutOfMemory};
-
-use html_render_dom_values::Error;
-use html_render_dom_values::text::Text;
+use crate::bullet::Bullet;
 use html_render_dom_values::white_space::WhiteSpace;
 use html_render_layout_estimates::settings::LayoutSettings;
 use html_render_layout_nodes::tree::Emphasis;
 use html_render_layout_tagged::laid_out::TextList;
-use std::alloc::Global;
-use std::marker::Model;
 
 /// Treatment of the texts that follow. After each node it is as it was before the node.
 #[derive(Clone, Copy)]
@@ -49,96 +43,46 @@ pub struct LayoutState<D, K, T, B> {
     pub names: TextList,
 }
 
-/// A suspended block, and how its sub-block's lines are appended.
+/// A suspended block, with its decorator.
 #[derive(Drop)]
-pub struct Outer<D, T, B> {
-    /// Decorator of the suspended block.
-    pub decorator: D,
-    /// The suspended block.
-    pub block: B,
-    /// Prefix of every line of the sub-block, or of its first line alone if it is indented.
-    pub prefix: Text,
-    /// Columns reserved for the prefix. If the sub-block is indented, also the number of spaces before each later line.
-    pub columns: usize,
-    /// Tag of the prefix and of these spaces.
-    pub tag: T,
-}
-
-/// A suspended block on the heap, so that moving it is cheap.
-#[derive(Drop)]
-pub struct SuspendedBlock<D, T, B> {
-    outer: Box<Outer<D, T, B>>,
-}
-
-impl<D, T, B> Model for SuspendedBlock<D, T, B> {
-    ghost use Rattle.html_render_layout.specs.declared.state.Outer.{Outer};
-
-    ghost Value = { Outer D T B };
-
-    ghost view = { λ i. i.outer.value };
-}
-
-impl<D: Drop, T: Drop, B: Drop> SuspendedBlock<D, T, B> {
-    /// Boxes a suspended block.
-    ///
-    /// # Errors
-    ///
-    /// `OutOfMemory`.
-    pub fn new(alloc: Global, outer: Outer<D, T, B>) -> Result<SuspendedBlock<D, T, B>, Error>
-        ensures ok { IfOk result (λ i. i ≡ outer) }
-        ensures err { OnlyOutOfMemory result }
-    {
-        let outer = Box::new(alloc, outer)?;
-        Ok(SuspendedBlock { outer })
-    }
-
-    /// Returns the suspended block, unboxed.
-    pub fn into_outer(self) -> Outer<D, T, B>
-        ensures { result ≡ self }
-    {
-        Box::into_inner(self.outer)
-    }
-}
-
-/// A block with an open row of a table, suspended by a cell of that row.
-#[derive(Drop)]
-pub struct OuterTable<D, B> {
+pub struct Outer<D, B> {
     /// Decorator of the suspended block.
     pub decorator: D,
     /// The suspended block.
     pub block: B,
 }
 
-/// The block that an open node suspends.
+/// The block that an open node suspends: `P` if lines of a sub-block are appended to it after a prefix, and `B` if it has the
+/// open table of a cell.
 #[derive(Drop)]
-pub enum Suspended<D, T, B> {
+pub enum Suspended<D, P, B> {
     /// None: the node is laid out into the block of its siblings.
     NoBlock,
     /// The block around a heading or a quote. Each line of the node is appended to it after the prefix.
-    Quoted(SuspendedBlock<D, T, B>),
+    Quoted(Outer<D, P>),
     /// The block around a child of a list, or around a description. The node's first line is appended to it after the
     /// prefix, and later lines after spaces.
-    Indented(SuspendedBlock<D, T, B>),
+    Indented(Outer<D, P>),
     /// The block with the open table that the node is a cell of.
-    Cell(OuterTable<D, B>),
+    Cell(Outer<D, B>),
 }
 
 /// Pending work of an open node, done after its children.
 #[derive(Drop)]
-pub struct OpenNode<D, T, B> {
+pub struct OpenNode<D, T, P, B> {
     /// Block that the node suspends as a child of a list or as a cell of a table.
-    pub item: Suspended<D, T, B>,
+    pub item: Suspended<D, P, B>,
     /// Treatment of texts before the node, which is restored.
     pub text: TextContext<T>,
     /// Closing action of the node's kind.
-    pub kind: CloseAction<D, T, B>,
+    pub kind: CloseAction<D, T, P, B>,
 }
 
 /// Closing action of a kind of node, done after the node's children.
 #[derive(Drop)]
-pub enum CloseAction<D, T, B> {
+pub enum CloseAction<D, T, P, B> {
     /// Resumes the outer block, if the node has a block of its own.
-    Nothing(Suspended<D, T, B>),
+    Nothing(Suspended<D, P, B>),
     /// Marks the block as at its end.
     EndBlock,
     /// Begins a new line.
@@ -147,8 +91,8 @@ pub enum CloseAction<D, T, B> {
     EndEmphasis(Emphasis),
     /// Does nothing: an unordered list. Each child is an item with a bullet.
     Bullets {
-        /// Columns of the bullet.
-        columns: usize,
+        /// Bullet of each item.
+        bullet: Bullet,
         /// Minimum width of an item without its bullet, in columns.
         min_width: usize,
     },
@@ -170,7 +114,7 @@ pub enum CloseAction<D, T, B> {
     EndLink(TextContext<T>, usize),
     /// Ends a table, and resumes the outer block if the table has a block of its own. The flag is whether the table is in
     /// another one, so that it has no fences.
-    EndTable(Suspended<D, T, B>, bool),
+    EndTable(Suspended<D, P, B>, bool),
     /// Ends a row of a table. Each child is a cell.
     EndRow,
 }

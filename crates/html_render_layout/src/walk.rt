@@ -238,16 +238,17 @@ fn padding<T: Tag>(settings: &LayoutSettings, tag: T) -> Option<T>
     }
 }
 
-/// Returns the empty block of a document.
+/// Returns the empty block of a document, under the tag without annotations.
 fn document_block<T: Tag>(
     alloc: Global,
     setting: BlockSetting,
     padding: Option<T>,
+    tag: T,
 ) -> Result<CurrentBlock<T, usize>, Error>
     ensures ok { IfOk result (λ held. held ≡ empty_block machine setting padding) }
     ensures err { OnlyOutOfMemory result }
 {
-    CurrentBlock::new(alloc, Block::new(alloc, setting, padding))
+    CurrentBlock::new(alloc, Block::new(alloc, setting, padding), tag)
 }
 
 /// Lays out a tree in a block. Returns its lines with their annotation stacks and the names of their marks.
@@ -297,7 +298,7 @@ pub fn lay_out<D: TextDecorator>(
         return Err(Error::TooNarrow);
     }
     let own = prepare(alloc, decorator, settings, tree)?;
-    let block = document_block(alloc, block, padding(settings, 0))?;
+    let block = document_block(alloc, block, padding(settings, 0), 0)?;
     let state = begin_with(
         alloc,
         own.settings,
@@ -349,7 +350,7 @@ pub fn lay_out_untagged<D: TextDecorator>(
         return Err(Error::TooNarrow);
     }
     let own = prepare(alloc, decorator, settings, tree)?;
-    let block = document_block(alloc, block, padding(settings, ()))?;
+    let block = document_block(alloc, block, padding(settings, ()), ())?;
     let state = begin_with(alloc, own.settings, own.decorator, Untagged, (), block);
     untagged_lines_from(alloc, &own.tree, state)
 }

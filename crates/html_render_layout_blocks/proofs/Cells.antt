@@ -1,16 +1,13 @@
 -- Adding a cell, and ending a row, by the place of the next cell.
-use Rattle.std.proofs.Common.{◌≡◌, ℕ, List, ◌++◌, Bool, true, false, not, Option, Some, None, option_map, refl, sym, ap, ◌∙◌}
+use Rattle.std.proofs.Common.{◌≡◌, Bool, true, false, not, Option, Some, None, option_map, refl, sym, ap, ◌∙◌}
 use Rattle.html_render_layout_blocks.specs.declared.block.cells.CellPlace.{CellPlace}
 use Rattle.html_render_layout_blocks.specs.declared.block.cells.CellPlace.TheVariants.{InRow, InStack, Below}
 use Rattle.html_render_layout_blocks.specs.declared.block.tables.OpenTable.{OpenTable}
 use Rattle.html_render_layout_blocks.specs.declared.block.tables.OpenTable.TheVariants.{Across, Stacked}
 use Rattle.std.specs.Option.{is_some}
-use Rattle.html_render_parts.specs.declared.table.PlacedCell.{PlacedCell}
-use Rattle.html_render_layout_lines.specs.Line.{Line}
 use Rattle.html_render_layout_pictures.specs.Drawing.{Drawing}
-use Rattle.html_render_layout_blocks.specs.OpenRows.{OpenRow}
-use Rattle.html_render_layout_blocks.specs.Tables.{with_next, with_row_over, with_open, with_ahead, cell_place}
-use Rattle.html_render_layout_blocks.specs.Block.{flush, feed, mark_items, end_open, end_table, put_lines, put_stacked, stacked_begun, cell_added, row_ended}
+use Rattle.html_render_layout_blocks.specs.Tables.{with_next, with_row_over, cell_place}
+use Rattle.html_render_layout_blocks.specs.Block.{flush, put_lines, put_stacked, stacked_begun, cell_added, row_ended}
 use Rattle.html_render_layout_lines.specs.Line.{is_empty}
 use Rattle.html_render_layout_blocks.specs.Machine.{machine, MachineBlock}
 
@@ -50,16 +47,6 @@ module _ {T M : Type 0} where
       by (Some (Across p ws ahead (Some row))) t = refl
       by (Some (Stacked border true)) t = refl
       by (Some (Stacked border false)) t = refl
-
-  -- Block whose table is ended, by the lines and marks of the table's picture.
-  pub table_ended : (b d : MachineBlock T M) (picture : Drawing T M) (widths : List ℕ) (ahead : List (List PlacedCell)) (row : Option (OpenRow T M))
-      (lines : List (Line T M)) (waiting : List M) → b.table ≡ Some (Across picture widths ahead row) →
-      ◌≡◌ {A = List (Line T M) × List M} (lines, waiting) (machine.drawn (with_ahead machine widths ahead (with_open machine picture row))) →
-      d ≡ feed machine (record b { lines = b.lines ++ lines; table = None }) (mark_items waiting) → d ≡ end_table machine b
-  table_ended b d picture widths ahead row lines waiting table drawn after =
-      after
-      ∙ ap (λ (p : List (Line T M) × List M). feed machine (record b { lines = b.lines ++ p.0; table = None }) (mark_items p.1)) drawn
-      ∙ sym (ap (end_open machine b) table)
 
 -- An option that isn't some is none.
 pub none_is : {X : Type 0} (o : Option X) (b : Bool) → is_some o ≡ not b → b ≡ true → o ≡ None

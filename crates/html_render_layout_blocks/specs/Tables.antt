@@ -1,6 +1,7 @@
 -- The open table of a block: side by side or stacked.
-use Rattle.std.specs.Prelude.{ℕ, ◌+◌, ◌-◌, ◌==◌, Bool, false, not, List, [], ◌∷◌, sum, fold, count_by, Option, Some, None, drop, slice_index_or}
+use Rattle.std.specs.Prelude.{ℕ, ◌+◌, ◌-◌, ◌==◌, Bool, false, not, List, [], ◌∷◌, ◌++◌, sum, fold, count_by, Option, Some, None, drop, slice_index_or}
 use Rattle.html_render_parts.specs.declared.table.PlacedCell.{PlacedCell}
+use Rattle.html_render_layout_lines.specs.Line.{Line}
 use Rattle.html_render_layout_pictures.specs.declared.picture.Frame.{Frame}
 use Rattle.html_render_layout_pictures.specs.Picture.{KeptCell, TableRow}
 use Rattle.html_render_layout_blocks.specs.declared.block.tables.OpenTable.{OpenTable}
@@ -62,3 +63,11 @@ module _ {P R T M : Type 0} (parts : Parts P R T M) where
   -- them, in which no cell begins.
   abbrev pub with_ahead : (widths : List ℕ) → (ahead : List (List PlacedCell)) → R → R
   with_ahead widths ahead picture = fold (λ p cells. parts.with_row p (whole_row (open_row widths cells))) picture ahead
+
+  -- Lines with those of an ended table at their end, and the marks that wait after them. The lines of a stacked table are
+  -- among them already.
+  abbrev pub with_table : List (Line T M) → OpenTable R T M → List (Line T M) × List M
+  with_table lines (Across picture widths ahead row) =
+      let p = parts.drawn (with_ahead widths ahead (with_open picture row)) in
+      (lines ++ p.0, p.1)
+  with_table lines (Stacked border has_lines) = (lines, [])

@@ -26,12 +26,11 @@ use html_render_layout_buffer::prefix::Prefix;
 use html_render_layout_lines::character::{TextStyle, is_collapsible};
 use html_render_layout_lines::tag::Tag;
 use html_render_layout_paragraphs::paragraph::Paragraph;
-use html_render_layout_pictures::picture::Picture;
 use padding::flush_padded;
 use std::alloc::{AllocError, Global};
 use std::marker::Model;
 use std::mem;
-use tables::OpenTable;
+use tables::BlockTable;
 
 mod cells;
 mod closing;
@@ -71,11 +70,10 @@ pub struct Block<T, M> {
     /// Whether a block-level part has just ended in this block, so that the next text that isn't blank starts another one.
     at_block_end: bool,
     /// Open table; `None` if no table is open.
-    table: Option<Box<OpenTable<Picture<T, M>, T, M>>>,
+    table: BlockTable<T, M>,
 }
 
 impl<T, M> Model for Block<T, M> {
-    ghost use Rattle.std.specs.Prelude.{option_map};
     ghost use Rattle.html_render_layout_blocks.specs.Machine.{MachineBlock};
 
     ghost Value = { MachineBlock T M };
@@ -86,7 +84,7 @@ impl<T, M> Model for Block<T, M> {
       lines = b.lines;
       paragraph = b.paragraph;
       at_block_end = b.at_block_end;
-      table = option_map (λ t. t.value) b.table;
+      table = b.table;
     } };
 }
 
@@ -159,7 +157,7 @@ impl<T: Tag, M: Copy> Block<T, M> {
             lines: FinishedLines::new(alloc),
             paragraph,
             at_block_end: false,
-            table: None,
+            table: BlockTable::none(),
         }
     }
 
@@ -215,7 +213,7 @@ impl<T: Tag, M: Copy> Block<T, M> {
         self.padding = outer.padding;
         self.lines.clear();
         self.at_block_end = false;
-        self.table = None;
+        self.table.close();
     }
 
     /// Returns the columns of a sub-block after a prefix of `prefix` columns, at least `inner`. Returns `None`, with

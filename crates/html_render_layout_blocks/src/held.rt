@@ -1,4 +1,8 @@
 //! Boxed blocks, so that moving one is cheap, and the current block with a pool of finished ones.
+//!
+//! `current.suspend(sub, prefix, columns, tag)` suspends the current block for a sub-block, and
+//! `current.resume(suspended)` returns to it. The box of a block has room for the prefix of its sub-block's lines, so
+//! neither needs an allocation.
 
 ghost use Rattle.std.specs.Prelude.{◌≡◌, Some, OnOk, IfOk, IfErr, map, option_and_then, string_bytes};
 ghost use Rattle.std.specs.Borrow.{sem};
@@ -11,16 +15,33 @@ ghost use Rattle.html_render_layout_blocks.specs.Machine.{machine};
 
 use crate::block::Block;
 use html_render_dom_values::Error;
+use html_render_dom_values::small_text::SmallText;
 use html_render_layout_buffer::finished::FinishedLines;
 use html_render_layout_lines::tag::Tag;
 use std::alloc::{AllocError, Global};
 use std::marker::Model;
 use std::mem;
 
-/// A boxed block. Moving it moves one pointer.
+/// Text of a prefix. Up to 30 bytes need no allocation.
+pub type PrefixText = SmallText<30>;
+
+/// A block, and how the lines of its sub-block are appended to it.
+#[derive(Drop)]
+pub struct Prefixing<B, T> {
+    /// The block.
+    pub block: B,
+    /// Prefix of every line of the sub-block, or of its first line alone if it is indented.
+    pub prefix: PrefixText,
+    /// Columns reserved for the prefix. If the sub-block is indented, also the number of spaces before each later line.
+    pub columns: usize,
+    /// Tag of the prefix and of these spaces.
+    pub tag: T,
+}
+
+/// A boxed block. Moving it moves one pointer. The prefix in the box has no meaning.
 #[derive(Drop)]
 pub struct BoxedBlock<T, M> {
-    block: Box<Block<T, M>>,
+    held: Box<Prefixing<Block<T, M>, T>>,
 }
 
 impl<T, M> Model for BoxedBlock<T, M> {
@@ -28,18 +49,42 @@ impl<T, M> Model for BoxedBlock<T, M> {
 
     ghost Value = { MachineBlock T M };
 
-    ghost view = { λ h. h.block.value };
+    ghost view = { λ h. h.held.value.block };
 }
 
-impl<T: Tag, M: Copy> BoxedBlock<T, M> {
-    /// Boxes a block.
-    fn new(alloc: Global, block: Block<T, M>) -> Result<BoxedBlock<T, M>, Error>
-        ensures ok { IfOk result (λ held. held ≡ block) }
-        ensures err { OnlyOutOfMemory result }
-    {
-        let block = Box::new(alloc, block)?;
-        Ok(BoxedBlock { block })
-    }
+/// A boxed block that waits for its sub-block, whose lines are then appended to it.
+#[derive(Drop)]
+pub struct SuspendedBlock<T, M> {
+    held: Box<Prefixing<Block<T, M>, T>>,
+}
+
+impl<T, M> Model for SuspendedBlock<T, M> {
+    ghost use Rattle.html_render_layout_blocks.specs.Machine.{MachineBlock};
+    ghost use Rattle.html_render_layout_blocks.specs.declared.held.Prefixing.{Prefixing};
+
+    ghost Value = { Prefixing (MachineBlock T M) T };
+
+    ghost view = { λ h. h.held.value };
+}
+
+/// Boxes a block under the prefix of no sub-block.
+fn boxed<T: Tag, M: Copy>(
+    alloc: Global,
+    block: Block<T, M>,
+    tag: T,
+) -> Result<Box<Prefixing<Block<T, M>, T>>, Error>
+    ensures ok { IfOk result (λ held. held.value.block ≡ block) }
+    ensures err { OnlyOutOfMemory result }
+{
+    Ok(Box::new(
+        alloc,
+        Prefixing {
+            block,
+            prefix: PrefixText::new(),
+            columns: 0,
+            tag,
+        },
+    )?)
 }
 
 /// Maximum number of finished blocks pooled for reuse.
@@ -48,10 +93,10 @@ const POOL_MAX: usize = 16;
 /// The current block, which receives contents, and a pool of finished blocks.
 #[derive(Drop)]
 pub struct CurrentBlock<T, M> {
-    /// Current block.
-    held: Box<Block<T, M>>,
+    /// Current block. The prefix in the box has no meaning.
+    held: Box<Prefixing<Block<T, M>, T>>,
     /// Finished blocks, pooled for reuse.
-    spare: Vec<Box<Block<T, M>>>,
+    spare: Vec<Box<Prefixing<Block<T, M>, T>>>,
 }
 
 impl<T, M> Model for CurrentBlock<T, M> {
@@ -59,20 +104,20 @@ impl<T, M> Model for CurrentBlock<T, M> {
 
     ghost Value = { MachineBlock T M };
 
-    ghost view = { λ h. h.held.value };
+    ghost view = { λ h. h.held.value.block };
 }
 
 impl<T: Tag, M: Copy> CurrentBlock<T, M> {
-    /// Makes a block the current one, with an empty pool.
+    /// Makes a block the current one, with an empty pool. Any tag will do for `tag`: it fills the room for that of a prefix.
     ///
     /// # Errors
     ///
     /// `OutOfMemory`.
-    pub fn new(alloc: Global, block: Block<T, M>) -> Result<CurrentBlock<T, M>, Error>
+    pub fn new(alloc: Global, block: Block<T, M>, tag: T) -> Result<CurrentBlock<T, M>, Error>
         ensures ok { IfOk result (λ b. b ≡ block) }
         ensures err { OnlyOutOfMemory result }
     {
-        let held = Box::new(alloc, block)?;
+        let held = boxed(alloc, block, tag)?;
         Ok(CurrentBlock {
             held,
             spare: Vec::new(alloc),
@@ -85,7 +130,8 @@ impl<T: Tag, M: Copy> CurrentBlock<T, M> {
         ensures* writes_back { sem 𝓛 (lends_block T.row M.row self.entry result) }
         ensures value { result.now ≡ self.old }
     {
-        self.held.as_mut()
+        let held = self.held.as_mut();
+        &mut held.block
     }
 
     /// Makes `block` the current one. Returns the previous one.
@@ -94,19 +140,57 @@ impl<T: Tag, M: Copy> CurrentBlock<T, M> {
         ensures after { self.new ≡ block }
     {
         BoxedBlock {
-            block: mem::replace(&mut self.held, block.block),
+            held: mem::replace(&mut self.held, block.held),
+        }
+    }
+
+    /// Makes the sub-block `sub` the current one. Returns the previous one, to which the lines of the sub-block are to be
+    /// appended after `prefix`, for which `columns` columns are reserved, under `tag`.
+    pub fn suspend(
+        &mut self,
+        sub: BoxedBlock<T, M>,
+        prefix: PrefixText,
+        columns: usize,
+        tag: T,
+    ) -> SuspendedBlock<T, M>
+        ensures before { result ≡ record { block = self.old; prefix = prefix; columns = columns; tag = tag } }
+        ensures after { self.new ≡ sub }
+    {
+        let mut held = mem::replace(&mut self.held, sub.held);
+        held.prefix = prefix;
+        held.columns = columns;
+        held.tag = tag;
+        SuspendedBlock { held }
+    }
+
+    /// Makes a suspended block the current one. Returns its sub-block, which was the current one, with the prefix for its
+    /// lines.
+    pub fn resume(&mut self, outer: SuspendedBlock<T, M>) -> Prefixing<BoxedBlock<T, M>, T>
+        ensures before { result ≡ record outer { block = self.old } }
+        ensures after { self.new ≡ outer.block }
+    {
+        let mut held = outer.held;
+        let prefix = mem::replace(&mut held.prefix, PrefixText::new());
+        let columns = held.columns;
+        let tag = held.tag;
+        let sub = mem::replace(&mut self.held, held);
+        Prefixing {
+            block: BoxedBlock { held: sub },
+            prefix,
+            columns,
+            tag,
         }
     }
 
     /// Takes a block from the pool, if there is one.
-    fn take_spare(&mut self) -> Option<Box<Block<T, M>>>
+    fn take_spare(&mut self) -> Option<Box<Prefixing<Block<T, M>, T>>>
         ensures { self.new ≡ self.old }
     {
         self.spare.pop()
     }
 
     /// Returns a finished block to the pool, or drops it if the pool is full.
-    fn keep(&mut self, over: Box<Block<T, M>>) -> Result<(), AllocError>
+    fn keep(&mut self, over: Box<Prefixing<Block<T, M>, T>>) -> Result<(), AllocError>
         ensures { OnOk result (self.new ≡ self.old) }
     {
         if self.spare.len() < POOL_MAX {
@@ -116,12 +200,12 @@ impl<T: Tag, M: Copy> CurrentBlock<T, M> {
     }
 
     /// Resets a pooled block to an empty block of `width` columns in the current one.
-    fn renewed(&self, spare: Box<Block<T, M>>, width: usize) -> BoxedBlock<T, M>
+    fn renewed(&self, spare: Box<Prefixing<Block<T, M>, T>>, width: usize) -> BoxedBlock<T, M>
         ensures { result ≡ block.inner_block machine self.now width }
     {
-        let mut block = spare;
-        block.become_inner(&self.held, width);
-        BoxedBlock { block }
+        let mut held = spare;
+        held.block.become_inner(&self.held.block, width);
+        BoxedBlock { held }
     }
 
     /// Returns an empty block of `width` columns in the current one, from the pool if possible.
@@ -133,7 +217,9 @@ impl<T: Tag, M: Copy> CurrentBlock<T, M> {
         if let Some(spare) = self.take_spare() {
             return Ok(self.renewed(spare, width));
         }
-        BoxedBlock::new(self.held.alloc(), self.held.inner_block(width))
+        let block = self.held.block.inner_block(width);
+        let held = boxed(self.held.block.alloc(), block, self.held.tag)?;
+        Ok(BoxedBlock { held })
     }
 
     /// Returns an empty sub-block for the columns after a prefix of `prefix` columns. It has at least `inner` columns.
@@ -148,7 +234,7 @@ impl<T: Tag, M: Copy> CurrentBlock<T, M> {
         ensures ok { IfOk result (λ sub. machine.operations.sub_block self.old prefix inner ≡ Some sub) }
         ensures err { IfErr result (λ e. Refuses e (machine.operations.sub_block self.old prefix inner)) }
     {
-        match self.held.width_behind(prefix, inner) {
+        match self.held.block.width_behind(prefix, inner) {
             Some(width) => self.inner_block(width),
             None => Err(Error::TooNarrow),
         }
@@ -165,8 +251,8 @@ impl<T: Tag, M: Copy> CurrentBlock<T, M> {
         ensures ok { OnOk result (option_and_then (λ _. machine.operations.new_line self.old) (machine.operations.sub_block self.old prefix inner) ≡ Some self.new) }
         ensures err { IfErr result (λ e. Refuses e (option_and_then (λ _. machine.operations.new_line self.old) (machine.operations.sub_block self.old prefix inner))) }
     {
-        match self.held.width_behind(prefix, inner) {
-            Some(_) => self.held.new_line(),
+        match self.held.block.width_behind(prefix, inner) {
+            Some(_) => self.held.block.new_line(),
             None => Err(Error::TooNarrow),
         }
     }
@@ -184,7 +270,7 @@ impl<T: Tag, M: Copy> CurrentBlock<T, M> {
         ensures ok { IfOk result (λ cell. cell ≡ machine.operations.cell_block self.old) }
         ensures err { OnlyOutOfMemory result }
     {
-        match self.held.next_cell_width() {
+        match self.held.block.next_cell_width() {
             Some(width) => Ok(Some(self.inner_block(width)?)),
             None => Ok(None),
         }
@@ -200,8 +286,8 @@ impl<T: Tag, M: Copy> CurrentBlock<T, M> {
         ensures ok { OnOk result (machine.operations.add_cell self.old cell ≡ Some self.new) }
         ensures err { IfErr result (λ e. Refuses e (machine.operations.add_cell self.old cell)) }
     {
-        let mut inner = cell.block;
-        self.held.add_cell(&mut inner)?;
+        let mut inner = cell.held;
+        self.held.block.add_cell(&mut inner.block)?;
         self.keep(inner)?;
         Ok(())
     }
@@ -222,8 +308,8 @@ impl<T: Tag, M: Copy> CurrentBlock<T, M> {
         ensures ok { OnOk result (machine.operations.append self.old sub tag (chars first.now) (chars later.now) ≡ Some self.new) }
         ensures err { IfErr result (λ e. Refuses e (machine.operations.append self.old sub tag (chars first.now) (chars later.now))) }
     {
-        let mut inner = sub.block;
-        self.held.append(&mut inner, tag, first, later)?;
+        let mut inner = sub.held;
+        self.held.block.append(&mut inner.block, tag, first, later)?;
         self.keep(inner)?;
         Ok(())
     }
@@ -237,7 +323,7 @@ impl<T: Tag, M: Copy> CurrentBlock<T, M> {
         ensures ok { OnOk result (machine.ending.finish self.old ≡ Some self.new) }
         ensures err { IfErr result (λ e. Refuses e (machine.ending.finish self.old)) }
     {
-        self.held.finish()
+        self.held.block.finish()
     }
 
     /// Appends closing lines to the current block, as [`Block::add_closing_lines`] does.
@@ -249,13 +335,13 @@ impl<T: Tag, M: Copy> CurrentBlock<T, M> {
         ensures ok { OnOk result (machine.ending.add_closing_lines self.old cut tag (map (λ t. chars (string_bytes t)) texts.now) ≡ Some self.new) }
         ensures err { IfErr result (λ e. Refuses e (machine.ending.add_closing_lines self.old cut tag (map (λ t. chars (string_bytes t)) texts.now))) }
     {
-        self.held.add_closing_lines(texts, tag, cut)
+        self.held.block.add_closing_lines(texts, tag, cut)
     }
 
     /// Removes and returns the finished lines of the current block.
     pub fn take_lines(&mut self) -> FinishedLines<T, M>
         ensures { result ≡ self.old.lines }
     {
-        self.held.take_lines()
+        self.held.block.take_lines()
     }
 }

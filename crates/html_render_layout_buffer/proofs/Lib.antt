@@ -4,4 +4,3 @@ pub mod Growing
 pub mod WordParts
 pub mod PieceLines
 pub mod PartLines
-pub mod KnownPieces

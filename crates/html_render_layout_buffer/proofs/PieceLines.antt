@@ -2,7 +2,10 @@
 use Rattle.std.proofs.Common.{◌≡◌, ℕ, zero, suc, ◌+◌, ◌-◌, ◌<◌, ◌≤◌, Bool, true, false, ◌&&◌, nat_le, List, [], ◌∷◌, ◌++◌, Some, map, take, drop, length, get_or, reverse, refl, sym, ap, ◌∙◌, subst, arith, append_assoc, append-nil, length-append}
 use Rattle.std.specs.List.{list_all}
 use Rattle.std.proofs.Math.Bool.{and-false}
-use Rattle.std.proofs.lemmas.List.{map-append, reverse-append, reverse-reverse, nil_from_length}
+use Rattle.std.proofs.Math.Seq.{take-append_seam, drop-append_seam}
+use Rattle.std.proofs.Math.Seq.{get_or-append_right}
+use Rattle.std.proofs.Math.ListN.{get_or-append}
+use Rattle.std.proofs.lemmas.List.{map-append, take_more, drop_more, take_all, drop_all, take-append-drop, length-map, length-take-le, length-drop, get_or-drop, get_or-take, reverse-append, reverse-reverse, nil_from_length}
 use Rattle.std.proofs.lemmas.List.Concat.{flat_map-append}
 use Rattle.std.proofs.lemmas.List.Elements.{All-nil, All-cons, All-append, All-head, All-tail, All-map, All-more}
 use Rattle.std.proofs.lemmas.List.Folds.{map_fixed, list_all-append}
@@ -12,8 +15,44 @@ use Rattle.html_render_layout_lines.specs.laws.Columns.{columns-append, columns-
 use Rattle.html_render_layout_buffer.specs.Marked.{marked_before, marked_behind}
 use Rattle.html_render_layout_buffer.specs.Padding.{repeated, filled_line, filled}
 use Rattle.html_render_layout_buffer.specs.Prefixed.{prefixed}
-use Rattle.html_render_layout_buffer.specs.Pieces.{with_front, lines_of, AllAtLeast, fits_after}
+use Rattle.html_render_layout_buffer.specs.Pieces.{with_front, lines_of, AllAtLeast, ArePieces, fits_after}
 use Rattle.html_render_layout_buffer.proofs.Growing.{part-more}
+
+-- ---- lists that are turned
+
+-- the last part of a list comes to its front
+pub turned : {X : Type 0} (xs ys zs : List X) (k : ℕ) → zs ≡ xs ++ ys → k ≡ length ys → drop (length zs - k) zs ++ take (length zs - k) zs ≡ ys ++ xs
+turned xs ys zs k e h =
+    let here : length zs - k ≡ length xs = omega (arith, h, ap length e, length-append xs ys) in
+    rw (here, e) (ap (λ l. l ++ take (length xs) (xs ++ ys)) (drop-append_seam xs ys) ∙ ap (λ l. ys ++ l) (take-append_seam xs ys))
+
+-- the first element goes to the end, changed
+pub one-turn : {X : Type 0} (f : X → X) (xs rest : List X) (i : ℕ) (p : X) → i < length xs → drop i xs ++ map f (take i xs) ≡ p ∷ rest →
+    rest ++ f p ∷ [] ≡ drop (i + 1) xs ++ map f (take (i + 1) xs)
+one-turn f xs rest i p h e =
+    let x = get_or xs i p in
+    let whole : x ∷ (drop (i + 1) xs ++ map f (take i xs)) ≡ p ∷ rest = ap (λ l. l ++ map f (take i xs)) (sym (drop_more xs i p h)) ∙ e in
+    let head : x ≡ p = ap (λ l. get_or l 0 p) whole in
+    let tail : drop (i + 1) xs ++ map f (take i xs) ≡ rest = ap (drop 1) whole in
+    ap (λ l. l ++ f p ∷ []) (sym tail) ∙ append_assoc (drop (i + 1) xs) (map f (take i xs)) (f p ∷ [])
+    ∙ ap (λ y. drop (i + 1) xs ++ (map f (take i xs) ++ f y ∷ [])) (sym head)
+    ∙ ap (λ l. drop (i + 1) xs ++ l) (sym (ap (map f) (take_more xs i p h) ∙ map-append f (take i xs) (x ∷ [])))
+
+-- the outer parts of a list are changed: its last part is turned to the front, both go to the end in turn, and the first part to the front again
+pub outer-changed : {X : Type 0} (f : X → X) (xs ys zs all turn end : List X) (first last count more : ℕ) → count ≡ length all → more ≡ length end → all ≡ xs ++ (ys ++ zs) → first ≡ length xs → last ≡ length zs →
+    turn ≡ drop (count - last) all ++ take (count - last) all →
+    end ≡ drop (first + last) turn ++ map f (take (first + last) turn) →
+    drop (more - first) end ++ take (more - first) end ≡ map f xs ++ (ys ++ map f zs)
+outer-changed f xs ys zs all turn end first last count more m n e a b t u =
+    let turn_is : turn ≡ (zs ++ xs) ++ ys = t ∙ ap (λ k. drop (k - last) all ++ take (k - last) all) m ∙ turned (xs ++ ys) zs all last (e ∙ sym (append_assoc xs ys zs)) b ∙ sym (append_assoc zs xs ys) in
+    let both : first + last ≡ length (zs ++ xs) = omega (arith, a, b, length-append zs xs) in
+    let end_is : end ≡ (ys ++ map f zs) ++ map f xs =
+    u ∙ ap (λ k. drop k turn ++ map f (take k turn)) both
+    ∙ ap (λ l. drop (length (zs ++ xs)) l ++ map f (take (length (zs ++ xs)) l)) turn_is
+    ∙ ap (λ l. l ++ map f (take (length (zs ++ xs)) ((zs ++ xs) ++ ys))) (drop-append_seam (zs ++ xs) ys)
+    ∙ ap (λ l. ys ++ map f l) (take-append_seam (zs ++ xs) ys)
+    ∙ ap (λ l. ys ++ l) (map-append f zs xs) ∙ sym (append_assoc ys (map f zs) (map f xs)) in
+    ap (λ k. drop (k - first) end ++ take (k - first) end) n ∙ turned (ys ++ map f zs) (map f xs) end first end_is (a ∙ sym (length-map xs f))
 
 -- ---- all of some
 
@@ -58,13 +97,6 @@ module _ {T M : Type 0} where
   pub least-right : (n : ℕ) (xs ys : List (Line T M)) → AllAtLeast n (xs ++ ys) → AllAtLeast n ys
   least-right n [] ys all = all
   least-right n (x ∷ xs) ys all = least-right n xs ys (All-tail (λ (l : Line T M). n ≤ columns l) x (xs ++ ys) all)
-
-  pub least-front : (n : ℕ) (f : Line T M) (ls : List (Line T M)) → AllAtLeast n ls → AllAtLeast n (with_front f ls)
-  least-front n f [] all = all
-  least-front n f (l ∷ ls) all =
-      let here : n ≤ columns l = All-head (λ (l : Line T M). n ≤ columns l) l ls all in
-      All-cons (λ (l : Line T M). n ≤ columns l) (f ++ l) ls (omega (arith, here, columns-append f l))
-      (All-tail (λ (l : Line T M). n ≤ columns l) l ls all)
 
   filled-least : (tag : T) (w : ℕ) (l : Line T M) → w ≤ columns (filled_line tag w l)
   filled-least tag w l = omega (arith, columns-append l (repeated tag 32 (w - columns l)), repeated-spaces M tag (w - columns l))
@@ -118,6 +150,11 @@ module _ {T M : Type 0} where
       by (l ∷ []) = ap (λ x. x ∷ []) (append-nil l)
       by (l ∷ k ∷ ls) = ap (λ x. l ∷ x) (by (k ∷ ls))
 
+  pub length-behind : (ms : List M) (p : List (Line T M)) → length (marked_behind ms p) ≡ length p
+  length-behind ms [] = refl
+  length-behind ms (l ∷ []) = refl
+  length-behind ms (l ∷ j ∷ ls) = ap suc (length-behind ms (j ∷ ls))
+
   -- the last line is that of the last lines
   pub marked-behind : (ms : List M) (xs ls : List (Line T M)) → 0 < length ls → marked_behind ms (xs ++ ls) ≡ xs ++ marked_behind ms ls
   marked-behind ms xs [] h = absurd (omega (arith, h))
@@ -151,6 +188,138 @@ module _ {T M : Type 0} where
 
   pub lines_of-end : (ps : List (List (Line T M))) (p : List (Line T M)) → lines_of (ps ++ p ∷ []) ≡ lines_of ps ++ p
   lines_of-end ps p = lines_of-append ps (p ∷ []) ∙ ap (λ l. lines_of ps ++ l) (append-nil p)
+
+  pub lines-filled : (tag : T) (w : ℕ) (ps : List (List (Line T M))) → lines_of (map (filled (Some tag) w) ps) ≡ filled (Some tag) w (lines_of ps)
+  lines-filled tag w [] = refl
+  lines-filled tag w (p ∷ ps) =
+      ap (λ l. filled (Some tag) w p ++ l) (lines-filled tag w ps) ∙ sym (map-append (filled_line tag w) p (lines_of ps))
+
+  -- outer pieces are filled, and those between them are as wide
+  pub outer-filled : (tag : T) (w n : ℕ) (xs ys zs : List (List (Line T M))) → AllAtLeast n (lines_of ys) → w ≤ n →
+      lines_of (map (filled (Some tag) w) xs ++ (ys ++ map (filled (Some tag) w) zs)) ≡ filled (Some tag) w (lines_of (xs ++ (ys ++ zs)))
+  outer-filled tag w n xs ys zs all h =
+      let fill : List (Line T M) → List (Line T M) = filled (Some tag) w in
+      lines_of-append (map fill xs) (ys ++ map fill zs)
+      ∙ ap (λ l. lines_of (map fill xs) ++ l) (lines_of-append ys (map fill zs))
+      ∙ ap (λ l. l ++ (lines_of ys ++ lines_of (map fill zs))) (lines-filled tag w xs)
+      ∙ ap (λ l. fill (lines_of xs) ++ (l ++ lines_of (map fill zs))) (sym (wide_filled tag w n (lines_of ys) all h))
+      ∙ ap (λ l. fill (lines_of xs) ++ (fill (lines_of ys) ++ l)) (lines-filled tag w zs)
+      ∙ sym (ap fill (lines_of-append xs (ys ++ zs) ∙ ap (λ l. lines_of xs ++ l) (lines_of-append ys zs))
+      ∙ map-append (filled_line tag w) (lines_of xs) (lines_of ys ++ lines_of zs)
+      ∙ ap (λ l. fill (lines_of xs) ++ l) (map-append (filled_line tag w) (lines_of ys) (lines_of zs)))
+
+  -- ---- what is known of pieces
+
+  pub length-lines : (ps qs : List (List (Line T M))) → length (lines_of (ps ++ qs)) ≡ length (lines_of ps) + length (lines_of qs)
+  length-lines ps qs = ap length (lines_of-append ps qs) ∙ length-append (lines_of ps) (lines_of qs)
+
+  pub one-lines : (p : List (Line T M)) → length (lines_of (p ∷ [])) ≡ length p
+  one-lines p = ap length (append-nil p)
+
+  count-of : (ps qs : List (List (Line T M))) → ps ≡ qs → length (lines_of ps) ≡ length (lines_of qs)
+  count-of ps qs e = ap (λ (y : List (List (Line T M))). length (lines_of y)) e
+
+  pub rest-count : (ps rs : List (List (Line T M))) (p : List (Line T M)) → ps ≡ p ∷ rs → length (lines_of ps) ≡ length p + length (lines_of rs)
+  rest-count ps rs p e = count-of ps (p ∷ rs) e ∙ length-append p (lines_of rs)
+
+  pub but-last-count : (ps rs : List (List (Line T M))) (p : List (Line T M)) → ps ≡ rs ++ p ∷ [] → length (lines_of ps) ≡ length p + length (lines_of rs)
+  but-last-count ps rs p e = omega (arith, count-of ps (rs ++ p ∷ []) e, length-lines rs (p ∷ []), one-lines p)
+
+  -- pieces at the end, or in front
+  pub known-end : (front back least count more all : ℕ) (ps qs rs : List (List (Line T M))) → ArePieces front back least count ps → rs ≡ ps ++ qs →
+      more ≡ back + length qs → all ≡ count + length (lines_of qs) → ArePieces front more least all rs
+  known-end front back least count more all ps qs rs is e f h = record {
+    wide = λ i k l.
+        let inside : i < length ps = omega (arith, l, f, ap length e, length-append ps qs) in
+        subst (λ y. AllAtLeast least y) (sym (get_or-append ps qs [] i inside) ∙ ap (λ y. get_or y i []) (sym e)) (is.wide i k (omega (arith, l, f, ap length e, length-append ps qs)));
+    counts = omega (arith, h, is.counts, count-of rs (ps ++ qs) e, length-lines ps qs);
+  }
+
+  pub known-front : (front back least count more all : ℕ) (ps qs rs : List (List (Line T M))) → ArePieces front back least count ps → rs ≡ qs ++ ps →
+      more ≡ length qs + front → all ≡ length (lines_of qs) + count → ArePieces more back least all rs
+  known-front front back least count more all ps qs rs is e f h = record {
+    wide = λ i k l.
+        let outside : length qs ≤ i = omega (arith, k, f) in
+        subst (λ y. AllAtLeast least y) (sym (get_or-append_right qs ps i [] outside) ∙ ap (λ y. get_or y i []) (sym e))
+        (is.wide (i - length qs) (omega (arith, k, f)) (omega (arith, l, k, f, ap length e, length-append qs ps)));
+    counts = omega (arith, h, is.counts, count-of rs (qs ++ ps) e, length-lines qs ps);
+  }
+
+  -- the first or last piece is taken out
+  pub known-rest : (front back least count more all : ℕ) (ps rs : List (List (Line T M))) (p : List (Line T M)) → ArePieces front back least count ps → ps ≡ p ∷ rs →
+      more ≡ front - 1 → all + length p ≡ count → ArePieces more back least all rs
+  known-rest front back least count more all ps rs p is e f h = record {
+    wide = λ i k l. subst (λ y. AllAtLeast least y) (ap (λ y. get_or y (suc i) []) e) (is.wide (suc i) (omega (arith, k, f)) (omega (arith, l, ap length e)));
+    counts = omega (arith, h, is.counts, rest-count ps rs p e);
+  }
+
+  pub known-but-last : (front back least count more all : ℕ) (ps rs : List (List (Line T M))) (p : List (Line T M)) → ArePieces front back least count ps →
+      ps ≡ rs ++ p ∷ [] → more ≡ back - 1 → all + length p ≡ count → ArePieces front more least all rs
+  known-but-last front back least count more all ps rs p is e f h = record {
+    wide = λ i k l.
+        let inside : i < length rs = omega (arith, l) in
+        subst (λ y. AllAtLeast least y) (ap (λ y. get_or y i []) e ∙ get_or-append rs (p ∷ []) [] i inside)
+        (is.wide i k (omega (arith, l, f, ap length e, length-append rs (p ∷ []))));
+    counts = omega (arith, h, is.counts, but-last-count ps rs p e);
+  }
+
+  -- pieces that are filled
+  at-least-at : (n : ℕ) (ps : List (List (Line T M))) (i : ℕ) → i < length ps → AllAtLeast n (lines_of ps) → AllAtLeast n (get_or ps i [])
+  at-least-at n [] i h all = absurd (omega arith)
+  at-least-at n (p ∷ ps) zero h all = least-left n p (lines_of ps) all
+  at-least-at n (p ∷ ps) (suc i) h all = at-least-at n ps i (omega (arith, h)) (least-right n p (lines_of ps) all)
+
+  at-least-all : (n : ℕ) (ps : List (List (Line T M))) → ((i : ℕ) → i < length ps → AllAtLeast n (get_or ps i [])) → AllAtLeast n (lines_of ps)
+  at-least-all n [] each = All-nil (λ (l : Line T M). n ≤ columns l)
+  at-least-all n (p ∷ ps) each =
+      least-both n n n p (lines_of ps) (each 0 (omega arith)) (at-least-all n ps (λ i h. each (suc i) (omega (arith, h)))) (omega arith) (omega arith)
+
+  pub known-filled : (tag : T) (w front back least count : ℕ) (ps qs : List (List (Line T M))) → ArePieces front back least count ps →
+      lines_of qs ≡ filled (Some tag) w (lines_of ps) → ArePieces 0 0 w count qs
+  known-filled tag w front back least count ps qs is e = record {
+    wide = λ i k l. at-least-at w qs i (omega (arith, l)) (least-filled tag w (lines_of ps) (lines_of qs) e);
+    counts = is.counts ∙ sym (ap length e ∙ length-map (lines_of ps) (filled_line tag w));
+  }
+
+  -- the first pieces, the last ones, and those between them
+  pub record AreParts (front back : ℕ) (ps : List (List (Line T M))) : Type 0 where
+    pub all : ps ≡ take front (take (length ps - back) ps) ++ (drop front (take (length ps - back) ps) ++ drop (length ps - back) ps)
+    pub first : front ≡ length (take front (take (length ps - back) ps))
+    pub last : back ≡ length (drop (length ps - back) ps)
+
+  pub parts : (front back : ℕ) (ps : List (List (Line T M))) → front + back ≤ length ps → AreParts front back ps
+  parts front back ps fit =
+      let n = length ps - back in
+      let before = take n ps in
+      let size : length before ≡ n = length-take-le n ps (omega (arith, fit)) in
+      record {
+        all = sym (take-append-drop n ps) ∙ ap (λ y. y ++ drop n ps) (sym (take-append-drop front before))
+            ∙ append_assoc (take front before) (drop front before) (drop n ps);
+        first = sym (length-take-le front before (omega (arith, size, fit)));
+        last = omega (arith, length-drop n ps, fit);
+      }
+
+  pub filled-outside : (tag : T) (w front back least n : ℕ) (ps qs : List (List (Line T M))) → ArePieces front back least n ps → front + back ≤ length ps → w ≤ least →
+      qs ≡ map (filled (Some tag) w) (take front (take (length ps - back) ps))
+      ++ (drop front (take (length ps - back) ps) ++ map (filled (Some tag) w) (drop (length ps - back) ps)) →
+      lines_of qs ≡ filled (Some tag) w (lines_of ps)
+  filled-outside tag w front back least n ps qs is fit h e =
+      let m = length ps - back in
+      let size : length (take m ps) ≡ m = length-take-le m ps (omega (arith, fit)) in
+      let wide : AllAtLeast least (lines_of (drop front (take m ps))) = at-least-all least (drop front (take m ps)) (λ i k.
+      let below : front + i < m = omega (arith, k, size, length-drop front (take m ps)) in
+      subst (λ y. AllAtLeast least y) (sym (get_or-drop front (take m ps) i [] ∙ get_or-take m ps (front + i) [] below))
+      (is.wide (front + i) (omega arith) (omega (arith, below, fit)))) in
+      ap (λ (y : List (List (Line T M))). lines_of y) e
+      ∙ outer-filled tag w least (take front (take m ps)) (drop front (take m ps)) (drop m ps) wide h
+      ∙ ap (λ (y : List (List (Line T M))). filled (Some tag) w (lines_of y)) (sym (parts front back ps fit).all)
+
+  pub filled-all : (tag : T) (w n : ℕ) (ps qs : List (List (Line T M))) → n ≡ length ps → qs ≡ drop n ps ++ map (filled (Some tag) w) (take n ps) →
+      lines_of qs ≡ filled (Some tag) w (lines_of ps)
+  filled-all tag w n ps qs e f =
+      let most : length ps ≤ n = omega (arith, e) in
+      ap (λ (y : List (List (Line T M))). lines_of y)
+      (f ∙ ap (λ y. y ++ map (filled (Some tag) w) (take n ps)) (drop_all n ps most) ∙ ap (λ y. map (filled (Some tag) w) y) (take_all n ps most)) ∙ lines-filled tag w ps
 
   -- ---- lines that fit
 
@@ -212,31 +381,29 @@ module _ {T M : Type 0} where
 
   -- ---- lines behind a prefix
 
-  pub prefixed-parts : (f l : Line T M) (xs ys : List (Line T M)) → 0 < length xs →
-      prefixed f l (xs ++ ys) ≡ prefixed f l xs ++ map (λ (k : Line T M). l ++ k) ys
+  pub prefixed-same : (l : Line T M) (xs : List (Line T M)) → prefixed l l xs ≡ map (λ (k : Line T M). l ++ k) xs
+  prefixed-same l [] = refl
+  prefixed-same l (x ∷ xs) = refl
+
+  pub prefixed-parts : (f l : Line T M) (xs ys : List (Line T M)) → 0 < length xs → prefixed f l (xs ++ ys) ≡ prefixed f l xs ++ prefixed l l ys
   prefixed-parts f l [] ys h = absurd (omega (arith, h))
-  prefixed-parts f l (x ∷ xs) ys h = ap (λ r. (f ++ x) ∷ r) (map-append (λ (k : Line T M). l ++ k) xs ys)
+  prefixed-parts f l (x ∷ xs) ys h =
+      ap (λ r. (f ++ x) ∷ r) (map-append (λ (k : Line T M). l ++ k) xs ys ∙ ap (λ r. map (λ (k : Line T M). l ++ k) xs ++ r) (sym (prefixed-same l ys)))
 
-  -- marks and a first prefix before the lines of a first piece, and another prefix before those of others
-  pub appended-behind : (f l : Line T M) (a b c d piece others ls whole : List (Line T M)) → 0 < length piece → b ≡ a ++ prefixed f l piece →
-      c ≡ b ++ map (λ k. l ++ k) others → d ≡ c ++ map (λ k. l ++ k) ls → whole ≡ (piece ++ others) ++ ls → d ≡ a ++ prefixed f l whole
-  appended-behind f l a b c d piece others ls whole h e1 e2 e3 w =
-      rw (e3, e2, e1, w, append_assoc piece others ls, prefixed-parts f l piece (others ++ ls) h, map-append (λ (k : Line T M). l ++ k) others ls)
-      (simp append_assoc)
+  -- the lines of a first piece are moved behind prefixes, and then the others
+  pub moved-behind : (f l : Line T M) (a b c piece others whole : List (Line T M)) → 0 < length piece → whole ≡ piece ++ others →
+      b ≡ a ++ prefixed f l piece → c ≡ b ++ prefixed l l others → c ≡ a ++ prefixed f l whole
+  moved-behind f l a b c piece others whole h e g k =
+      rw (k, g, e, prefixed-parts f l piece others h) (append_assoc a (prefixed f l piece) (prefixed l l others))
 
-  -- the lines of a first piece are moved, changed one by one
-  pub moved-next : (f : Line T M → Line T M) (a b piece w : List (Line T M)) (ps rest : List (List (Line T M))) → b ≡ a ++ map f piece → ps ≡ piece ∷ rest →
-      a ++ map f (lines_of ps) ≡ w → b ++ map f (lines_of rest) ≡ w
-  moved-next f a b piece w ps rest e h g =
-      ap (λ y. y ++ map f (lines_of rest)) e ∙ append_assoc a (map f piece) (map f (lines_of rest))
-      ∙ ap (λ y. a ++ y) (sym (map-append f piece (lines_of rest))) ∙ ap (λ y. a ++ map f (lines_of y)) (sym h) ∙ g
+  -- the lines of a piece are moved behind a prefix, and others are left
+  pub moved-next : (l : Line T M) (a b piece w : List (Line T M)) (ps rest : List (List (Line T M))) → 0 < length piece → b ≡ a ++ prefixed l l piece →
+      ps ≡ piece ∷ rest → a ++ prefixed l l (lines_of ps) ≡ w → b ++ prefixed l l (lines_of rest) ≡ w
+  moved-next l a b piece w ps rest some e h g =
+      ap (λ y. y ++ prefixed l l (lines_of rest)) e ∙ append_assoc a (prefixed l l piece) (prefixed l l (lines_of rest))
+      ∙ ap (λ y. a ++ y) (sym (prefixed-parts l l piece (lines_of rest) some) ∙ ap (λ (y : List (List (Line T M))). prefixed l l (lines_of y)) (sym h)) ∙ g
 
   -- an only line
-  pub only-behind : (f : Line T M) (xs : List (Line T M)) → length xs ≡ 1 → with_front f xs ≡ map (λ (k : Line T M). f ++ k) xs
-  only-behind f [] e = refl
-  only-behind f (x ∷ []) e = refl
-  only-behind f (x ∷ y ∷ xs) e = absurd (omega (arith, e))
-
   pub only-prefixed : (ms : List M) (f l : Line T M) (xs : List (Line T M)) → length xs ≡ 1 →
       marked_before ms (with_front f xs) ≡ prefixed (marks_line ms ++ f) l xs
   only-prefixed ms f l [] e = refl

@@ -3,14 +3,14 @@
 //! Lines are copied from one value to another only where they are few. A large value is moved whole, so that the lines of
 //! blocks in blocks aren't copied at each of them.
 
-ghost use Rattle.std.specs.Prelude.{◌≡◌, ℕ, ◌==◌, ◌<◌, ◌++◌, [], ◌∷◌, Some, length, OnOk, IfOk};
+ghost use Rattle.std.specs.Prelude.{◌≡◌, ℕ, ◌==◌, ◌<◌, ◌++◌, [], ◌∷◌, Some, length, OnOk, IfOk, IfSome};
 ghost use Rattle.std.specs.Str.{chars};
 ghost use Rattle.html_render_layout_lines.specs.Line.{marks_line};
 ghost use Rattle.html_render_layout_lines.specs.TaggedText.{counted, text_columns, under};
 ghost use Rattle.html_render_layout_buffer.specs.Lines.{no_lines};
 ghost use Rattle.html_render_layout_buffer.specs.Marked.{marked_before, marked_behind};
 ghost use Rattle.html_render_layout_buffer.specs.Padding.{filled};
-ghost use Rattle.html_render_layout_buffer.specs.Pieces.{fits_after};
+ghost use Rattle.html_render_layout_buffer.specs.Pieces.{lines_of, fits_after};
 
 use crate::buffer::LineBuffer;
 use crate::runs::longer;
@@ -40,10 +40,11 @@ pub struct FinishedLines<T, M> {
 impl<T, M> Model for FinishedLines<T, M> {
     ghost use Rattle.std.specs.Prelude.{◌≡◌, List, [], ◌++◌};
     ghost use Rattle.html_render_layout_lines.specs.Line.{Line};
+    ghost use Rattle.html_render_layout_buffer.specs.Pieces.{lines_of};
 
     ghost Value = { List (Line T M) };
 
-    ghost view = { λ f. f.pieces ++ f.last.lines };
+    ghost view = { λ f. lines_of f.pieces ++ f.last.lines };
 
     ghost invariant = { λ f. f.last.line ≡ [] };
 }
@@ -71,7 +72,9 @@ impl<T: Tag, M: Copy> FinishedLines<T, M> {
     pub fn clear(&mut self)
         ensures { self.new ≡ [] }
     {
-        self.pieces.clear();
+        if !self.pieces.is_empty() {
+            self.pieces.take();
+        }
         self.last.clear();
     }
 
@@ -95,7 +98,20 @@ impl<T: Tag, M: Copy> FinishedLines<T, M> {
         if self.pieces.is_empty() {
             return Ok(self.last.line_count());
         }
-        longer(self.pieces.line_count()?, self.last.line_count())
+        longer(self.pieces.line_count(), self.last.line_count())
+    }
+
+    /// Borrows the lines as a buffer. `None` if they aren't few, so that they are best moved whole.
+    pub fn few(&self) -> Option<&LineBuffer<T, M>>
+        ensures { IfSome result (λ lines. lines.now ≡ record { lines = self.now; line = [] }) }
+    {
+        if !self.pieces.is_empty() {
+            return None;
+        }
+        if self.last.byte_count() > SMALL {
+            return None;
+        }
+        Some(&self.last)
     }
 
     /// Appends a line of marks alone.
@@ -187,7 +203,8 @@ impl<T: Tag, M: Copy> FinishedLines<T, M> {
         }
         self.separate()?;
         settle(&mut self.pieces, &mut self.last)?;
-        self.pieces.fill(width, tag)
+        self.pieces = self.pieces.take().filled(width, tag)?;
+        Ok(())
     }
 
     /// Puts marks in front of the first line. Does nothing without lines.
@@ -244,12 +261,14 @@ impl<T: Tag, M: Copy> FinishedLines<T, M> {
     pub fn into_buffer(self) -> Result<LineBuffer<T, M>, AllocError>
         ensures { IfOk result (λ b. b ≡ record { lines = self; line = [] }) }
     {
-        let FinishedLines { pieces, last } = self;
+        let FinishedLines { mut pieces, last } = self;
         if pieces.is_empty() {
             return Ok(last);
         }
         let mut lines = LineBuffer::new(last.alloc());
-        pieces.move_to(&mut lines)?;
+        while let Some(piece) = pieces.pop_first() {
+            piece.write_to(&mut lines)?;
+        }
         lines.append_all(&last)?;
         Ok(lines)
     }
@@ -261,7 +280,7 @@ fn settle<T: Tag, M: Copy>(
     last: &mut LineBuffer<T, M>,
 ) -> Result<(), AllocError>
     requires { last.old.line ≡ [] }
-    ensures pieces { OnOk result (pieces.new ≡ pieces.old ++ last.old.lines) }
+    ensures pieces { OnOk result (lines_of pieces.new ≡ lines_of pieces.old ++ last.old.lines) }
     ensures last { OnOk result (last.new ≡ no_lines) }
     ensures open { last.new.line ≡ [] }
 {
@@ -270,5 +289,6 @@ fn settle<T: Tag, M: Copy>(
     }
     let none = LineBuffer::new(last.alloc());
     let lines = mem::replace(last, none);
-    pieces.push(Piece::new(lines))
+    let piece = Piece::new(lines);
+    pieces.push(piece)
 }

@@ -76,16 +76,29 @@ impl<T: Tag> TagRuns<T> {
     /// # Errors
     ///
     /// `AllocError`. The list is then unchanged.
-    #[inline]
+    #[inline(always)]
     pub fn push(&mut self, count: usize, tag: T) -> Result<(), AllocError>
         ensures ok { OnOk result (self.new ≡ self.old ++ replicate count tag) }
         ensures err { OnErr result (self.new ≡ self.old) }
     {
-        let len = longer(self.len, count)?;
         if is_tag(self.tag, tag) {
-            self.len = len;
+            self.len = longer(self.len, count)?;
             return Ok(());
         }
+        self.push_run_of(count, tag)
+    }
+
+    /// Appends `count` copies of a tag, as a run of their own.
+    ///
+    /// # Errors
+    ///
+    /// `AllocError`. The list is then unchanged.
+    #[inline(never)]
+    fn push_run_of(&mut self, count: usize, tag: T) -> Result<(), AllocError>
+        ensures ok { OnOk result (self.new ≡ self.old ++ replicate count tag) }
+        ensures err { OnErr result (self.new ≡ self.old) }
+    {
+        let len = longer(self.len, count)?;
         close_run(&mut self.closed, self.tag, self.len)?;
         self.tag = Some(tag);
         self.len = len;

@@ -1,10 +1,9 @@
 //! Cells of a table: their columns on the table's grid, and the widths that they need there.
 
-ghost use Rattle.std.specs.Prelude.{◌≡◌, ◌++◌, IfOk, OnOk};
+ghost use Rattle.std.specs.Prelude.{◌≡◌, ◌++◌, OnOk};
 ghost use Rattle.html_render_dom_values.specs.Outcome.{OnlyOutOfMemory};
 ghost use Rattle.html_render_layout_nodes.specs.Preorder.{flatten, forest_of};
 ghost use Rattle.html_render_parts_widths.specs.Needs.{AreCells};
-ghost use Rattle.html_render_parts.specs.Placement.{lists};
 ghost use Rattle.html_render_parts.specs.TableCells.{columns_of};
 ghost use Rattle.html_render_layout_estimates.specs.Cells.{row_needs, cell_needs};
 
@@ -12,8 +11,9 @@ use crate::trees::first_tree;
 use html_render_dom_values::Error;
 use html_render_layout_nodes::tree::{Entry, RenderNode};
 use html_render_parts::table::cells::{GridCell, TableCells};
+use html_render_parts::table::row_list::RowList;
 use html_render_parts_widths::CellNeed;
-use std::alloc::{AllocError, Global};
+use std::alloc::AllocError;
 
 /// Appends the needs of a row's cells over their columns.
 fn add_row(
@@ -43,51 +43,52 @@ fn add_row(
 /// Appends the needs of the cells of these rows.
 fn add_rows(
     needs: &mut Vec<CellNeed>,
-    rows: &[Vec<GridCell>],
+    rows: &RowList<GridCell>,
     trees: &[Entry<RenderNode>],
 ) -> Result<(), AllocError>
     requires { flatten (forest_of trees.now) ≡ trees.now }
-    ensures { OnOk result (needs.new.items ≡ needs.old.items ++ cell_needs (lists rows.now) (forest_of trees.now)) }
+    ensures { OnOk result (needs.new.items ≡ needs.old.items ++ cell_needs rows.now (forest_of trees.now)) }
 {
     let mut rest = trees;
-    for cells in rows {
+    for at in 0..rows.len() {
         let Some(row) = first_tree(rest) else {
             return Ok(());
         };
-        add_row(needs, cells.as_slice(), row.below)?;
+        add_row(needs, rows.row(at), row.below)?;
         rest = row.beside;
     }
     Ok(())
 }
 
 /// Returns the number of cells of these rows.
-fn cell_count(rows: &[Vec<GridCell>]) -> usize {
+fn cell_count(rows: &RowList<GridCell>) -> usize {
     let mut count = 0usize;
-    for cells in rows {
-        count = count.saturating_add(cells.len());
+    for at in 0..rows.len() {
+        count = count.saturating_add(rows.row(at).len());
     }
     count
 }
 
-/// Returns the minimum and preferred width that each cell of a table needs over its columns, row by row.
+/// Replaces `needs` by the minimum and preferred width that each cell of a table needs over its columns, row by row.
 ///
 /// `rows` are the table's rows with their cells, all measured. Only the cells' own nodes are read, not their contents.
 ///
 /// # Errors
 ///
 /// `OutOfMemory` if an allocation is refused.
-pub fn cell_needs(
-    alloc: Global,
+pub fn put_cell_needs(
+    needs: &mut Vec<CellNeed>,
     grid: &TableCells,
     rows: &[Entry<RenderNode>],
-) -> Result<Vec<CellNeed>, Error>
+) -> Result<(), Error>
     requires { flatten (forest_of rows.now) ≡ rows.now }
-    ensures ok { IfOk result (λ needs. needs.items ≡ cell_needs grid.now.rows (forest_of rows.now)) }
-    ensures cells { IfOk result (λ needs. AreCells (columns_of grid.now) needs.items) }
+    ensures ok { OnOk result (needs.new.items ≡ cell_needs grid.now.rows (forest_of rows.now)) }
+    ensures cells { OnOk result (AreCells (columns_of grid.now) needs.new.items) }
     ensures err { OnlyOutOfMemory result }
 {
     let cells = grid.rows();
-    let mut needs = Vec::with_capacity(alloc, cell_count(cells))?;
-    add_rows(&mut needs, cells, rows)?;
-    Ok(needs)
+    needs.clear();
+    needs.reserve_exact(cell_count(cells))?;
+    add_rows(needs, cells, rows)?;
+    Ok(())
 }

@@ -15,7 +15,7 @@ ghost use Rattle.html_render_layout_estimates.specs.Passes.{is_table, has_table,
 ghost use Rattle.html_render_layout_estimates.specs.Words.{with_words};
 
 use crate::settings::LayoutSettings;
-use crate::sized::{Measure, measure_table};
+use crate::sized::{Measure, TableMemory, measure_table};
 use crate::text::{columns, size, size_within};
 use crate::trees::first_tree;
 use crate::whole_words::add_words;
@@ -264,6 +264,7 @@ fn estimate_of<D: TextDecorator>(
 /// Measures a node over its measured children. The caller ensures that it is a table.
 fn table_measure<D: TextDecorator>(
     alloc: Global,
+    memory: &mut TableMemory,
     decorator: &D,
     settings: &LayoutSettings,
     kind: &NodeKind,
@@ -278,7 +279,7 @@ fn table_measure<D: TextDecorator>(
     let NodeKind::Table(grid) = kind else {
         unreachable!();
     };
-    measure_table(alloc, grid.cells(), children_of(below).count, below)
+    measure_table(alloc, memory, grid.cells(), children_of(below).count, below)
 }
 
 /// Stores the measurement of a table in its node.
@@ -334,6 +335,7 @@ fn measure_nodes<D: TextDecorator>(
     ensures err { OnlyOutOfMemory result }
 {
     let with_sizes = any_table(entries);
+    let mut memory = TableMemory::new(alloc);
     let mut at = entries.len();
     while at > 0 {
         at -= 1;
@@ -342,7 +344,7 @@ fn measure_nodes<D: TextDecorator>(
         let below = &all[at + 1..at + entry.subtree_len];
         let kind = &entry.node.kind;
         if is_table(kind) {
-            let measure = table_measure(alloc, decorator, settings, kind, below)?;
+            let measure = table_measure(alloc, &mut memory, decorator, settings, kind, below)?;
             note(&mut entries[at].node, measure);
         } else {
             let estimate = estimate_of(alloc, decorator, settings, with_sizes, kind, below)?;

@@ -9,11 +9,11 @@ ghost use Rattle.html_render_layout_estimates.specs.TextSize.{saturated};
 ghost use Rattle.html_render_layout_estimates.specs.Cells.{cell_needs};
 ghost use Rattle.html_render_layout_estimates.specs.Estimates.{table_estimate};
 
-use crate::cells::cell_needs;
+use crate::cells::put_cell_needs;
 use html_render_dom_values::Error;
 use html_render_layout_nodes::tree::{Entry, Estimate, RenderNode};
 use html_render_parts::table::cells::TableCells;
-use html_render_parts_widths::{CellNeed, ColumnNeed, column_needs};
+use html_render_parts_widths::{CellNeed, ColumnNeed, NeedsMemory, column_needs};
 use std::alloc::Global;
 
 /// Returns the sum of the cells' preferred widths, each rounded down to a multiple of the cell's number of columns; at most
@@ -51,6 +51,25 @@ pub struct Measure {
     pub needs: Vec<ColumnNeed>,
 }
 
+/// Memory for measuring tables, reused from table to table.
+#[derive(Drop)]
+pub struct TableMemory {
+    /// Needs of the cells.
+    cells: Vec<CellNeed>,
+    /// Memory for the needs of the columns.
+    needs: NeedsMemory,
+}
+
+impl TableMemory {
+    /// Returns memory for measuring tables, without an allocation.
+    pub fn new(alloc: Global) -> TableMemory {
+        TableMemory {
+            cells: Vec::new(alloc),
+            needs: NeedsMemory::new(alloc),
+        }
+    }
+}
+
 /// Measures a table on its grid over its measured rows.
 ///
 /// `children` is the number of its children.
@@ -60,6 +79,7 @@ pub struct Measure {
 /// `OutOfMemory` if an allocation is refused.
 pub fn measure_table(
     alloc: Global,
+    memory: &mut TableMemory,
     grid: &TableCells,
     children: usize,
     rows: &[Entry<RenderNode>],
@@ -71,8 +91,12 @@ pub fn measure_table(
     ensures err { OnlyOutOfMemory result }
 {
     let columns = grid.columns();
-    let cells = cell_needs(alloc, grid, rows)?;
-    let needs = column_needs(alloc, columns, cells.as_slice())?;
+    let TableMemory {
+        cells,
+        needs: needs_memory,
+    } = memory;
+    put_cell_needs(cells, grid, rows)?;
+    let needs = column_needs(alloc, needs_memory, columns, cells.as_slice())?;
     let separators = columns.saturating_sub(1);
     let estimate = Estimate {
         min_width: least_of_columns(needs.as_slice()).saturating_add(separators),

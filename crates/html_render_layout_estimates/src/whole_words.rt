@@ -3,7 +3,6 @@
 ghost use Rattle.std.specs.Prelude.{◌≡◌, ◌++◌, ◌<◌, length, slice_set, IfOk, OnOk};
 ghost use Rattle.html_render_dom_values.specs.Outcome.{OnlyOutOfMemory};
 ghost use Rattle.html_render_parts_widths.specs.Spans.{AreOver};
-ghost use Rattle.html_render_parts.specs.Placement.{lists};
 ghost use Rattle.html_render_parts.specs.TableCells.{columns_of};
 ghost use Rattle.html_render_layout_nodes.specs.Preorder.{flatten, forest_of};
 ghost use Rattle.html_render_layout_estimates.specs.Words.{row_words, cell_words, column_words, with_longest, worded_kind, worded};
@@ -16,6 +15,7 @@ use crate::words::{WordShape, node_shape};
 use html_render_dom_values::Error;
 use html_render_layout_nodes::tree::{Entry, NodeKind, RenderNode};
 use html_render_parts::table::cells::{GridCell, TableCells};
+use html_render_parts::table::row_list::RowList;
 use html_render_parts_widths::{ColumnNeed, Span, greatest_values};
 use std::alloc::{AllocError, Global};
 
@@ -47,18 +47,18 @@ fn add_row(
 /// Appends the longest words of the cells of these rows.
 fn add_rows(
     spans: &mut Vec<Span>,
-    rows: &[Vec<GridCell>],
+    rows: &RowList<GridCell>,
     shapes: &[Entry<WordShape>],
 ) -> Result<(), AllocError>
     requires { flatten (forest_of shapes.now) ≡ shapes.now }
-    ensures { OnOk result (spans.new.items ≡ spans.old.items ++ cell_words (lists rows.now) (forest_of shapes.now)) }
+    ensures { OnOk result (spans.new.items ≡ spans.old.items ++ cell_words rows.now (forest_of shapes.now)) }
 {
     let mut rest = shapes;
-    for cells in rows {
+    for at in 0..rows.len() {
         let Some(row) = first_tree(rest) else {
             return Ok(());
         };
-        add_row(spans, cells.as_slice(), row.below)?;
+        add_row(spans, rows.row(at), row.below)?;
         rest = row.beside;
     }
     Ok(())

@@ -54,6 +54,11 @@ module _ {T M : Type 0} where
   empty-pushed cs ls c e h =
       ap (λ (y : List (Line T M)). cells_of (cs ++ c ∷ []) y) (sym (append-nil ls)) ∙ cell-pushed cs ls [] c e h
 
+  -- a row of one cell has one
+  pub one-counted : (xs cs : List (RowCell M)) (ls : List (Line T M)) (row : List (KeptCell T M)) → xs ≡ cs → cells_of cs ls ≡ row →
+      length row ≡ 1 → length xs ≡ 1
+  one-counted xs cs ls row same is one = ap length same ∙ sym (cells-length cs ls) ∙ ap length is ∙ one
+
   pub only-row : (cs : List (RowCell M)) (ls : List (Line T M)) (c : RowCell M) → cs ≡ c ∷ [] → line_total cs ≡ length ls →
       cells_of cs ls ≡ record { width = c.width; lines = ls; marks = c.marks.items } ∷ []
   only-row cs ls c e h =

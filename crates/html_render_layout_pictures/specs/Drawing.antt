@@ -53,3 +53,7 @@ with_rows d rows = fold with_row d rows
 -- the lines and the marks that wait behind them, once the last border is drawn
 abbrev pub finished : {T M : Type 0} → Drawing T M → List (Line T M) × List M
 finished d = (d.lines ++ due_lines d.frame d.due [], d.waiting)
+
+-- lines with those of a finished picture at their end, and the marks that wait behind them
+abbrev pub appended : {T M : Type 0} → List (Line T M) → List (Line T M) × List M → List (Line T M) × List M
+appended lines p = (lines ++ p.0, p.1)

@@ -1,10 +1,11 @@
 //! The picture of a table: its rows' lines, with borders above, between and below them.
 
-ghost use Rattle.std.specs.Prelude.{◌≡◌, ◌<◌, List, [], ◌++◌, length, OnOk, IfOk};
+ghost use Rattle.std.specs.Prelude.{◌≡◌, ◌<◌, List, [], ◌++◌, length, OnOk, IfOk, MatchBool};
 ghost use Rattle.html_render_dom_values.specs.Outcome.{OnlyOutOfMemory};
 ghost use Rattle.html_render_layout_pictures.specs.Picture as definition;
 ghost use Rattle.html_render_layout_pictures.specs.Picture.{TableRow};
 ghost use Rattle.html_render_layout_pictures.specs.Drawing as drawing;
+ghost use Rattle.html_render_layout_pictures.specs.Drawing.{appended};
 ghost use Rattle.html_render_layout_buffer.specs.Marked.{marked_before};
 ghost use Rattle.html_render_layout_pictures.specs.Separators.{separators_between};
 
@@ -90,6 +91,33 @@ impl<T: Tag> Frame<T> {
         Ok(lines)
     }
 
+    /// Appends copies of the lines of a row of one cell, filled, if they are few and no marks wait after them. Reports whether it
+    /// does.
+    fn put_few_lines<M: Copy>(
+        &self,
+        to: &mut LineBuffer<T, M>,
+        row: &RowCells<T, M>,
+    ) -> Result<bool, AllocError>
+        requires only { length row.now ≡ 1 }
+        requires open { to.old.line ≡ [] }
+        ensures { IfOk result (λ put. MatchBool put
+            (to.new ≡ record { lines = to.old.lines ++ definition.row_lines self.now row.now; line = [] })
+            (to.new ≡ to.old)) }
+    {
+        let [cell, ..] = row.cells.as_slice() else {
+            return Ok(false);
+        };
+        let marks = cell.marks.as_slice();
+        if cell.count == 0 || !marks.is_empty() {
+            return Ok(false);
+        }
+        let Some(lines) = row.lines.few() else {
+            return Ok(false);
+        };
+        to.append_filled(lines, cell.width, self.tag)?;
+        Ok(true)
+    }
+
     /// Appends the border that is due, above a row whose cells have these columns. Returns the memory of the columns above
     /// it.
     fn put_due<M: Copy>(
@@ -157,15 +185,6 @@ impl<T, M> Model for Picture<T, M> {
     ghost invariant = { λ p. p.last.line ≡ [] };
 }
 
-/// A picture that is drawn.
-#[derive(Drop)]
-pub struct Drawn<T, M> {
-    /// Its lines.
-    pub lines: FinishedLines<T, M>,
-    /// The marks that wait after it.
-    pub waiting: Vec<M>,
-}
-
 impl<T: Tag, M: Copy> Picture<T, M> {
     /// Returns a picture without rows, after marks that wait.
     ///
@@ -176,37 +195,58 @@ impl<T: Tag, M: Copy> Picture<T, M> {
         ensures ok { IfOk result (λ p. p ≡ drawing.begun frame waiting.items) }
         ensures err { OnlyOutOfMemory result }
     {
-        if !frame.borders || frame.width == 0 {
-            return Ok(Picture::with_due(alloc, frame, waiting, None));
-        }
-        let mut above = Vec::new(alloc);
-        above.push(frame.width)?;
-        let due = Border {
-            marks: waiting,
-            above,
-        };
-        Ok(Picture::with_due(alloc, frame, Vec::new(alloc), Some(due)))
+        let mut picture = Picture::empty(alloc, frame);
+        picture.renew(frame, waiting)?;
+        Ok(picture)
     }
 
-    /// Returns a picture without rows, with a border that is due.
-    fn with_due(
-        alloc: Global,
-        frame: Frame<T>,
-        waiting: Vec<M>,
-        due: Option<Border<M>>,
-    ) -> Picture<T, M>
-        ensures { result ≡ record { frame = frame; lines = []; waiting = waiting.items; due = due } }
-    {
+    /// Returns a picture without lines, marks and borders.
+    fn empty(alloc: Global, frame: Frame<T>) -> Picture<T, M> {
         Picture {
             alloc,
             frame,
             before: FinishedLines::new(alloc),
             last: LineBuffer::new(alloc),
-            waiting,
-            due,
+            waiting: Vec::new(alloc),
+            due: None,
             widths: Vec::new(alloc),
             spare: None,
         }
+    }
+
+    /// Becomes a picture without rows, after marks that wait. Keeps the memory.
+    ///
+    /// # Errors
+    ///
+    /// `OutOfMemory`.
+    pub fn renew(&mut self, frame: Frame<T>, waiting: Vec<M>) -> Result<(), Error>
+        ensures ok { OnOk result (self.new ≡ drawing.begun frame waiting.items) }
+        ensures err { OnlyOutOfMemory result }
+    {
+        if !frame.borders || frame.width == 0 {
+            self.begin_with(frame, waiting, None);
+            return Ok(());
+        }
+        let mut above = mem::replace(&mut self.widths, Vec::new(self.alloc));
+        above.clear();
+        above.push(frame.width)?;
+        let due = Border {
+            marks: waiting,
+            above,
+        };
+        self.begin_with(frame, Vec::new(self.alloc), Some(due));
+        Ok(())
+    }
+
+    /// Becomes a picture without rows, with a border that is due. Keeps the memory.
+    fn begin_with(&mut self, frame: Frame<T>, waiting: Vec<M>, due: Option<Border<M>>)
+        ensures { self.new ≡ record { frame = frame; lines = []; waiting = waiting.items; due = due } }
+    {
+        self.frame = frame;
+        self.before.clear();
+        self.last.clear();
+        self.waiting = waiting;
+        self.due = due;
     }
 
     /// Adds a row: its lines, after the border that is due, or, if it isn't drawn, its marks to those that wait.
@@ -277,8 +317,42 @@ impl<T: Tag, M: Copy> Picture<T, M> {
         Ok(())
     }
 
-    /// Adds the lines of a row of one cell, after the marks that wait.
+    /// Adds the lines of a row of one cell, after the marks that wait. They are moved, unless they are few.
     fn draw_only_cell(&mut self, row: RowCells<T, M>) -> Result<(), AllocError>
+        requires { length row ≡ 1 }
+        ensures { OnOk result (self.new ≡ record self.old {
+          lines = self.old.lines ++ marked_before self.old.waiting (definition.row_lines self.old.frame row);
+          waiting = [];
+        }) }
+    {
+        if self.put_few(&row)? {
+            self.spare = Some(row);
+            return Ok(());
+        }
+        self.move_only_cell(row)
+    }
+
+    /// Adds copies of the lines of a row of one cell, if they are few and no marks wait. Reports whether it does.
+    fn put_few(&mut self, row: &RowCells<T, M>) -> Result<bool, AllocError>
+        requires { length row.now ≡ 1 }
+        ensures { IfOk result (λ put. MatchBool put
+            (self.new ≡ record self.old {
+              lines = self.old.lines ++ marked_before self.old.waiting (definition.row_lines self.old.frame row.now);
+              waiting = [];
+            })
+            (self.new ≡ self.old)) }
+    {
+        if !self.waiting.is_empty() {
+            return Ok(false);
+        }
+        let mut last = mem::replace(&mut self.last, LineBuffer::new(self.alloc));
+        let put = self.frame.put_few_lines(&mut last, row)?;
+        self.last = last;
+        Ok(put)
+    }
+
+    /// Moves the lines of a row of one cell to the end, after the marks that wait.
+    fn move_only_cell(&mut self, row: RowCells<T, M>) -> Result<(), AllocError>
         requires { length row ≡ 1 }
         ensures { OnOk result (self.new ≡ record self.old {
           lines = self.old.lines ++ marked_before self.old.waiting (definition.row_lines self.old.frame row);
@@ -309,31 +383,23 @@ impl<T: Tag, M: Copy> Picture<T, M> {
         Ok(())
     }
 
-    /// Returns the picture of all rows that were added, with its last border.
+    /// Appends the picture of all rows that were added, with its last border, to lines. Returns the marks that wait after it.
     ///
     /// # Errors
     ///
-    /// `OutOfMemory`.
-    pub fn finish(self) -> Result<Drawn<T, M>, Error>
-        ensures ok { IfOk result (λ d. (d.lines, d.waiting.items) ≡ drawing.finished self) }
-        ensures picture { (waiting : List M) (rows : List (TableRow T M)) → self ≡ drawing.with_rows (drawing.begun self.frame waiting) rows
-            → IfOk result (λ d. (d.lines, d.waiting.items) ≡ definition.picture self.frame waiting rows) }
+    /// `OutOfMemory`. Lines may be lost.
+    pub fn finish(&mut self, to: &mut FinishedLines<T, M>) -> Result<Vec<M>, Error>
+        ensures ok { IfOk result (λ marks. (to.new, marks.items) ≡ appended to.old (drawing.finished self.old)) }
+        ensures picture { (waiting : List M) (rows : List (TableRow T M)) → self.old ≡ drawing.with_rows (drawing.begun self.old.frame waiting) rows
+            → IfOk result (λ marks. (to.new, marks.items) ≡ appended to.old (definition.picture self.old.frame waiting rows)) }
         ensures err { OnlyOutOfMemory result }
     {
-        let Picture {
-            alloc,
-            frame,
-            mut before,
-            mut last,
-            waiting,
-            due,
-            ..
-        } = self;
-        frame.put_due(alloc, &mut last, due, &[])?;
-        before.append_buffer(&mut last)?;
-        Ok(Drawn {
-            lines: before,
-            waiting,
-        })
+        let mut last = mem::replace(&mut self.last, LineBuffer::new(self.alloc));
+        let due = mem::replace(&mut self.due, None);
+        self.widths = self.frame.put_due(self.alloc, &mut last, due, &[])?;
+        to.append(&mut self.before)?;
+        to.append_buffer(&mut last)?;
+        self.last = last;
+        Ok(mem::replace(&mut self.waiting, Vec::new(self.alloc)))
     }
 }

@@ -1,10 +1,10 @@
 -- The edges, sorted and without duplicates, and their numbers.
-use Rattle.std.proofs.Common.{◌≡◌, ℕ, ◌+◌, ◌-◌, ◌<◌, ◌≤◌, true, false, cond, List, [], ◌∷◌, ◌++◌, length, get_or, All, Contains, nat_lt, refl, sym, subst}
+use Rattle.std.proofs.Common.{◌≡◌, ℕ, ◌+◌, ◌-◌, ◌<◌, ◌≤◌, true, false, cond, List, [], ◌∷◌, ◌++◌, length, get_or, take, All, Contains, nat_lt, refl, sym, subst, ap, append_assoc}
 use Rattle.std.proofs.Common.{arith, inl, inr, ◌⊎◌, suc, zero, ◌∙◌}
 use Rattle.std.specs.List.{AllPairs, AllWithin}
 use Rattle.std.specs.List.Sorted.{IsNonDecreasingBy, IsStrictlyIncreasing}
 use Rattle.std.proofs.lemmas.Bool.{cases_lt}
-use Rattle.std.proofs.lemmas.List.{get_or_default}
+use Rattle.std.proofs.lemmas.List.{get_or_default, take_more}
 use Rattle.std.proofs.lemmas.List.Elements.{All-nil, All-cons, All-head, All-tail, All-weaker, All-contains, Contains-append_cases, Contains-append_left}
 use Rattle.std.proofs.lemmas.List.Elements.{Contains-append_right}
 use Rattle.std.proofs.lemmas.List.Kept.{AllPairs-cons, AllPairs-from_increasing}
@@ -155,6 +155,26 @@ rising-known front ns =
     ∙ rising-same ((front ++ ns) ++ ns) (front ++ ns)
     (λ n h. elim (Contains-append_cases (front ++ ns) ns n h) [ inl a ↦ a | inr b ↦ Contains-append_right front ns n b ])
     (λ n h. Contains-append_left (front ++ ns) ns n h)
+
+-- a number that is among the gathered ones changes nothing
+pub rising_again : (ns : List ℕ) (n : ℕ) → Contains ns n → rising ns ≡ rising (ns ++ n ∷ [])
+rising_again ns n h =
+    rising-same ns (ns ++ n ∷ [])
+    (λ k a. Contains-append_left ns (n ∷ []) k a)
+    (λ k a. elim (Contains-append_cases ns (n ∷ []) k a) [
+      | inl b ↦ b
+      | inr b ↦ elim (Contains-cons n k [] b) [ inl e ↦ subst (Contains ns) e h | inr f ↦ absurd (Contains-nil k f) ]
+    ])
+
+-- adding the next number to equal sets
+pub rising_next : (ms gathered front : List ℕ) (i d : ℕ) → rising gathered ≡ rising (front ++ take i ms) → i < length ms →
+    rising (gathered ++ get_or ms i d ∷ []) ≡ rising (front ++ take (i + 1) ms)
+rising_next ms gathered front i d same inside =
+    let n = get_or ms i d in
+    sym (rising-more gathered (n ∷ []))
+    ∙ ap (λ l. rising (l ++ n ∷ [])) same
+    ∙ rising-more (front ++ take i ms) (n ∷ [])
+    ∙ ap rising (append_assoc front (take i ms) (n ∷ []) ∙ ap (λ l. front ++ l) (sym (take_more ms i d inside)))
 
 pub IsStrictlyIncreasing-rising : (ns : List ℕ) → IsStrictlyIncreasing (rising ns)
 IsStrictlyIncreasing-rising ns = λ k inside. Rise-rising ns k (k + 1) 0 (omega arith) inside

@@ -3,11 +3,13 @@
 use Rattle.std.proofs.Common.{All, ◌≡◌, ℕ, ◌+◌, ◌<◌, ◌≤◌, Bool, true, false, cond, List, [], ◌∷◌, ◌++◌, filter, nat_le, refl, sym, ap, ◌∙◌, arith, inl, inr}
 use Rattle.std.proofs.lemmas.Bool.{cases_Bool}
 use Rattle.std.proofs.lemmas.Bool.Decides.{leb_tells, nat_tests}
+use Rattle.std.proofs.lemmas.List.{append-nil}
 use Rattle.std.proofs.lemmas.List.Elements.{All-cons, All-head, All-tail, All-filter}
 use Rattle.html_render_parts.specs.declared.table.Span.{Span}
 use Rattle.html_render_parts.specs.declared.table.placement.PositionedCell.{PositionedCell}
 use Rattle.html_render_parts.specs.Placement.{by_column_with, by_column, hangs_into, hanging, due_end, not_due, own_from}
-use Rattle.html_render_parts.specs.PlacementSteps.{AllFrom, IsByColumn}
+use Rattle.html_render_parts.specs.PlacementSteps.{AllFrom, IsByColumn, RowSoFar, keeping}
+use Rattle.html_render_parts.proofs.NumberTests.{ltb-tells}
 
 -- ---- two lists merged by own column: of equal ones, that of the first list precedes
 
@@ -190,3 +192,12 @@ hanging-next row hung ss ordered =
     let joined : by_column (hung ++ own) ≡ merged hung own = by_column-append hung own (by_column-own row 0 hung ss)
     ∙ ap (λ hs. merged hs own) (by_column-same hung ordered) in
     ap (filter (hangs_into (row + 1))) (in_row-merged row 0 hung ss ∙ sym joined)
+
+-- ---- a cell that ends in its own row
+
+-- isn't kept for the next one
+pub ends_here : (row : ℕ) (c : PositionedCell) (l : RowSoFar) → c.row ≡ row → c.span.rowspan ≤ 1 → l ≡ keeping row (c ∷ []) l
+ends_here row c l own one = elim (ltb-tells (row + 1) (c.row + c.span.rowspan)) [
+  | inl t ↦ (let more = t.1 in absurd (omega arith))
+  | inr t ↦ rw (t.0, append-nil l.kept) refl
+]

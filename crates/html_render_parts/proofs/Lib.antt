@@ -10,7 +10,9 @@ pub mod NumberTests
 pub mod PlacingRows
 pub mod RisingEnds
 pub mod RowAfterRow
+pub mod RowLists
 pub mod RowsOfCells
 pub mod SideBySide
 pub mod SimpleRows
+pub mod ValidSpans
 pub mod Vectors

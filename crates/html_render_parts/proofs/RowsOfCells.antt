@@ -1,7 +1,6 @@
 -- The rows of a table that aren't placed yet, one after another.
 use Rattle.std.proofs.Common.{◌≡◌, ℕ, ◌+◌, ◌<◌, ◌≤◌, true, false, List, [], ◌∷◌, Some, length, get_or, drop, map, All, refl, sym, ap, ◌∙◌, subst, arith, inl, inr}
 use Rattle.std.proofs.Common.{Bool, Err, IfErr, IfOk, MatchBool, Ok, Result}
-use Rattle.std.specs.Global.{Vec}
 use Rattle.std.proofs.lemmas.List.{drop_all, drop_more, get_or-map, length-map}
 use Rattle.std.proofs.lemmas.List.Elements.{All-head, All-tail, All-weaker}
 use Rattle.html_render_dom_values.specs.declared.errors.Error.{Error}
@@ -9,7 +8,7 @@ use Rattle.html_render_dom_values.specs.declared.errors.Error.TheVariants.{TooNa
 use Rattle.html_render_parts.specs.declared.table.cells.GridCell.{GridCell}
 use Rattle.html_render_parts.specs.declared.table.placement.Place.{Place}
 use Rattle.html_render_parts.specs.declared.table.placement.PositionedCell.{PositionedCell}
-use Rattle.html_render_parts.specs.Placement.{bottom_rows, lists, own_from, own_rows_from, rows_from}
+use Rattle.html_render_parts.specs.Placement.{bottom_rows, own_from, own_rows_from, rows_from}
 use Rattle.html_render_parts.specs.PlacementSteps.{AreAhead, IsNextBottom, Placing, places_ahead, with_next_row}
 use Rattle.html_render_parts.specs.Grid.{positions_fit}
 use Rattle.html_render_parts.specs.TableCells.{CellGrid, IsCellGrid, columns_of, span_on, spans_on}
@@ -18,7 +17,6 @@ use Rattle.html_render_parts.proofs.CellsOnColumns.{IsWithin, cells-are}
 use Rattle.html_render_parts.proofs.NumberTests.{ltb-tells}
 use Rattle.html_render_parts.proofs.RowAfterRow.{fits-bottom, fits-next, next-is, next-past}
 use Rattle.html_render_parts.proofs.SideBySide.{are-ordered}
-use Rattle.html_render_parts.proofs.Vectors.{at-vector}
 
 abbrev IsOrdered : Place → Type 0
 IsOrdered p = p.start ≤ p.end
@@ -43,27 +41,13 @@ own-ahead g row cells inside at =
     ∙ ap (λ r. r ∷ drop (row + 1) (spans_on g))
     (get_or-map (map (span_on g.edges)) g.rows row cells spans inside ∙ ap (map (span_on g.edges)) at)
 
--- a row's own cells, by the vector that has them
-pub own-found : (g : CellGrid) (rows : List (Vec GridCell)) (row : ℕ) (cells : Vec GridCell) → lists rows ≡ g.rows → row < length rows →
-    cells ≡ get_or rows row cells
-    → (row < length g.rows) × (get_or g.rows row cells.items ≡ cells.items)
-own-found g rows row cells same inside is =
-    let items : Vec GridCell → List GridCell = λ v. v.items in (
-      subst (λ r. row < length r) same (subst (λ n. row < n) (sym (length-map rows items)) inside),
-      subst (λ r. get_or r row cells.items ≡ cells.items) same (get_or-map items rows row cells cells.items inside ∙ ap items (sym is)),
-    )
-
-pub none-found : (g : CellGrid) (rows : List (Vec GridCell)) (row : ℕ) → lists rows ≡ g.rows → length rows ≤ row → length g.rows ≤ row
-none-found g rows row same past = subst (λ r. length r ≤ row) same (subst (λ n. n ≤ row) (sym (length-map rows (λ (v : Vec GridCell). v.items))) past)
-
 -- a row's own cells end at an edge of the grid
-pub own-on_edges : (g : CellGrid) (rows : List (Vec GridCell)) (row : ℕ) (cells : Vec GridCell) → lists rows ≡ g.rows →
-    row < length rows → cells ≡ get_or rows row cells
-    → All (All (IsWithin (columns_of g))) g.rows → All (λ c. c.first + c.columns < length g.edges) cells.items
-own-on_edges g rows row cells same inside is h =
+pub own-on_edges : (g : CellGrid) (row : ℕ) (cells : List GridCell) → row < length g.rows → get_or g.rows row cells ≡ cells →
+    All (All (IsWithin (columns_of g))) g.rows → All (λ c. c.first + c.columns < length g.edges) cells
+own-on_edges g row cells inside at h =
     All-weaker (IsWithin (columns_of g)) (λ c. c.first + c.columns < length g.edges)
-    (λ c w. let most = w.0 in let some = w.1 in omega arith) cells.items
-    (at-vector (All (IsWithin (columns_of g))) rows row cells (subst (All (All (IsWithin (columns_of g)))) (sym same) h) inside is)
+    (λ c w. let most = w.0 in let some = w.1 in omega arith) cells
+    (subst (All (IsWithin (columns_of g))) at (h row cells inside))
 
 none-ahead : (g : CellGrid) (row : ℕ) → length g.rows ≤ row → drop row (spans_on g) ≡ []
 none-ahead g row past = drop_all row (spans_on g) (subst (λ n. n ≤ row) (sym (length-map g.rows (map (span_on g.edges)))) past)

@@ -1,6 +1,6 @@
 -- Simple rows: no cell hangs into such a row, and none of its own hangs into the next one. So its places are its own cells,
 -- side by side from position 0 on.
-use Rattle.std.specs.Prelude.{ℕ, ◌+◌, ◌^◌, ◌<◌, List, [], ◌∷◌, Option, Some, None, All, map, slice_index_or, if◌then◌else◌}
+use Rattle.std.specs.Prelude.{ℕ, Bool, ◌+◌, ◌^◌, ◌<◌, List, [], ◌∷◌, Option, Some, None, All, map, slice_index_or, if◌then◌else◌}
 use Rattle.html_render_parts.specs.declared.table.Span.{Span}
 use Rattle.html_render_parts.specs.declared.table.CellKind.TheVariants.{Cell}
 use Rattle.html_render_parts.specs.declared.table.PlacedCell.{PlacedCell}
@@ -33,6 +33,10 @@ place_on edges c = record {
 abbrev pub own_or_simple : ℕ → List Span → (stored : List PositionedCell) → List PositionedCell
 own_or_simple row cells [] = own_from row 0 [] cells
 own_or_simple row cells (c ∷ cs) = c ∷ cs
+
+-- own cells of a row that are stored: none of one that isn't placed
+abbrev pub own_placed : (is_placed : Bool) → (own : List PositionedCell) → List PositionedCell
+own_placed is_placed own = if is_placed then own else []
 
 -- own cells of the rows from `row` on, of which none are stored for simple rows
 abbrev pub own_with_simple : ℕ → List (List Span) → (stored : List (List PositionedCell)) → List (List PositionedCell)

@@ -15,7 +15,9 @@ mod gathering;
 mod laws;
 mod numbering;
 mod placement;
+pub mod row_list;
 mod simple;
+pub mod spans;
 
 use html_render_dom_values::Error;
 use std::alloc::Global;

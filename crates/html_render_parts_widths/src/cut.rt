@@ -49,8 +49,22 @@ pub fn column_widths(
     ensures cut { IfOk result (λ c. IsColumnCut minimums.now shares.now width c.widths.items c.level c.lowered) }
     ensures err { OnlyOutOfMemory result }
 {
+    column_widths_in(Vec::new(alloc), minimums, shares, width)
+}
+
+/// Cuts like [`column_widths`]. The widths are in the memory of `memory`.
+pub(crate) fn column_widths_in(
+    memory: Vec<usize>,
+    minimums: &[usize],
+    shares: &[usize],
+    width: usize,
+) -> Result<ColumnCut, Error>
+    requires { CutFits minimums.now shares.now width }
+    ensures cut { IfOk result (λ c. IsColumnCut minimums.now shares.now width c.widths.items c.level c.lowered) }
+    ensures err { OnlyOutOfMemory result }
+{
     let mut meter = Meter::default();
-    column_widths_metered(alloc, minimums, shares, width, &mut meter)
+    metered_in(memory, minimums, shares, width, &mut meter)
 }
 
 /// Cuts like [`column_widths`], and counts the steps of the search.
@@ -79,6 +93,25 @@ pub fn column_widths_metered(
 
     ensures err { OnlyOutOfMemory result }
 {
+    metered_in(Vec::new(alloc), minimums, shares, width, meter)
+}
+
+/// Cuts like [`column_widths_metered`]. The widths are in the memory of `memory`.
+fn metered_in(
+    memory: Vec<usize>,
+    minimums: &[usize],
+    shares: &[usize],
+    width: usize,
+    meter: &mut Meter,
+) -> Result<ColumnCut, Error>
+    requires { CutFits minimums.now shares.now width }
+    ensures cut { IfOk result (λ c. IsColumnCut minimums.now shares.now width c.widths.items c.level c.lowered) }
+    ensures probes { meter.new.probes ≤ 64 }
+    ensures probes_least { largest_slack minimums.now shares.now + 2 ≤ 2 * 2 ^ meter.new.probes }
+    ensures probes_most { 2 ^ meter.new.probes ≤ 2 * largest_slack minimums.now shares.now + 1 }
+    ensures others { meter.new ≡ record meter.old { probes = meter.new.probes } }
+    ensures err { OnlyOutOfMemory result }
+{
     let totals = sum_up(minimums, shares);
     let needed = wanted(minimums, shares, width, totals);
     let highest = Level {
@@ -87,13 +120,13 @@ pub fn column_widths_metered(
     };
     let (found, probes) = find_level(minimums, shares, highest, needed);
     meter.probes = probes;
-    let cut = level_form(alloc, minimums, shares, width, needed, found)?;
+    let cut = level_form(memory, minimums, shares, width, needed, found)?;
     Ok(cut)
 }
 
-/// Returns the cut at the least level, `found`.
+/// Returns the cut at the least level, `found`. The widths are in the memory of `memory`.
 fn level_form(
-    alloc: Global,
+    memory: Vec<usize>,
     minimums: &[usize],
     shares: &[usize],
     width: usize,
@@ -107,11 +140,11 @@ fn level_form(
     ensures { IfOk result (λ c. IsLevelForm minimums.now shares.now width c.widths.items c.level c.lowered) }
 {
     let count = excess(minimums, shares, needed, found);
-    let full = full_widths(alloc, minimums, shares, found.level)?;
+    let full = full_widths(memory, minimums, shares, found.level)?;
     let widths = if count == 0 {
         full
     } else {
-        lowered(alloc, minimums, shares, found.level, full, count)?
+        lowered(minimums, shares, found.level, full, count)?
     };
     Ok(ColumnCut {
         widths,
@@ -133,9 +166,9 @@ fn excess(minimums: &[usize], shares: &[usize], needed: u128, found: Level) -> u
     (found.sum - needed) as usize
 }
 
-/// Returns the full width of each column: its minimum plus its range capped at `level`.
+/// Returns the full width of each column, in the memory of `memory`: its minimum plus its range capped at `level`.
 fn full_widths(
-    alloc: Global,
+    memory: Vec<usize>,
     minimums: &[usize],
     shares: &[usize],
     level: usize,
@@ -144,7 +177,9 @@ fn full_widths(
     ensures len { IfOk result (λ v. length v.items ≡ length minimums.now) }
     ensures each { IfOk result (λ v. (k : ℕ) → k < length minimums.now → slice_index v.items k ≡ full_width minimums.now shares.now level k) }
 {
-    let mut widths = Vec::with_capacity(alloc, minimums.len())?;
+    let mut widths = memory;
+    widths.clear();
+    widths.reserve_exact(minimums.len())?;
     for (i, least) in minimums.iter().enumerate() {
         widths.push(*least + (shares[i] - *least).min(level))?;
     }

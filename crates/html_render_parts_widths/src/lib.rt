@@ -20,8 +20,8 @@ mod spans;
 pub use check::check_cut;
 pub use cut::{ColumnCut, column_widths, column_widths_metered};
 pub use fit::cut_fits;
-pub use needs::{CellNeed, column_needs};
-pub use shares::{ColumnNeed, stand_side_by_side, widths_across};
+pub use needs::{CellNeed, NeedsMemory, column_needs};
+pub use shares::{ColumnNeed, WidthsMemory, stand_side_by_side, widths_across};
 pub use spans::{Span, greatest_values};
 
 /// Counts of the work of one call.

@@ -58,7 +58,6 @@ fn columns_in_order(
 
 /// Lowers the first `count` columns at the level: subtracts 1 from the full width of each.
 pub(super) fn lowered(
-    alloc: Global,
     minimums: &[usize],
     shares: &[usize],
     level: usize,
@@ -72,7 +71,7 @@ pub(super) fn lowered(
     requires enough { count + capped_sum (level - 1) (ranges minimums.now shares.now) ≤ capped_sum level (ranges minimums.now shares.now) }
     ensures { IfOk result (λ v. AreLowered minimums.now shares.now level count widths.items v.items) }
 {
-    let columns = columns_in_order(alloc, minimums, shares, level)?;
+    let columns = columns_in_order(*widths.allocator(), minimums, shares, level)?;
     for column in &columns[..count] {
         widths[column.place] -= 1;
     }

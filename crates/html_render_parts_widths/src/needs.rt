@@ -1,11 +1,11 @@
 //! Widths that the columns of a table need for its cells.
 
-ghost use Rattle.std.specs.Prelude.{◌≡◌, ◌<◌, ◌↔◌, ℕ, length, map, slice_index, slice_index_or, IfOk, IsTrue};
+ghost use Rattle.std.specs.Prelude.{◌≡◌, ◌<◌, ◌↔◌, ℕ, length, map, slice_index, slice_index_or, IfOk, IsTrue, OnOk};
 ghost use Rattle.html_render_dom_values.specs.Outcome.{OnlyOutOfMemory};
 ghost use Rattle.html_render_parts_widths.specs.Needs.{no_need, part, column_needs, AreSome, AreCells};
 
 use super::shares::ColumnNeed;
-use super::spans::{Span, greatest_values};
+use super::spans::{Span, put_greatest};
 use html_render_dom_values::Error;
 use std::alloc::{AllocError, Global};
 
@@ -22,12 +22,13 @@ pub struct CellNeed {
     pub min_width: usize,
 }
 
-/// Returns, for each cell, the part of its preferred width that each of its columns gets.
-fn size_parts(alloc: Global, cells: &[CellNeed]) -> Result<Vec<Span>, AllocError>
+/// Replaces `parts` by the part of each cell's preferred width that each of its columns gets.
+fn put_size_parts(parts: &mut Vec<Span>, cells: &[CellNeed]) -> Result<(), AllocError>
     requires { AreSome cells.now }
-    ensures { IfOk result (λ parts. parts.items ≡ map (λ c. part c c.preferred_width) cells.now) }
+    ensures { OnOk result (parts.new.items ≡ map (λ c. part c c.preferred_width) cells.now) }
 {
-    let mut parts = Vec::with_capacity(alloc, cells.len())?;
+    parts.clear();
+    parts.reserve_exact(cells.len())?;
     for cell in cells {
         parts.push(Span {
             start: cell.start,
@@ -35,15 +36,16 @@ fn size_parts(alloc: Global, cells: &[CellNeed]) -> Result<Vec<Span>, AllocError
             value: cell.preferred_width / cell.count,
         })?;
     }
-    Ok(parts)
+    Ok(())
 }
 
-/// Returns, for each cell, the part of its minimum width that each of its columns gets.
-fn least_parts(alloc: Global, cells: &[CellNeed]) -> Result<Vec<Span>, AllocError>
+/// Replaces `parts` by the part of each cell's minimum width that each of its columns gets.
+fn put_least_parts(parts: &mut Vec<Span>, cells: &[CellNeed]) -> Result<(), AllocError>
     requires { AreSome cells.now }
-    ensures { IfOk result (λ parts. parts.items ≡ map (λ c. part c c.min_width) cells.now) }
+    ensures { OnOk result (parts.new.items ≡ map (λ c. part c c.min_width) cells.now) }
 {
-    let mut parts = Vec::with_capacity(alloc, cells.len())?;
+    parts.clear();
+    parts.reserve_exact(cells.len())?;
     for cell in cells {
         parts.push(Span {
             start: cell.start,
@@ -51,7 +53,29 @@ fn least_parts(alloc: Global, cells: &[CellNeed]) -> Result<Vec<Span>, AllocErro
             value: cell.min_width / cell.count,
         })?;
     }
-    Ok(parts)
+    Ok(())
+}
+
+/// Memory for computing what the columns of a table need, reused from table to table.
+#[derive(Drop)]
+pub struct NeedsMemory {
+    /// Parts of the cells' widths.
+    parts: Vec<Span>,
+    /// Preferred widths of the columns.
+    sizes: Vec<usize>,
+    /// Minimum widths of the columns.
+    least: Vec<usize>,
+}
+
+impl NeedsMemory {
+    /// Returns memory for the needs of columns, without an allocation.
+    pub fn new(alloc: Global) -> NeedsMemory {
+        NeedsMemory {
+            parts: Vec::new(alloc),
+            sizes: Vec::new(alloc),
+            least: Vec::new(alloc),
+        }
+    }
 }
 
 /// Joins the preferred and the minimum widths of columns, column by column.
@@ -85,6 +109,7 @@ fn together(alloc: Global, sizes: &[usize], least: &[usize]) -> Result<Vec<Colum
 #[tactic(auto, using(crate::proofs::ColumnNeeds::are_some, crate::proofs::ColumnNeeds::sizes_over, crate::proofs::ColumnNeeds::least_over, crate::proofs::ColumnNeeds::needed))]
 pub fn column_needs(
     alloc: Global,
+    memory: &mut NeedsMemory,
     columns: usize,
     cells: &[CellNeed],
 ) -> Result<Vec<ColumnNeed>, Error>
@@ -92,9 +117,14 @@ pub fn column_needs(
     ensures ok { IfOk result (λ needs. needs.items ≡ column_needs columns cells.now) }
     ensures err { OnlyOutOfMemory result }
 {
-    let sizes = size_parts(alloc, cells)?;
-    let sizes = greatest_values(alloc, columns, sizes.as_slice())?;
-    let least = least_parts(alloc, cells)?;
-    let least = greatest_values(alloc, columns, least.as_slice())?;
+    let NeedsMemory {
+        parts,
+        sizes,
+        least,
+    } = memory;
+    put_size_parts(parts, cells)?;
+    put_greatest(sizes, columns, parts.as_slice())?;
+    put_least_parts(parts, cells)?;
+    put_greatest(least, columns, parts.as_slice())?;
     Ok(together(alloc, sizes.as_slice(), least.as_slice())?)
 }

@@ -1,15 +1,15 @@
 //! Widths of a table's columns that are side by side.
 //!
-//! `widths_across(alloc, &needs, 8)` returns 4 and 3 for two columns with a minimum width of 3, the preferred widths 9 and 3,
-//! and words of 3 columns.
+//! `widths_across(&mut memory, Vec::new(alloc), &needs, 8)` returns 4 and 3 for two columns with a minimum width of 3, the
+//! preferred widths 9 and 3, and words of 3 columns.
 
-ghost use Rattle.std.specs.Prelude.{◌≡◌, ◌≤◌, true, length, option_map, sum_by, IfOk};
+ghost use Rattle.std.specs.Prelude.{◌≡◌, ◌≤◌, true, length, option_map, sum_by, IfOk, OnOk};
 ghost use Rattle.std.specs.Bool.{OnFalse};
 ghost use Rattle.html_render_dom_values.specs.Outcome.{OnlyOutOfMemory};
 ghost use Rattle.html_render_parts_widths.specs.Shares.{least_widths, share, shares, stand_side_by_side, widths_across};
 ghost use Rattle.html_render_parts_widths.specs.Shares.{whole_widths, word_minimums, greater_ones, HaveShortWords};
 
-use super::cut::column_widths;
+use super::cut::{column_widths, column_widths_in};
 use html_render_dom_values::Error;
 use std::alloc::{AllocError, Global};
 
@@ -48,33 +48,35 @@ fn share(need: ColumnNeed, width: usize, total: u128) -> usize
         .max(need.min_width as u128) as usize
 }
 
-/// Returns the share of each column in `width`, at least its minimum in `minimums`.
-fn shares_from(
-    alloc: Global,
+/// Replaces `all` by the share of each column in `width`, at least its minimum in `minimums`.
+fn put_shares(
+    all: &mut Vec<usize>,
     needs: &[ColumnNeed],
     minimums: &[usize],
     width: usize,
-) -> Result<Vec<usize>, AllocError>
+) -> Result<(), AllocError>
     requires { length minimums.now ≡ length needs.now }
-    ensures { IfOk result (λ all. all.items ≡ greater_ones minimums.now (shares width needs.now)) }
+    ensures { OnOk result (all.new.items ≡ greater_ones minimums.now (shares width needs.now)) }
 {
     let total = total_size(needs);
-    let mut all = Vec::with_capacity(alloc, needs.len())?;
+    all.clear();
+    all.reserve_exact(needs.len())?;
     for (at, need) in needs.iter().enumerate() {
         all.push(share(*need, width, total).max(minimums[at]))?;
     }
-    Ok(all)
+    Ok(())
 }
 
-/// Returns the minimum width of each column.
-fn least_widths(alloc: Global, needs: &[ColumnNeed]) -> Result<Vec<usize>, AllocError>
-    ensures { IfOk result (λ all. all.items ≡ least_widths needs.now) }
+/// Replaces `all` by the minimum width of each column.
+fn put_least_widths(all: &mut Vec<usize>, needs: &[ColumnNeed]) -> Result<(), AllocError>
+    ensures { OnOk result (all.new.items ≡ least_widths needs.now) }
 {
-    let mut all = Vec::with_capacity(alloc, needs.len())?;
+    all.clear();
+    all.reserve_exact(needs.len())?;
     for need in needs {
         all.push(need.min_width)?;
     }
-    Ok(all)
+    Ok(())
 }
 
 /// Returns the width at which each column cuts no word: that of its longest word, at least its minimum width.
@@ -100,22 +102,28 @@ fn has_long_word(needs: &[ColumnNeed]) -> bool
     false
 }
 
-/// Returns the word minimum of each column: the fairest cut of the widths at which columns cut no word.
+/// Replaces `minimums` by the word minimum of each column: the fairest cut of the widths at which columns cut no word.
 ///
 /// Without a long word these are the minimum widths. Nothing is searched or sorted then.
 #[tactic(auto, using(crate::specs::laws::WordMinimums::whole_fit, crate::specs::laws::WordMinimums::short_minimums))]
-fn word_minimums(alloc: Global, needs: &[ColumnNeed], width: usize) -> Result<Vec<usize>, Error>
+fn put_word_minimums(
+    minimums: &mut Vec<usize>,
+    needs: &[ColumnNeed],
+    width: usize,
+) -> Result<(), Error>
     requires { stand_side_by_side width needs.now ≡ true }
-    ensures ok { IfOk result (λ all. all.items ≡ word_minimums width needs.now) }
+    ensures ok { OnOk result (minimums.new.items ≡ word_minimums width needs.now) }
     ensures err { OnlyOutOfMemory result }
 {
-    let least = least_widths(alloc, needs)?;
+    put_least_widths(minimums, needs)?;
     if !has_long_word(needs) {
-        return Ok(least);
+        return Ok(());
     }
+    let alloc = *minimums.allocator();
     let whole = whole_widths(alloc, needs)?;
-    let cut = column_widths(alloc, least.as_slice(), whole.as_slice(), width)?;
-    Ok(cut.widths)
+    let cut = column_widths(alloc, minimums.as_slice(), whole.as_slice(), width)?;
+    *minimums = cut.widths;
+    Ok(())
 }
 
 /// Reports whether columns can be side by side in `width`: it isn't 0, and their minimum widths and a separator of 1
@@ -133,20 +141,40 @@ pub fn stand_side_by_side(needs: &[ColumnNeed], width: usize) -> bool
     width != 0 && least + separators <= width as u128
 }
 
+/// Memory for the widths of a table's columns, reused from table to table.
+#[derive(Drop)]
+pub struct WidthsMemory {
+    /// Word minimum of each column.
+    minimums: Vec<usize>,
+    /// Share of each column.
+    shares: Vec<usize>,
+}
+
+impl WidthsMemory {
+    /// Returns memory for the widths of columns, without an allocation.
+    pub fn new(alloc: Global) -> WidthsMemory {
+        WidthsMemory {
+            minimums: Vec::new(alloc),
+            shares: Vec::new(alloc),
+        }
+    }
+}
+
 /// Returns the widths of a table's columns side by side in `width`; `None` if they can't be side by side.
 ///
 /// A column's share is to `width` as its preferred width is to the sum of all preferred widths, rounded down, but at most
 /// its preferred width and at least its minimum width. The minimum width counts if the two limits contradict. A share is
 /// also at least the column's word minimum: the word minimums are the fairest cut of the longest words, which are at least
 /// the minimum widths. The widths are the fairest cut of the shares to the word minimums, that of [`column_widths`]. All
-/// widths are in columns of text.
+/// widths are in columns of text. They are in the memory of `widths`.
 ///
 /// # Errors
 ///
 /// `OutOfMemory` if an allocation is refused.
 #[tactic(auto, using(crate::specs::laws::WordMinimums::length_minimums, crate::specs::laws::WordMinimums::word_shares_fit))]
 pub fn widths_across(
-    alloc: Global,
+    memory: &mut WidthsMemory,
+    widths: Vec<usize>,
     needs: &[ColumnNeed],
     width: usize,
 ) -> Result<Option<Vec<usize>>, Error>
@@ -156,8 +184,9 @@ pub fn widths_across(
     if !stand_side_by_side(needs, width) {
         return Ok(None);
     }
-    let minimums = word_minimums(alloc, needs, width)?;
-    let shares = shares_from(alloc, needs, minimums.as_slice(), width)?;
-    let cut = column_widths(alloc, minimums.as_slice(), shares.as_slice(), width)?;
+    let WidthsMemory { minimums, shares } = memory;
+    put_word_minimums(minimums, needs, width)?;
+    put_shares(shares, needs, minimums.as_slice(), width)?;
+    let cut = column_widths_in(widths, minimums.as_slice(), shares.as_slice(), width)?;
     Ok(Some(cut.widths))
 }

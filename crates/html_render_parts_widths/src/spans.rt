@@ -1,6 +1,6 @@
 //! Greatest value over each column, of values that each cover a range of columns.
 
-ghost use Rattle.std.specs.Prelude.{◌≡◌, ◌≤◌, ◌<◌, ◌+◌, ◌-◌, ◌*◌, ◌==◌, ℕ, length, max, slice_index, if◌then◌else◌, IfOk};
+ghost use Rattle.std.specs.Prelude.{◌≡◌, ◌≤◌, ◌<◌, ◌+◌, ◌-◌, ◌*◌, ◌==◌, ℕ, length, max, slice_index, if◌then◌else◌, IfOk, OnOk};
 ghost use Rattle.html_render_dom_values.specs.Outcome.{OnlyOutOfMemory};
 ghost use Rattle.html_render_parts_widths.specs.Spans.{AreOver, AreGreatest};
 ghost use Rattle.html_render_parts_widths.specs.SpanSteps.{IsSpread, span_at, split_at, raised_at};
@@ -19,16 +19,17 @@ pub struct Span {
     pub value: usize,
 }
 
-/// Returns `count` zeros.
-fn zeros(alloc: Global, count: usize) -> Result<Vec<usize>, AllocError>
-    ensures len { IfOk result (λ v. length v.items ≡ count) }
-    ensures each { IfOk result (λ v. (k : ℕ) → slice_index v.items k ≡ 0) }
+/// Replaces `values` by `count` zeros.
+fn put_zeros(values: &mut Vec<usize>, count: usize) -> Result<(), AllocError>
+    ensures len { OnOk result (length values.new.items ≡ count) }
+    ensures each { OnOk result ((k : ℕ) → slice_index values.new.items k ≡ 0) }
 {
-    let mut zeros = Vec::with_capacity(alloc, count)?;
+    values.clear();
+    values.reserve_exact(count)?;
     for _ in 0..count {
-        zeros.push(0)?;
+        values.push(0)?;
     }
-    Ok(zeros)
+    Ok(())
 }
 
 /// Returns the greatest number of columns of a span; 0 without spans.
@@ -112,6 +113,30 @@ fn add_all(values: &mut Vec<usize>, spans: &[Span], columns: usize, longer: usiz
     }
 }
 
+/// Replaces `values` by the greatest value of the spans over each column; 0 for a column without a span.
+///
+/// Takes one pass over columns and spans for each binary digit of the longest span's number of columns. The caller
+/// ensures that the spans are within `columns`.
+#[tactic(auto, using(crate::proofs::Spreading::begun, crate::proofs::Spreading::split_spread, crate::proofs::Spreading::ended))]
+pub(crate) fn put_greatest(
+    values: &mut Vec<usize>,
+    columns: usize,
+    spans: &[Span],
+) -> Result<(), AllocError>
+    requires { AreOver columns spans.now }
+    ensures { OnOk result (AreGreatest columns spans.now values.new.items) }
+{
+    put_zeros(values, columns)?;
+    let mut longer = longest(spans).min(columns) + 1;
+    while longer > 1 {
+        let offset = longer / 2;
+        split(values, offset);
+        add_all(values, spans, longer - offset, longer);
+        longer -= offset;
+    }
+    Ok(())
+}
+
 /// Returns the greatest value of the spans over each column; 0 for a column without a span.
 ///
 /// Takes one pass over columns and spans for each binary digit of the longest span's number of columns. The caller
@@ -120,19 +145,12 @@ fn add_all(values: &mut Vec<usize>, spans: &[Span], columns: usize, longer: usiz
 /// # Errors
 ///
 /// `OutOfMemory` if an allocation is refused.
-#[tactic(auto, using(crate::proofs::Spreading::begun, crate::proofs::Spreading::split_spread, crate::proofs::Spreading::ended))]
 pub fn greatest_values(alloc: Global, columns: usize, spans: &[Span]) -> Result<Vec<usize>, Error>
     requires { AreOver columns spans.now }
     ensures ok { IfOk result (λ values. AreGreatest columns spans.now values.items) }
     ensures err { OnlyOutOfMemory result }
 {
-    let mut values = zeros(alloc, columns)?;
-    let mut longer = longest(spans).min(columns) + 1;
-    while longer > 1 {
-        let offset = longer / 2;
-        split(&mut values, offset);
-        add_all(&mut values, spans, longer - offset, longer);
-        longer -= offset;
-    }
+    let mut values = Vec::new(alloc);
+    put_greatest(&mut values, columns, spans)?;
     Ok(values)
 }

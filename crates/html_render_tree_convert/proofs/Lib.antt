@@ -7,4 +7,3 @@ pub mod Closing
 pub mod Running
 pub mod VisitRuns
 pub mod VisitsLeft
-pub mod ValidSpans

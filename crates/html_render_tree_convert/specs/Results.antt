@@ -29,11 +29,10 @@ use Rattle.html_render_tree_convert.specs.declared.mapping.IfEmpty.{IfEmpty}
 use Rattle.html_render_tree_convert.specs.declared.plans.Element.{Element}
 use Rattle.html_render_tree_convert.specs.declared.plans.Plan.{Plan}
 use Rattle.html_render_tree_convert.specs.declared.plans.Plan.TheVariants as plan
-use Rattle.html_render_tree_convert.specs.declared.tables.CellSpan.{CellSpan}
 use Rattle.html_render_tree_convert.specs.declared.tables.Part.TheVariants as part
 use Rattle.html_render_tree_convert.specs.Conversion.{is_blank, vanishes}
 use Rattle.html_render_tree_convert.specs.Plans.{inserts, insertion_of, plan_of}
-use Rattle.html_render_tree_convert.specs.Tables.{greatest_width, spanned_in}
+use Rattle.html_render_parts.specs.Spans.{greatest_width, spanned_in}
 
 abbrev pub Nodes : Type 0
 Nodes = Forest RenderNode
@@ -63,13 +62,13 @@ abbrev pub is_caption : Role → Bool
 is_caption Caption = true
 is_caption _ = false
 
--- what a cell spans
-abbrev pub cell_of : Role → Option CellSpan
-cell_of (Cell span) = Some span
+-- the span that a cell asks for, where 0 columns are those that its row has left
+abbrev pub cell_of : Role → Option Span
+cell_of (Cell span) = Some (record { colspan = span.colspan; rowspan = span.rowspan })
 cell_of _ = None
 
 -- and the cells of a row
-abbrev pub row_of : Role → Option (List CellSpan)
+abbrev pub row_of : Role → Option (List Span)
 row_of (Row cells) = Some cells
 row_of _ = None
 

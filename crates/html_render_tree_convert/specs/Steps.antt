@@ -18,7 +18,7 @@ use Rattle.html_render_tree_convert.specs.Conversion.{vanishes}
 use Rattle.html_render_tree_convert.specs.Results.{Role, is_caption, cell_of, row_of, stands_alone}
 pub use Rattle.html_render_tree_convert.specs.Results.{are_rows}
 use Rattle.html_render_tree_convert.specs.Results as role
-use Rattle.html_render_tree_convert.specs.Tables.{greatest_width, spanned_in}
+use Rattle.html_render_parts.specs.Spans.{greatest_width, spanned_in}
 use Rattle.html_render_tree_convert.specs.declared.mapping.ElementKind.{ElementKind}
 use Rattle.html_render_tree_convert.specs.declared.mapping.ElementKind.TheVariants as element
 use Rattle.html_render_tree_convert.specs.declared.mapping.IfEmpty.TheVariants.{Stands, Vanishes}
@@ -254,7 +254,7 @@ has_place _ r = stands_alone r
 abbrev pub gathered : OpenKind → Role → OpenKind
 gathered (open_kind.Parts spans) (role.Rows rows) = open_kind.Parts (spans ++ spanned_in (greatest_width rows) rows)
 gathered (open_kind.Rows rows) (role.Row cells) = open_kind.Rows (rows ++ cells ∷ [])
-gathered (open_kind.Row cells) (role.Cell span) = open_kind.Row (cells ++ span ∷ [])
+gathered (open_kind.Row cells) (role.Cell span) = open_kind.Row (cells ++ (record { colspan = span.colspan; rowspan = span.rowspan }) ∷ [])
 gathered kind _ = kind
 
 abbrev pub with_child : Role → (is_stray : Bool) → Open → Open

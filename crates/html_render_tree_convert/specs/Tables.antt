@@ -1,12 +1,11 @@
 -- What the cells of a table span.
-use Rattle.std.specs.Prelude.{ℕ, ◌+◌, ◌-◌, ◌^◌, ◌==◌, nat_lt, max, Bool, ◌&&◌, List, [], ◌∷◌, length, map, sum_by, reverse, codes}
+use Rattle.std.specs.Prelude.{ℕ, ◌^◌, nat_lt, max, Bool, ◌&&◌, List, length, reverse, codes}
 use Rattle.std.specs.Prelude.{Option, Some, None, option_and_then, unwrap_or, if◌then◌else◌}
 use Rattle.std.specs.Str.{all_ascii_digits}
 use Rattle.std.specs.Str.Parse.{without_leading_plus, digits_value}
 use Rattle.html_render_dom_nodes.specs.Content.{Property}
 use Rattle.html_render_dom.specs.Attributes.{first_value}
 use Rattle.html_render_tree_convert.specs.declared.tables.CellSpan.{CellSpan}
-use Rattle.html_render_parts.specs.declared.table.Span.{Span}
 
 -- ---- what a cell asks for
 
@@ -25,22 +24,3 @@ size_or_one name properties = unwrap_or (option_and_then size_of (first_value na
 -- what a `td` or a `th` asks for: its `colspan`, which may be 0, and its `rowspan`, which is at least 1
 abbrev pub span_of : List Property → CellSpan
 span_of properties = record { colspan = size_or_one (codes "colspan") properties; rowspan = max 1 (size_or_one (codes "rowspan") properties) }
-
--- ---- the rows of a table
-
--- how many columns a row's cells ask for together, a 0 counted as 1
-abbrev pub width_of : List CellSpan → ℕ
-width_of cells = sum_by (λ c. max 1 c.colspan) cells
-
--- the greatest of the widths of rows
-abbrev pub greatest_width : List (List CellSpan) → ℕ
-greatest_width [] = 0
-greatest_width (r ∷ rs) = max (width_of r) (greatest_width rs)
-
--- what a cell spans in a row that is narrower by `missing` columns than the widest of its part of the table
-abbrev pub spanned : (missing : ℕ) → CellSpan → Span
-spanned missing c = record { colspan = if c.colspan == 0 then missing + 1 else c.colspan; rowspan = max 1 c.rowspan }
-
--- what the cells of a part's rows span
-abbrev pub spanned_in : (widest : ℕ) → List (List CellSpan) → List (List Span)
-spanned_in widest rows = map (λ cells. map (spanned (widest - width_of cells)) cells) rows

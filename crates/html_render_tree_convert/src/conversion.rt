@@ -9,8 +9,8 @@ ghost use Rattle.html_render_tree_convert.specs.OpenElements.{root};
 ghost use Rattle.html_render_tree_convert.specs.Steps.{all_written, begun_with, closed_leaf, come, put};
 
 use crate::builder::{Tree, put};
-use crate::due::Due;
-use crate::elements::{Open, OpenKind, Role};
+use crate::due::{Due, DueParts};
+use crate::elements::{Open, OpenKind};
 use crate::mapping::IfEmpty;
 use html_render_dom_values::Error;
 use html_render_layout_nodes::text::NodeText;
@@ -32,7 +32,7 @@ fn put_in(node: RenderNode, parent: &mut Open, tree: &mut Tree) -> Result<(), Er
         ≡ come (Some (closed_leaf node)) (record { element = parent.old; tree = tree.old.items })) }
     ensures err { OnlyOutOfMemory result }
 {
-    if parent.receive(Role::Contents, &node.kind, false, false)? {
+    if parent.receive_contents(&node.kind, false, false) {
         put(node, tree)?;
     }
     Ok(())
@@ -45,6 +45,8 @@ pub struct Conversion {
     innermost: Open,
     outer: Vec<Open>,
     tree: Tree,
+    // memory of what a closed element had to write, for the next one
+    spare: Option<Box<DueParts>>,
 }
 
 impl Model for Conversion {
@@ -70,6 +72,7 @@ impl Conversion {
             innermost: Open::new(OpenKind::Root, Due::none(), IfEmpty::Stands, false),
             outer: Vec::new(alloc),
             tree: Tree::with_capacity(alloc, nodes)?,
+            spare: None,
         })
     }
 

@@ -128,6 +128,37 @@ impl Due {
         Ok(Due { parts: Some(parts) })
     }
 
+    /// Creates what an element has still to write, in the memory of a closed one if there is any.
+    ///
+    /// # Errors
+    ///
+    /// `OutOfMemory` if an allocation is refused.
+    pub fn reusing(
+        alloc: Global,
+        parts: DueParts,
+        spare: &mut Option<Box<DueParts>>,
+    ) -> Result<Due, Error>
+        ensures ok { IfOk result (λ d. d ≡ held_in (Some parts)) }
+        ensures err { OnlyOutOfMemory result }
+    {
+        let Some(mut reused) = spare.take() else {
+            return Due::new(alloc, parts);
+        };
+        let DueParts {
+            mark,
+            after,
+            own,
+            given,
+        } = parts;
+        reused.mark = mark;
+        reused.after = after;
+        reused.own = own;
+        reused.given = given;
+        Ok(Due {
+            parts: Some(reused),
+        })
+    }
+
     /// Creates what rows or a row have still to write in their first cell: their own texts, and an insertion round these.
     ///
     /// # Errors
@@ -260,29 +291,23 @@ impl Due {
         Ok(())
     }
 
-    /// Writes what is due after the children of an element that closes.
+    /// Writes what is due after the children of an element that closes. Its memory becomes the spare one.
     ///
     /// # Errors
     ///
     /// `OutOfMemory` if an allocation is refused.
     #[inline(never)]
-    pub fn write_back(self, tree: &mut Tree) -> Result<(), Error>
+    pub fn write_back(self, tree: &mut Tree, spare: &mut Option<Box<DueParts>>) -> Result<(), Error>
         ensures ok { OnOk result (tree.new.items ≡ tree.old.items ++ leaves self.own.back) }
         ensures err { OnlyOutOfMemory result }
     {
-        let Some(parts) = self.parts else {
+        let Some(mut parts) = self.parts else {
             return Ok(());
         };
-        let DueParts {
-            mark: _mark,
-            after,
-            own,
-            given: _given,
-        } = Box::into_inner(parts);
-        let InsertedNodes {
-            front: _front,
-            back,
-        } = own;
+        let alloc = *parts.own.back.allocator();
+        let after = parts.after.take();
+        let back = std::mem::replace(&mut parts.own.back, Vec::new(alloc));
+        *spare = Some(parts);
         put_texts(None, after, tree)?;
         put_all(back, tree)
     }

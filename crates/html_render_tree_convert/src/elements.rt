@@ -10,10 +10,10 @@ ghost use Rattle.html_render_tree_convert.specs.Steps.{accepts, counts_in, gathe
 use crate::due::Due;
 use crate::kinds::{Keeping, shows_nothing};
 use crate::mapping::IfEmpty;
-use crate::spans::{PartRows, RowCells, TableSpans, push_part};
 use crate::tables::CellSpan;
 use html_render_dom_values::Error;
 use html_render_layout_nodes::tree::NodeKind;
+use html_render_parts::table::spans::{PartRows, RowCells, TableSpans};
 use std::mem::size_of;
 
 /// Role of a result for the element in which it comes.
@@ -92,6 +92,30 @@ impl OpenKind {
         }
     }
 
+    /// Reports whether it keeps a result of this kind that is no part of a table.
+    #[inline(always)]
+    fn keeps_contents(&self, kind: &NodeKind) -> bool
+        ensures { result ≡ accepts self.now Role.Contents kind.now }
+    {
+        match self {
+            OpenKind::Node(keeping) => keeping.keeps(kind),
+            OpenKind::Root | OpenKind::Cell(_) | OpenKind::Caption => true,
+            OpenKind::Captions | OpenKind::Parts(_) | OpenKind::Rows(_) | OpenKind::Row(_) => false,
+        }
+    }
+
+    /// Reports whether a result of this kind counts that is no part of a table.
+    #[inline(always)]
+    fn counts_contents(&self, kind: &NodeKind, has_children: bool) -> bool
+        ensures { result ≡ counts_in self.now Role.Contents kind.now has_children }
+    {
+        match self {
+            OpenKind::Node(Keeping::Shown) => !shows_nothing(kind, has_children),
+            OpenKind::Captions | OpenKind::Parts(_) => false,
+            _ => true,
+        }
+    }
+
     /// Reports whether a result of this role is in its place, if it is kept.
     #[inline(always)]
     fn has_place(&self, role: &Role) -> bool
@@ -114,9 +138,9 @@ impl OpenKind {
         ensures err { OnlyOutOfMemory result }
     {
         match (self, role) {
-            (OpenKind::Parts(spans), Role::Rows(rows)) => push_part(&rows, spans),
+            (OpenKind::Parts(spans), Role::Rows(rows)) => spans.push_part(rows),
             (OpenKind::Rows(rows), Role::Row(row)) => rows.push(row),
-            (OpenKind::Row(cells), Role::Cell(cell)) => cells.push(cell),
+            (OpenKind::Row(cells), Role::Cell(cell)) => cells.push(cell.colspan, cell.rowspan),
             _ => Ok(()),
         }
     }
@@ -202,5 +226,24 @@ impl Open {
         }
         self.kind.gather(role)?;
         Ok(true)
+    }
+
+    /// Receives a result that is no part of a table, and reports whether it keeps that. The caller writes its entries if so.
+    #[inline(always)]
+    pub fn receive_contents(&mut self, kind: &NodeKind, has_children: bool, is_stray: bool) -> bool
+        ensures kept { result ≡ accepts self.old.kind Role.Contents kind.now }
+        ensures element { self.new ≡ received Role.Contents kind.now has_children is_stray self.old }
+    {
+        if !self.has_results {
+            self.has_results = self.kind.counts_contents(kind, has_children);
+        }
+        if !self.kind.keeps_contents(kind) {
+            return false;
+        }
+        self.has_children = true;
+        if is_stray {
+            self.is_stray = true;
+        }
+        true
     }
 }

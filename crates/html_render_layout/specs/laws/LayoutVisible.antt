@@ -29,8 +29,8 @@ use Rattle.html_render_layout_blocks.specs.laws.BlockVisible.{any, text_count, v
 use Rattle.html_render_layout_pictures.specs.Visible.{count}
 use Rattle.html_render_layout_pictures.specs.laws.Lines.{count-append}
 use Rattle.html_render_layout_blocks.specs.laws.Operations.{Counts}
-use Rattle.html_render_layout.specs.declared.nesting.OwnBlock.{OwnBlock}
-use Rattle.html_render_layout.specs.declared.nesting.OwnBlock.TheVariants.{Shared, Prefixed, Indented}
+use Rattle.html_render_layout.specs.Layout.{OwnBlock}
+use Rattle.html_render_layout.specs.Layout.{Shared, Prefixed, Indented}
 use Rattle.html_render_layout.specs.declared.state.LayoutState.{LayoutState}
 use Rattle.html_render_layout_estimates.specs.declared.settings.LayoutSettings.{LayoutSettings}
 use Rattle.html_render_layout.specs.Kept.{visited_nodes, node_characters, KeepsTexts}

@@ -11,12 +11,13 @@ use Rattle.html_render_layout_nodes.specs.Visitor.{Visit, Leaf, Inner, followed,
 use Rattle.html_render_layout_nodes.specs.Visitor.{Way, Past, past, opened_with, IsOpened}
 use Rattle.html_render_layout_nodes.specs.laws.Visits.{from_state}
 use Rattle.html_render_layout_estimates.specs.Estimates.{prefix_columns}
-use Rattle.html_render_layout.specs.declared.nesting.OwnBlock.{OwnBlock}
-use Rattle.html_render_layout.specs.declared.nesting.OwnBlock.TheVariants.{Shared, Prefixed, Indented}
+use Rattle.html_render_layout.specs.Layout.{OwnBlock}
+use Rattle.html_render_layout.specs.Layout.{Shared, Prefixed, Indented}
 use Rattle.html_render_layout.specs.declared.state.OpenNode.{OpenNode}
 use Rattle.html_render_layout.specs.declared.state.Suspended.{Suspended}
 use Rattle.html_render_layout.specs.declared.state.Suspended.TheVariants as interruption
 use Rattle.html_render_layout.specs.declared.state.Suspended.TheVariants.{NoBlock, Quoted, Cell}
+use Rattle.html_render_layout_blocks.specs.declared.held.Prefixing.{Prefixing}
 use Rattle.html_render_layout.specs.declared.state.CloseAction.{CloseAction}
 use Rattle.html_render_layout.specs.declared.state.CloseAction.TheVariants.{EndRow}
 use Rattle.html_render_layout.specs.declared.state.LayoutState.{LayoutState}
@@ -43,7 +44,7 @@ module _ {S A K T B : Type 0} (m : Algebra S A K T B) where
   State = LayoutState S K T B
 
   -- whether a closing action agrees with a visit: in the places of the children, and in the action after them
-  abbrev StandsFor : CloseAction S T B → Visit State → Type 0
+  abbrev StandsFor : CloseAction S T (Prefixing B T) B → Visit State → Type 0
   StandsFor kept (Leaf behind) = Unit {0}
   StandsFor kept (Inner before places after) = (places ≡ kind_below m kept) × ((r : State) → after r ≡ kind_closed m kept r)
 
@@ -53,7 +54,7 @@ module _ {S A K T B : Type 0} (m : Algebra S A K T B) where
   superscript-stands (Some digits) e s = tt
 
   -- block that a node of this kind suspends with a block of its own, in the state q
-  abbrev own : NodeKind → Estimate → (q : State) → Suspended S T B
+  abbrev own : NodeKind → Estimate → (q : State) → Suspended S (Prefixing B T) B
   own k e q = block_kept m (block_of m.decoration q.settings q.decorator k e) q
 
   kind-stands : (k : NodeKind) (e : Estimate) (trees : Forest RenderNode) (q s : State) →
@@ -72,13 +73,13 @@ module _ {S A K T B : Type 0} (m : Algebra S A K T B) where
   kind-stands k e trees q s = (refl, λ r. some (kind_closed m (kind_kept m (own k e q) k e s) r))
 
   -- a superscript is opened alike with nothing done after it
-  superscript-opened : (digits : Option (List ℕ)) (kept : CloseAction S T B) (s : State) →
+  superscript-opened : (digits : Option (List ℕ)) (kept : CloseAction S T (Prefixing B T) B) (s : State) →
       opened_with (followed (shape_layout m (superscript m.decoration digits) s) (λ r. Some r)) kept
       ≡ opened_with (shape_layout m (superscript m.decoration digits) s) kept
   superscript-opened None kept s = refl
   superscript-opened (Some digits) kept s = ap past (some (perform_all m s (Write (λ x. map raised digits) ∷ []) s))
 
-  kind-opened : (k : NodeKind) (e : Estimate) (trees : Forest RenderNode) (q s : State) (kept : CloseAction S T B) →
+  kind-opened : (k : NodeKind) (e : Estimate) (trees : Forest RenderNode) (q s : State) (kept : CloseAction S T (Prefixing B T) B) →
       let n = shape_layout m (shape_of m.decoration s.settings k e trees) s in
       opened_with (followed n (continued m (own k e q))) kept ≡ opened_with n kept
   kind-opened (Text t) e trees q s kept = ap past (some (write m (chars t) s))
@@ -90,11 +91,11 @@ module _ {S A K T B : Type 0} (m : Algebra S A K T B) where
   kind-opened Superscript e trees q s kept = superscript-opened (digits_of trees) kept s
   kind-opened k e trees q s kept = refl
 
-  abbrev Opened : Visit State → Option (Way State (OpenNode S T B)) → Type 0
+  abbrev Opened : Visit State → Option (Way State (OpenNode S T (Prefixing B T) B)) → Type 0
   Opened n w = IsOpened (below m) (closed m) n w
 
   -- from the closing action of a kind to the pending work of a node in its place, which restores the treatment of texts
-  kept-opened : (n : Visit State) (kept : CloseAction S T B) (item : Suspended S T B) (text : TextContext T) → StandsFor kept n →
+  kept-opened : (n : Visit State) (kept : CloseAction S T (Prefixing B T) B) (item : Suspended S (Prefixing B T) B) (text : TextContext T) → StandsFor kept n →
       Opened (followed (followed n (λ r. Some (record r { text = text }))) (continued m item))
       (option_and_then (λ w. keeping m item text w) (opened_with n kept))
   kept-opened (Leaf None) kept item text stands = record { told = λ children. refl; asked = refl }
@@ -115,8 +116,8 @@ module _ {S A K T B : Type 0} (m : Algebra S A K T B) where
       closes (Some t) = refl
 
   -- in a sub-block of s, if there is one; `around` is the context of the visit
-  nested-opened : (own : Suspended S T B) (c : Option B) (s : State) (visit : State → Visit State) (around : Visit State → Visit State) →
-      around (Leaf None) ≡ Leaf None → (f : State → Option (Way State (OpenNode S T B))) →
+  nested-opened : (own : Suspended S (Prefixing B T) B) (c : Option B) (s : State) (visit : State → Visit State) (around : Visit State → Visit State) →
+      around (Leaf None) ≡ Leaf None → (f : State → Option (Way State (OpenNode S T (Prefixing B T) B))) →
       ((q : State) → Opened (around (followed (visit q) (continued m own))) (f q)) →
       Opened (around (from_state (option_map (λ e. within m e s) c) (λ q. followed (visit q) (continued m own))))
       (option_and_then f (option_map (λ e. within m e s) c))
@@ -125,7 +126,7 @@ module _ {S A K T B : Type 0} (m : Algebra S A K T B) where
 
   -- in a node's block, whichever it is
   in-block : (b : OwnBlock) (s : State) (visit : State → Visit State) (around : Visit State → Visit State) → around (Leaf None) ≡ Leaf None →
-      (f : State → Option (Way State (OpenNode S T B))) →
+      (f : State → Option (Way State (OpenNode S T (Prefixing B T) B))) →
       ((q : State) → Opened (around (followed (visit q) (continued m (block_kept m b s)))) (f q)) →
       Opened (around (placed (block_place m b s) visit s)) (option_and_then f (block_begun m b s))
   in-block Shared s visit around same f h = subst (λ v. Opened (around v) (f s)) (followed-some (visit s)) (h s)
@@ -136,7 +137,7 @@ module _ {S A K T B : Type 0} (m : Algebra S A K T B) where
       nested-opened (interruption.Indented (interrupted m s prefix columns)) (m.operations.sub_block s.block columns min_width) s visit around same f h
 
   -- a node is opened as its visit in its place says
-  node-kept : (n : RenderNode) (trees : Forest RenderNode) (item : Suspended S T B) (s : State) →
+  node-kept : (n : RenderNode) (trees : Forest RenderNode) (item : Suspended S (Prefixing B T) B) (s : State) →
       Opened (followed (layout_of m n trees s) (continued m item)) (opened_in m item n trees s)
   node-kept n trees item s = by (perform_all m s (style_steps m.decoration n.style) s)
     where
@@ -157,12 +158,12 @@ module _ {S A K T B : Type 0} (m : Algebra S A K T B) where
           (kept-opened visit kept item s.text (kind-stands n.kind n.estimate trees q p)))
 
   -- a node is opened by its style, its block and its kind, with what the block suspends
-  pub opened-by : (item before : Suspended S T B) (n : RenderNode) (trees : Forest RenderNode) (s q p : State) (b : OwnBlock) →
+  pub opened-by : (item before : Suspended S (Prefixing B T) B) (n : RenderNode) (trees : Forest RenderNode) (s q p : State) (b : OwnBlock) →
       perform_all m s (style_steps m.decoration n.style) s ≡ Some q → b ≡ block_of m.decoration q.settings q.decorator n.kind n.estimate →
       block_begun m b q ≡ Some p → before ≡ block_kept m b q →
       opened_in m item n trees s ≡ option_and_then (λ w. keeping m item s.text w) (kind_opened m before n.kind n.estimate trees p)
   opened-by item before n trees s q p b style block begun kept =
-      let next : Suspended S T B → State → Option (Way State (OpenNode S T B)) =
+      let next : Suspended S (Prefixing B T) B → State → Option (Way State (OpenNode S T (Prefixing B T) B)) =
       λ i p. option_and_then (λ w. keeping m item s.text w) (kind_opened m i n.kind n.estimate trees p) in
       ap (option_and_then (λ (q : State). option_and_then (λ (p : State).
       option_and_then (λ w. keeping m item s.text w)
@@ -200,16 +201,16 @@ module _ {S A K T B : Type 0} (m : Algebra S A K T B) where
   cell-opened n trees s (Some cell) = node-kept n trees (Cell (record { decorator = s.decorator; block = s.block })) (within m cell s)
 
   -- THE LAW: a node is opened in its place, its children follow, and it is closed, as its visit says
-  pub layout-opened : (parent : Option (OpenNode S T B)) (number : ℕ) (n : RenderNode) (trees : Forest RenderNode) (s : State) →
+  pub layout-opened : (parent : Option (OpenNode S T (Prefixing B T) B)) (number : ℕ) (n : RenderNode) (trees : Forest RenderNode) (s : State) →
       Opened (placed (places_in (below m) parent number s) (layout_of m n trees) s) (opened m parent number n trees s)
   layout-opened None number n trees s = block-opened Shared n trees s
   layout-opened (Some c) number n trees s = by c.kind
     where
-      by : (k : CloseAction S T B) → Opened (placed (kind_below m k number s) (layout_of m n trees) s) (opened_below m k number n trees s)
+      by : (k : CloseAction S T (Prefixing B T) B) → Opened (placed (kind_below m k number s) (layout_of m n trees) s) (opened_below m k number n trees s)
       by EndRow = cell-opened n trees s (m.operations.cell_block s.block)
       by k = block-opened (child_block m s.decorator k number) n trees s
 
-  pub walk-told : (parent : Option (OpenNode S T B)) (number : ℕ) (n : RenderNode) (trees : Forest RenderNode) (s : State) →
+  pub walk-told : (parent : Option (OpenNode S T (Prefixing B T) B)) (number : ℕ) (n : RenderNode) (trees : Forest RenderNode) (s : State) →
       IsOpened (walk_below m) (walk_closed m) (placed (places_in (walk_below m) parent number s) (walk_visits m n trees) s) (walk_opened m parent number n trees s)
   unfolding walk_visits walk_below walk_opened walk_closed
   walk-told = layout-opened

@@ -17,8 +17,8 @@ use Rattle.html_render_layout_nodes.specs.laws.Visits.{from_state}
 use Rattle.html_render_layout_paragraphs.specs.laws.Answers.{Both, Both-then, Both-map, Both-weaken}
 use Rattle.html_render_layout_blocks.specs.Operations.{Operations, DocumentEnd}
 use Rattle.html_render_layout_blocks.specs.laws.Related.{Relates, RelatesEnds}
-use Rattle.html_render_layout.specs.declared.nesting.OwnBlock.{OwnBlock}
-use Rattle.html_render_layout.specs.declared.nesting.OwnBlock.TheVariants.{Shared, Prefixed, Indented}
+use Rattle.html_render_layout.specs.Layout.{OwnBlock}
+use Rattle.html_render_layout.specs.Layout.{Shared, Prefixed, Indented}
 use Rattle.html_render_layout.specs.declared.state.LayoutState.{LayoutState}
 use Rattle.html_render_layout.specs.declared.state.TextContext.{TextContext}
 use Rattle.html_render_layout.specs.Ending.{closing_texts, ended}
@@ -432,7 +432,7 @@ module _ {S A K T B L U C I : Type 0} (m : Algebra S A K T B) (pull : L → U �
   )
   shape-related (Items prefix columns min_width) i s v k = (
     around-related i (stacks_of s v) (Some s) (Some (with_other s v)) (λ r. Some r) (λ r. Some r) (here i s v k) (λ r u l z. here i r u z),
-    λ number j r u z. let c = columns s.decorator in indent-related (padded c (prefix r.decorator number)) c min_width j r u z,
+    λ number j r u z. indent-related (prefix s.decorator r.decorator number) (columns s.decorator) min_width j r u z,
   )
   shape-related Cells i s v k = (
     around-related i (stacks_of s v) (Some (record s { block = m.operations.begin_row s.block }))

@@ -7,10 +7,10 @@ ghost use Rattle.html_render_layout_blocks.specs.Machine as machine;
 ghost use Rattle.html_render_layout_nodes.specs.Visitor.{way};
 ghost use Rattle.html_render_layout_nodes.specs.Preorder.{flatten, forest_of};
 ghost use Rattle.html_render_parts.specs.Decoration.{link};
-ghost use Rattle.html_render_layout_estimates.specs.Estimates.{prefix_columns, number_columns};
+ghost use Rattle.html_render_layout_estimates.specs.Estimates.{number_columns};
 ghost use Rattle.html_render_layout.specs.Layout.{AddTarget, BeginTable, Fence, NewLine, StartBlock, Strike, block_of, perform_all};
 ghost use Rattle.html_render_layout.specs.Layout.{start};
-ghost use Rattle.html_render_layout.specs.Opening.{child_block, continued};
+ghost use Rattle.html_render_layout.specs.Opening.{child_block, block_begun, block_kept, continued};
 ghost use Rattle.html_render_layout.specs.Opening.{kind_opened, kind_closed, opened_in, text_opened, cell_opened, block_opened, opened_below, keeping};
 ghost use Rattle.html_render_layout.specs.Opening.{opened, closed};
 ghost use Rattle.html_render_layout.specs.Working.{by_tags};
@@ -21,17 +21,16 @@ use super::links::{add_mark, begin_link, close_link};
 use super::superscripts::{digits_of, write_superscript};
 use super::tables::{begin_cell, begin_table, end_cell, end_table};
 use super::texts::add_text;
-use crate::items::{child_block, indent_of, is_blank};
-use crate::nesting::{OwnBlock, begin_block, close_indent, close_quote};
+use crate::bullet::Bullet;
+use crate::items::{begin_item, indent_of, is_blank};
+use crate::nesting::{begin_description, begin_prefixed, close_indent, close_quote};
 use crate::state::{CloseAction, OpenNode, Suspended};
 use crate::styles::begin_style;
 use crate::tagging::Tagging;
-use crate::working::{Kept, KindKept, State};
+use crate::working::{Interrupted, Kept, KindKept, State};
 use html_render_dom_values::Error;
-use html_render_dom_values::text::Text;
 use html_render_layout_blocks::held::BoxedBlock;
 use html_render_layout_estimates::estimate::number_columns;
-use html_render_layout_estimates::text::columns;
 use html_render_layout_nodes::tree::{
     Emphasis, Entry, Estimate, Grid, NodeKind, NodeStyle, RenderNode,
 };
@@ -46,19 +45,20 @@ fn inner_least(estimate: &Estimate) -> usize
     estimate.min_width.saturating_sub(estimate.prefix)
 }
 
-/// Opens an unordered list. Returns its closing action, by which its children become items.
+/// Opens an unordered list. Returns its closing action, by which its children become items. Asks the decorator for the bullet
+/// once.
 fn open_bullets<D: TextDecorator, G: Tagging<D::Annotation>>(
     alloc: Global,
     decorator: &D,
     estimate: &Estimate,
 ) -> Result<Option<KindKept<D, G>>, Error>
     ensures ok { IfOk result (λ c. c ≡ Some (CloseAction.Bullets
-        (prefix_columns (D.decoration.unordered_item_prefix decorator.now)) (estimate.now.min_width - estimate.now.prefix))) }
+        (D.decoration.unordered_item_prefix decorator.now) (estimate.now.min_width - estimate.now.prefix))) }
     ensures err { OnlyOutOfMemory result }
 {
     let bullet = decorator.unordered_item_prefix(alloc)?;
     Ok(Some(CloseAction::Bullets {
-        columns: columns(bullet.as_str()),
+        bullet: Bullet::new(alloc, bullet)?,
         min_width: inner_least(estimate),
     }))
 }
@@ -113,7 +113,7 @@ fn strike<D: TextDecorator, G: Tagging<D::Annotation>>(
 /// Opens a superscript: adds one of digits whole and returns `None`, and begins any other one.
 fn open_superscript<D: TextDecorator, G: Tagging<D::Annotation>>(
     alloc: Global,
-    own: &Suspended<D, G::Tag, BoxedBlock<G::Tag, usize>>,
+    own: &Interrupted<D, G>,
     estimate: &Estimate,
     children: &[Entry<RenderNode>],
     state: &mut State<D, G>,
@@ -155,7 +155,7 @@ fn open_link<D: TextDecorator, G: Tagging<D::Annotation>>(
 /// Opens a table, where `own` is the block that it suspends. Moves that block into its closing action, which it returns.
 #[inline(never)]
 fn open_table<D: TextDecorator, G: Tagging<D::Annotation>>(
-    own: &mut Suspended<D, G::Tag, BoxedBlock<G::Tag, usize>>,
+    own: &mut Interrupted<D, G>,
     grid: &Grid,
     state: &mut State<D, G>,
 ) -> Result<Option<KindKept<D, G>>, Error>
@@ -182,33 +182,59 @@ fn open_row<D: TextDecorator, G: Tagging<D::Annotation>>(
     Ok(Some(CloseAction::EndRow))
 }
 
-/// Returns the block that a node of a kind is laid out into.
-#[inline(always)]
-fn block_of<D: TextDecorator, G: Tagging<D::Annotation>>(
+/// Begins the sub-block of a kind of node, if it has one. Returns the block that this suspends.
+///
+/// Few kinds have one, so this is a function of its own.
+#[inline(never)]
+fn begin_sub_block<D: TextDecorator, G: Tagging<D::Annotation>>(
     alloc: Global,
     kind: &NodeKind,
     estimate: &Estimate,
-    state: &State<D, G>,
-) -> Result<OwnBlock, Error>
-    ensures ok { IfOk result (λ b. b ≡ block_of D.decoration state.now.settings state.now.decorator kind.now estimate.now) }
-    ensures err { OnlyOutOfMemory result }
+    state: &mut State<D, G>,
+) -> Result<Interrupted<D, G>, Error>
+    ensures ok { OnOk result (block_begun (by_tags D.decoration G.annotated)
+        (block_of D.decoration state.old.settings state.old.decorator kind.now estimate.now) state.old ≡ Some state.new) }
+    ensures kept { IfOk result (λ i. i ≡ block_kept (by_tags D.decoration G.annotated)
+        (block_of D.decoration state.old.settings state.old.decorator kind.now estimate.now) state.old) }
+    ensures err { IfErr result (λ e. Refuses e (block_begun (by_tags D.decoration G.annotated)
+        (block_of D.decoration state.old.settings state.old.decorator kind.now estimate.now) state.old)) }
 {
     let min_width = inner_least(estimate);
     match kind {
         NodeKind::Header(level) => {
-            let prefix = Text::from(state.decorator.header_prefix(alloc, *level)?);
-            Ok(OwnBlock::Prefixed { prefix, min_width })
+            let prefix = state.decorator.header_prefix(alloc, *level)?;
+            begin_prefixed(alloc, prefix, min_width, state)
         }
         NodeKind::BlockQuote => {
-            let prefix = Text::from(state.decorator.quote_prefix(alloc)?);
-            Ok(OwnBlock::Prefixed { prefix, min_width })
+            let prefix = state.decorator.quote_prefix(alloc)?;
+            begin_prefixed(alloc, prefix, min_width, state)
         }
-        NodeKind::Dd => Ok(OwnBlock::Indented {
-            prefix: Text::from_str(alloc, "  ")?,
-            columns: 2,
-            min_width,
-        }),
-        _ => Ok(OwnBlock::Shared),
+        NodeKind::Dd => begin_description(alloc, min_width, state),
+        _ => Ok(Suspended::NoBlock),
+    }
+}
+
+/// Begins the sub-block of a kind of node, if it has one. Returns the block that this suspends. Most kinds have none: they
+/// take no call.
+#[inline(always)]
+fn begin_block<D: TextDecorator, G: Tagging<D::Annotation>>(
+    alloc: Global,
+    kind: &NodeKind,
+    estimate: &Estimate,
+    state: &mut State<D, G>,
+) -> Result<Interrupted<D, G>, Error>
+    ensures ok { OnOk result (block_begun (by_tags D.decoration G.annotated)
+        (block_of D.decoration state.old.settings state.old.decorator kind.now estimate.now) state.old ≡ Some state.new) }
+    ensures kept { IfOk result (λ i. i ≡ block_kept (by_tags D.decoration G.annotated)
+        (block_of D.decoration state.old.settings state.old.decorator kind.now estimate.now) state.old) }
+    ensures err { IfErr result (λ e. Refuses e (block_begun (by_tags D.decoration G.annotated)
+        (block_of D.decoration state.old.settings state.old.decorator kind.now estimate.now) state.old)) }
+{
+    match kind {
+        NodeKind::Header(_) | NodeKind::BlockQuote | NodeKind::Dd => {
+            begin_sub_block(alloc, kind, estimate, state)
+        }
+        _ => Ok(Suspended::NoBlock),
     }
 }
 
@@ -217,7 +243,7 @@ fn block_of<D: TextDecorator, G: Tagging<D::Annotation>>(
 /// skipped.
 fn open_kind<D: TextDecorator, G: Tagging<D::Annotation>>(
     alloc: Global,
-    own: &mut Suspended<D, G::Tag, BoxedBlock<G::Tag, usize>>,
+    own: &mut Interrupted<D, G>,
     kind: &NodeKind,
     estimate: &Estimate,
     children: &[Entry<RenderNode>],
@@ -301,7 +327,7 @@ fn open_kind<D: TextDecorator, G: Tagging<D::Annotation>>(
 #[inline(never)]
 fn resume_block<D: TextDecorator, G: Tagging<D::Annotation>>(
     alloc: Global,
-    interrupted: Suspended<D, G::Tag, BoxedBlock<G::Tag, usize>>,
+    interrupted: Interrupted<D, G>,
     state: &mut State<D, G>,
 ) -> Result<(), Error>
     ensures ok { OnOk result (continued (by_tags D.decoration G.annotated) interrupted state.old ≡ Some state.new) }
@@ -319,7 +345,7 @@ fn resume_block<D: TextDecorator, G: Tagging<D::Annotation>>(
 #[inline(always)]
 fn resume_outer<D: TextDecorator, G: Tagging<D::Annotation>>(
     alloc: Global,
-    interrupted: Suspended<D, G::Tag, BoxedBlock<G::Tag, usize>>,
+    interrupted: Interrupted<D, G>,
     state: &mut State<D, G>,
 ) -> Result<(), Error>
     ensures ok { OnOk result (continued (by_tags D.decoration G.annotated) interrupted state.old ≡ Some state.new) }
@@ -391,8 +417,7 @@ fn open_own<D: TextDecorator, G: Tagging<D::Annotation>>(
         (forest_of children.now) state.old)) }
 {
     begin_style(alloc, &node.style, state)?;
-    let block = block_of(alloc, &node.kind, &node.estimate, state)?;
-    let mut own = begin_block(alloc, block, state)?;
+    let mut own = begin_block(alloc, &node.kind, &node.estimate, state)?;
     open_kind(alloc, &mut own, &node.kind, &node.estimate, children, state)
 }
 
@@ -401,7 +426,7 @@ fn open_own<D: TextDecorator, G: Tagging<D::Annotation>>(
 #[inline]
 fn open_in<D: TextDecorator, G: Tagging<D::Annotation>>(
     alloc: Global,
-    item: Suspended<D, G::Tag, BoxedBlock<G::Tag, usize>>,
+    item: Interrupted<D, G>,
     node: &RenderNode,
     children: &[Entry<RenderNode>],
     state: &mut State<D, G>,
@@ -522,8 +547,7 @@ fn open_listed<D: TextDecorator, G: Tagging<D::Annotation>>(
             return Ok(None);
         }
     }
-    let block = child_block::<D, G>(alloc, &state.decorator, list, number)?;
-    let item = begin_block(alloc, block, state)?;
+    let item = begin_item(alloc, list, number, state)?;
     open_in(alloc, item, node, children, state)
 }
 

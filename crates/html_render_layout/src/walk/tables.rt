@@ -8,7 +8,7 @@ ghost use Rattle.html_render_layout.specs.Layout.{StartBlock, Fence, BeginTable,
 ghost use Rattle.html_render_layout.specs.Opening.{cell_closed, table_closed};
 ghost use Rattle.html_render_layout.specs.Working.{by_tags};
 
-use crate::state::OuterTable;
+use crate::state::Outer;
 use crate::tagging::Tagging;
 use crate::working::State;
 use html_render_dom_values::Error;
@@ -122,13 +122,13 @@ pub fn begin_cell<D: TextDecorator, G: Tagging<D::Annotation>>(
     alloc: Global,
     cell: BoxedBlock<G::Tag, usize>,
     state: &mut State<D, G>,
-) -> Result<OuterTable<D, BoxedBlock<G::Tag, usize>>, Error>
+) -> Result<Outer<D, BoxedBlock<G::Tag, usize>>, Error>
     ensures ok { OnOk result (state.new ≡ within (by_tags D.decoration G.annotated) cell state.old) }
     ensures outer { IfOk result (λ outer. outer ≡ record { decorator = state.old.decorator; block = state.old.block }) }
     ensures err { OnlyOutOfMemory result }
 {
     let decorator = state.decorator.make_subblock_decorator(alloc)?;
-    Ok(OuterTable {
+    Ok(Outer {
         decorator: mem::replace(&mut state.decorator, decorator),
         block: state.block.replace(cell),
     })
@@ -141,7 +141,7 @@ pub fn begin_cell<D: TextDecorator, G: Tagging<D::Annotation>>(
 /// `TooNarrow` if overflow is off and a character of a paragraph that is flushed is wider than a line. `OutOfMemory`.
 #[inline(always)]
 pub fn end_cell<D: TextDecorator, G: Tagging<D::Annotation>>(
-    outer: OuterTable<D, BoxedBlock<G::Tag, usize>>,
+    outer: Outer<D, BoxedBlock<G::Tag, usize>>,
     state: &mut State<D, G>,
 ) -> Result<(), Error>
     ensures ok { OnOk result (cell_closed (by_tags D.decoration G.annotated) outer state.old ≡ Some state.new) }

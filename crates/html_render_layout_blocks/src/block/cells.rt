@@ -11,7 +11,7 @@ ghost use Rattle.html_render_layout_blocks.specs.Machine.{machine};
 
 use super::Block;
 use super::rows::{OpenRow, Widths};
-use super::tables::{OpenTable, add_open};
+use super::tables::{BlockTable, OpenTable, add_open};
 use html_render_dom_values::Error;
 use html_render_layout_buffer::finished::FinishedLines;
 use html_render_layout_lines::tag::Tag;
@@ -150,6 +150,95 @@ impl<T: Tag, M: Copy> OpenTable<Picture<T, M>, T, M> {
     }
 }
 
+impl<T: Tag, M: Copy> BlockTable<T, M> {
+    /// Begins the next row of the open table, if there is one. Side by side, a row that is open already stays open.
+    fn begin_row(&mut self, alloc: Global) -> Result<(), Error>
+        ensures ok { OnOk result (self.new ≡ option_map with_row_open self.old) }
+        ensures err { OnlyOutOfMemory result }
+    {
+        if !self.is_open {
+            return Ok(());
+        }
+        match &mut self.table {
+            Some(table) => table.begin_row(alloc),
+            None => Ok(()),
+        }
+    }
+
+    /// Returns the columns of the next cell's block; `None` if the cell is skipped. Where no row is open, and in a
+    /// stacked table, they are `width`, those of the table's block.
+    fn next_cell_width(&self, width: usize) -> Option<usize>
+        ensures { result ≡ next_cell_width width self.now }
+    {
+        if !self.is_open {
+            return Some(width);
+        }
+        match &self.table {
+            Some(table) => table.next_cell_width(width),
+            None => Some(width),
+        }
+    }
+
+    /// Returns the place of the next cell.
+    fn cell_place(&self) -> CellPlace<T>
+        ensures { result ≡ cell_place self.now }
+    {
+        if !self.is_open {
+            return CellPlace::Below;
+        }
+        match &self.table {
+            Some(table) => table.cell_place(),
+            None => CellPlace::Below,
+        }
+    }
+
+    /// Skips the next cell of the open row, if there is one.
+    fn skip_cell(&mut self, alloc: Global) -> Result<(), AllocError>
+        ensures { OnOk result (self.new ≡ option_map skipped self.old) }
+    {
+        if !self.is_open {
+            return Ok(());
+        }
+        match &mut self.table {
+            Some(table) => table.skip_cell(alloc),
+            None => Ok(()),
+        }
+    }
+
+    /// Adds a cell to the open row, if there is one. Its lines are moved out of `lines`.
+    fn add_cell(
+        &mut self,
+        alloc: Global,
+        width: usize,
+        lines: &mut FinishedLines<T, M>,
+        marks: Vec<M>,
+    ) -> Result<(), AllocError>
+        ensures { OnOk result (self.new ≡ option_map (with_next (record { width = width; lines = lines.old; marks = marks.items })) self.old) }
+    {
+        if !self.is_open {
+            return Ok(());
+        }
+        match &mut self.table {
+            Some(table) => table.add_cell(alloc, width, lines, marks),
+            None => Ok(()),
+        }
+    }
+
+    /// Draws the open row, if there is one, and closes it.
+    fn end_row(&mut self, alloc: Global) -> Result<(), Error>
+        ensures ok { OnOk result (self.new ≡ option_map (with_row_over machine) self.old) }
+        ensures err { OnlyOutOfMemory result }
+    {
+        if !self.is_open {
+            return Ok(());
+        }
+        match &mut self.table {
+            Some(table) => table.end_row(alloc),
+            None => Ok(()),
+        }
+    }
+}
+
 impl<T: Tag, M: Copy> Block<T, M> {
     /// Begins the next row of the open table. Side by side, a row that is open already stays open. Without a table,
     /// does nothing.
@@ -162,21 +251,14 @@ impl<T: Tag, M: Copy> Block<T, M> {
         ensures ok { OnOk result (self.new ≡ machine.operations.begin_row self.old) }
         ensures err { OnlyOutOfMemory result }
     {
-        let alloc = self.alloc;
-        if let Some(table) = &mut self.table {
-            table.begin_row(alloc)?;
-        }
-        Ok(())
+        self.table.begin_row(self.alloc)
     }
 
     /// Returns the columns of the next cell's block; `None` if the cell is skipped.
     pub(crate) fn next_cell_width(&self) -> Option<usize>
         ensures { result ≡ next_cell_width self.now.setting.width self.now.table }
     {
-        match &self.table {
-            Some(table) => table.next_cell_width(self.setting.width),
-            None => Some(self.setting.width),
-        }
+        self.table.next_cell_width(self.setting.width)
     }
 
     /// Skips the next cell of the open row, if there is one.
@@ -189,21 +271,8 @@ impl<T: Tag, M: Copy> Block<T, M> {
         ensures ok { OnOk result (self.new ≡ machine.operations.skip_cell self.old) }
         ensures err { OnlyOutOfMemory result }
     {
-        let alloc = self.alloc;
-        if let Some(table) = &mut self.table {
-            table.skip_cell(alloc)?;
-        }
+        self.table.skip_cell(self.alloc)?;
         Ok(())
-    }
-
-    /// Returns the place of the next cell.
-    fn cell_place(&self) -> CellPlace<T>
-        ensures { result ≡ cell_place self.now.table }
-    {
-        match &self.table {
-            Some(table) => table.cell_place(),
-            None => CellPlace::Below,
-        }
     }
 
     /// Adds a flushed block as a cell to the open row, if there is one.
@@ -218,22 +287,8 @@ impl<T: Tag, M: Copy> Block<T, M> {
     {
         let alloc = self.alloc;
         let marks = cell.take_waiting();
-        match &mut self.table {
-            Some(table) => table.add_cell(alloc, cell.setting.width, &mut cell.lines, marks),
-            None => Ok(()),
-        }
-    }
-
-    /// Draws the open row, if there is one, and closes it.
-    fn draw_row(&mut self) -> Result<(), Error>
-        ensures ok { OnOk result (self.new ≡ record self.old { table = option_map (with_row_over machine) self.old.table }) }
-        ensures err { OnlyOutOfMemory result }
-    {
-        let alloc = self.alloc;
-        match &mut self.table {
-            Some(table) => table.end_row(alloc),
-            None => Ok(()),
-        }
+        self.table
+            .add_cell(alloc, cell.setting.width, &mut cell.lines, marks)
     }
 
     /// Appends lines, with the waiting marks at the front of the first one and `marks` at the end of the last one.
@@ -314,7 +369,7 @@ impl<T: Tag, M: Copy> Block<T, M> {
         ensures ok { OnOk result (block.cell_added machine self.old self.old.table cell.old ≡ Some self.new) }
         ensures err { IfErr result (λ e. Refuses e (block.cell_added machine self.old self.old.table cell.old)) }
     {
-        match self.cell_place() {
+        match self.table.cell_place() {
             CellPlace::InRow => {
                 self.add_to_row(cell)?;
                 Ok(())
@@ -372,8 +427,8 @@ impl<T: Tag, M: Copy> Block<T, M> {
         ensures ok { OnOk result (machine.operations.end_row self.old ≡ Some self.new) }
         ensures err { IfErr result (λ e. Refuses e (machine.operations.end_row self.old)) }
     {
-        match self.cell_place() {
-            CellPlace::InRow => self.draw_row(),
+        match self.table.cell_place() {
+            CellPlace::InRow => self.table.end_row(self.alloc),
             CellPlace::InStack {
                 border,
                 has_lines: true,

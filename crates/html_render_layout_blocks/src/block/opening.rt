@@ -14,20 +14,18 @@ ghost use Rattle.html_render_layout_pictures.specs.Fillers.{character_of};
 
 use super::Block;
 use super::rows::Widths;
-use super::tables::OpenTable;
 use html_render_dom_values::Error;
 use html_render_layout_lines::tag::Tag;
 use html_render_layout_pictures::gaps::{Filler, push_fillers};
-use html_render_layout_pictures::picture::{Frame, Picture};
+use html_render_layout_pictures::picture::Frame;
 use html_render_parts::table::cells::{RowsAhead, TableCells};
-use html_render_parts_widths::{ColumnNeed, widths_across};
+use html_render_parts_widths::ColumnNeed;
 use std::alloc::{AllocError, Global};
 
-/// Returns the widths of a table's columns side by side in `width` columns. `None` if they don't fit or the table is to
-/// be stacked.
-#[tactic(auto, using(html_render_parts_widths::specs::laws::Needs::across_within))]
+/// Returns the widths of a table's columns side by side in `width` columns, in the memory of others. `None` if they don't fit
+/// or the table is to be stacked.
 fn column_widths(
-    alloc: Global,
+    memory: Widths,
     width: usize,
     stacked: bool,
     needs: &[ColumnNeed],
@@ -38,10 +36,7 @@ fn column_widths(
     if stacked {
         return Ok(None);
     }
-    match widths_across(alloc, needs, width)? {
-        Some(widths) => Ok(Some(Widths::new(alloc, widths))),
-        None => Ok(None),
-    }
+    memory.across(needs, width)
 }
 
 /// Returns an iterator over the rows of a table, with their cells, placeholders and gaps.
@@ -92,16 +87,6 @@ impl<T: Tag, M: Copy> Block<T, M> {
         self.lines.append_buffer(&mut last)
     }
 
-    /// Changes the open table if it is stacked. Reports whether it is.
-    fn change_stacked(&mut self, border: Option<T>, has_lines: bool) -> bool
-        ensures { MatchBool result (self.new ≡ record self.old { table = Some (Stacked border has_lines) }) (self.new ≡ self.old) }
-    {
-        match &mut self.table {
-            Some(table) => table.change_stacked(border, has_lines),
-            None => false,
-        }
-    }
-
     /// Makes a stacked table the open one.
     pub(super) fn set_stacked(
         &mut self,
@@ -110,12 +95,10 @@ impl<T: Tag, M: Copy> Block<T, M> {
     ) -> Result<(), AllocError>
         ensures { OnOk result (self.new ≡ record self.old { table = Some (Stacked border has_lines) }) }
     {
-        if self.change_stacked(border, has_lines) {
+        if self.table.change_stacked(border, has_lines) {
             return Ok(());
         }
-        let stacked = OpenTable::Stacked { border, has_lines };
-        self.table = Some(Box::new(self.alloc, stacked)?);
-        Ok(())
+        self.table.open_stacked(self.alloc, border, has_lines)
     }
 
     /// Begins a stacked table, or another row of it, below a border if borders are drawn.
@@ -140,15 +123,8 @@ impl<T: Tag, M: Copy> Block<T, M> {
         let ahead = rows_of(self.alloc, grid)?;
         let frame = frame_of(tag, borders, &widths);
         let waiting = self.take_waiting();
-        let picture = Picture::new(self.alloc, frame, waiting)?;
-        let table = OpenTable::Across {
-            picture,
-            widths,
-            ahead,
-            row: None,
-        };
-        self.table = Some(Box::new(self.alloc, table)?);
-        Ok(())
+        self.table
+            .open_across(self.alloc, frame, waiting, widths, ahead)
     }
 
     /// Begins a table in a flushed block: side by side in columns of these widths, or stacked if there are none.
@@ -196,7 +172,8 @@ impl<T: Tag, M: Copy> Block<T, M> {
         ensures err { IfErr result (λ e. Refuses e (machine.operations.begin_table self.old tag borders stacked grid.now needs.now)) }
     {
         self.flush_whole()?;
-        let widths = column_widths(self.alloc, self.setting.width, stacked, needs)?;
+        let memory = self.table.take_widths(self.alloc);
+        let widths = column_widths(memory, self.setting.width, stacked, needs)?;
         self.open_table(tag, borders, grid, widths)
     }
 }

@@ -2,13 +2,17 @@
 
 ghost use Rattle.std.specs.Prelude.{◌≡◌, suc, ◌+◌, ◌-◌, ◌^◌, ◌<◌, ◌++◌, ◌∷◌, [], length, reverse, sum, take, drop, count_by, not, ◌==◌, OnOk, IfOk};
 ghost use Rattle.std.specs.List.{list_any};
+ghost use Rattle.html_render_dom_values.specs.Outcome.{OnlyOutOfMemory};
+ghost use Rattle.html_render_parts_widths.specs.Shares.{widths_across};
 ghost use Rattle.html_render_layout_blocks.specs.OpenRows as rows;
 
+use html_render_dom_values::Error;
 use html_render_layout_buffer::finished::FinishedLines;
 use html_render_layout_lines::tag::Tag;
 use html_render_layout_pictures::cells::RowCells;
 use html_render_layout_pictures::picture::Row;
 use html_render_parts::table::{CellKind, PlacedCell};
+use html_render_parts_widths::{ColumnNeed, WidthsMemory, widths_across};
 use std::alloc::{AllocError, Global};
 use std::marker::Model;
 use std::mem;
@@ -49,6 +53,8 @@ impl<T, M> Model for OpenRow<T, M> {
 #[derive(Drop)]
 pub struct Widths {
     widths: Vec<usize>,
+    /// Memory for computing widths.
+    memory: WidthsMemory,
     /// Buffer for the places of a row.
     places: Vec<RowPlace>,
     /// Buffer for the cells of a row.
@@ -215,15 +221,39 @@ fn count_filled(widths: &[usize]) -> usize
 }
 
 impl Widths {
-    /// Returns the widths of a table's columns. With the separators between them, their sum must fit a machine word.
-    pub fn new(alloc: Global, widths: Vec<usize>) -> Widths
-        requires { sum widths.items + (length widths.items - 1) < 2 ^ 64 }
-        ensures { result ≡ widths.items }
+    /// Returns the widths of no columns, without an allocation.
+    pub fn new(alloc: Global) -> Widths
+        ensures { result ≡ [] }
     {
         Widths {
-            widths,
+            widths: Vec::new(alloc),
+            memory: WidthsMemory::new(alloc),
             places: Vec::new(alloc),
             cells: Vec::new(alloc),
+        }
+    }
+
+    /// Returns the widths of columns that are side by side in `width` columns, in this memory. `None` if the columns don't
+    /// fit.
+    #[tactic(auto, using(html_render_parts_widths::specs::laws::Needs::across_within))]
+    pub fn across(self, needs: &[ColumnNeed], width: usize) -> Result<Option<Widths>, Error>
+        ensures ok { IfOk result (λ widths. widths ≡ widths_across width needs.now) }
+        ensures err { OnlyOutOfMemory result }
+    {
+        let Widths {
+            widths,
+            mut memory,
+            places,
+            cells,
+        } = self;
+        match widths_across(&mut memory, widths, needs, width)? {
+            Some(widths) => Ok(Some(Widths {
+                widths,
+                memory,
+                places,
+                cells,
+            })),
+            None => Ok(None),
         }
     }
 

@@ -88,7 +88,7 @@ impl<T: Tag, M: Copy> LineBuffer<T, M> {
     /// # Errors
     ///
     /// `AllocError`. The buffer then has no lines.
-    fn append_filled(
+    fn append_each_filled(
         &mut self,
         other: &LineBuffer<T, M>,
         width: usize,
@@ -102,6 +102,29 @@ impl<T: Tag, M: Copy> LineBuffer<T, M> {
             self.append_line_filled(other, n, width, tag)?;
         }
         Ok(())
+    }
+
+    /// Appends copies of another buffer's ended lines, each filled with spaces up to `width` columns, under a tag. Neither buffer
+    /// has an open line.
+    ///
+    /// # Errors
+    ///
+    /// `AllocError`. The buffer then has no lines.
+    pub fn append_filled(
+        &mut self,
+        other: &LineBuffer<T, M>,
+        width: usize,
+        tag: T,
+    ) -> Result<(), AllocError>
+        requires open { self.old.line ≡ [] }
+        requires other_open { other.now.line ≡ [] }
+        ensures ok { OnOk result (self.new ≡ record { lines = self.old.lines ++ filled (Some tag) width other.now.lines; line = [] }) }
+        ensures err { OnErr result (self.new ≡ no_lines) }
+    {
+        if other.least_columns() >= width {
+            return self.append_all(other);
+        }
+        self.append_each_filled(other, width, tag)
     }
 
     /// Fills each ended line with spaces up to `width` columns, under a tag. Does nothing where each has as many.
@@ -121,7 +144,7 @@ impl<T: Tag, M: Copy> LineBuffer<T, M> {
         let (bytes, lines) = (self.byte_count(), self.line_count());
         let spaces = width.saturating_mul(lines).min(bytes);
         filled.reserve(bytes.saturating_add(spaces), lines)?;
-        filled.append_filled(self, width, tag)?;
+        filled.append_each_filled(self, width, tag)?;
         mem::swap(self, &mut filled);
         Ok(())
     }

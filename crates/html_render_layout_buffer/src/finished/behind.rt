@@ -1,6 +1,6 @@
 //! Finished lines behind prefixes.
 
-ghost use Rattle.std.specs.Prelude.{◌≡◌, ◌<◌, ◌++◌, [], ◌∷◌, length, map, OnOk};
+ghost use Rattle.std.specs.Prelude.{◌≡◌, ◌<◌, ◌++◌, [], ◌∷◌, length, OnOk};
 ghost use Rattle.std.specs.List.{slice_index_or};
 ghost use Rattle.std.specs.Str.{chars};
 ghost use Rattle.html_render_layout_lines.specs.Line.{marks_line};
@@ -9,12 +9,12 @@ ghost use Rattle.html_render_layout_buffer.specs.Pieces.{lines_of};
 ghost use Rattle.html_render_layout_buffer.specs.Prefixed.{prefixed};
 
 use super::piece::{LONG, Piece};
+use super::pieces::Pieces;
 use super::{FinishedLines, settle};
 use crate::buffer::LineBuffer;
 use crate::prefix::Prefix;
 use html_render_layout_lines::tag::Tag;
 use std::alloc::AllocError;
-use std::collections::VecDeque;
 
 impl<T: Tag, M: Copy> FinishedLines<T, M> {
     /// Appends a copy of a buffer's ended line `n`.
@@ -42,7 +42,7 @@ impl<T: Tag, M: Copy> FinishedLines<T, M> {
     pub(super) fn separate(&mut self) -> Result<(), AllocError>
         ensures { OnOk result (self.new ≡ self.old) }
     {
-        if !self.last.has_longer_line(LONG) {
+        if self.last.byte_count() <= LONG || !self.last.has_longer_line(LONG) {
             return Ok(());
         }
         let lines = self.take_last();
@@ -59,9 +59,8 @@ impl<T: Tag, M: Copy> FinishedLines<T, M> {
         Ok(())
     }
 
-    /// Appends the lines of a piece, the first after marks and the prefix `first` and each other one after the prefix
-    /// `later`.
-    fn push_first_behind(
+    /// Appends the lines of a piece: the first after marks and the prefix `first`, and each other one after the prefix `later`.
+    fn push_behind(
         &mut self,
         piece: Piece<T, M>,
         marks: &[M],
@@ -95,38 +94,24 @@ impl<T: Tag, M: Copy> FinishedLines<T, M> {
         self.last.append_behind(lines, first, later)
     }
 
-    /// Appends copies of a buffer's ended lines, each after a prefix.
-    fn push_each_line_behind(
-        &mut self,
-        lines: &LineBuffer<T, M>,
-        prefix: &Prefix<'_, T>,
-    ) -> Result<(), AllocError>
-        ensures { OnOk result (self.new ≡ self.old ++ map (λ l. under prefix.now.tag (chars prefix.now.text.now) ++ l) lines.now.lines) }
-    {
-        self.last.append_each_behind(lines, 0, prefix)
-    }
-
-    /// Appends the lines of a piece, each after a prefix.
-    fn push_behind(&mut self, piece: Piece<T, M>, prefix: &Prefix<'_, T>) -> Result<(), AllocError>
-        ensures { OnOk result (self.new ≡ self.old ++ map (λ l. under prefix.now.tag (chars prefix.now.text.now) ++ l) piece) }
-    {
-        if piece.is_long() {
-            return self.push_piece(piece.with_prefix(prefix)?);
-        }
-        self.push_each_line_behind(&piece.into_buffer()?, prefix)
-    }
-
     /// Appends the lines of pieces, each after a prefix.
     fn push_each_behind(
         &mut self,
-        pieces: VecDeque<Piece<T, M>>,
+        pieces: Pieces<T, M>,
         prefix: &Prefix<'_, T>,
     ) -> Result<(), AllocError>
-        ensures { OnOk result (self.new ≡ self.old ++ map (λ l. under prefix.now.tag (chars prefix.now.text.now) ++ l) (lines_of pieces.items)) }
+        ensures { OnOk result (self.new ≡ self.old ++ prefixed (under prefix.now.tag (chars prefix.now.text.now))
+            (under prefix.now.tag (chars prefix.now.text.now)) (lines_of pieces)) }
     {
+        let same = Prefix {
+            text: prefix.text,
+            columns: prefix.columns,
+            tag: prefix.tag,
+        };
         let mut pieces = pieces;
-        while let Some(piece) = pieces.pop_front() {
-            self.push_behind(piece, prefix)?;
+        while let Some(piece) = pieces.pop_first() {
+            piece.has_line();
+            self.push_behind(piece, &[], prefix, &same)?;
         }
         Ok(())
     }
@@ -148,13 +133,12 @@ impl<T: Tag, M: Copy> FinishedLines<T, M> {
             (under later.now.tag (chars later.now.text.now)) other.old) }
     {
         other.separate()?;
-        let mut pieces = other.pieces.take();
-        let Some(piece) = pieces.pop_front() else {
+        let Some(piece) = other.pieces.pop_first() else {
             return self.push_lines_behind(&other.last, marks, first, later);
         };
         piece.has_line();
-        self.push_first_behind(piece, marks, first, later)?;
-        self.push_each_behind(pieces, later)?;
-        self.push_each_line_behind(&other.last, later)
+        settle(&mut other.pieces, &mut other.last)?;
+        self.push_behind(piece, marks, first, later)?;
+        self.push_each_behind(other.pieces.take(), later)
     }
 }

@@ -1,14 +1,13 @@
-//! Pieces of finished lines.
+//! A deque of pieces.
 
-ghost use Rattle.std.specs.Prelude.{◌≡◌, ℕ, List, ◌==◌, ◌<◌, ◌≤◌, ◌+◌, ◌++◌, [], Some, drop, take, map, length, nat_le, OnOk, IfOk};
+ghost use Rattle.std.specs.Prelude.{◌≡◌, ℕ, List, ◌==◌, ◌≤◌, ◌+◌, ◌++◌, [], ◌∷◌, Some, drop, take, map, length, nat_le, OnOk, IfOk, IfSome, IfNone};
 ghost use Rattle.std.specs.List.{list_all};
 ghost use Rattle.html_render_layout_lines.specs.Line.{Line, columns};
 ghost use Rattle.html_render_layout_lines.specs.TaggedText.{counted};
 ghost use Rattle.html_render_layout_buffer.specs.Marked.{marked_before, marked_behind};
 ghost use Rattle.html_render_layout_buffer.specs.Padding.{filled};
-ghost use Rattle.html_render_layout_buffer.specs.Pieces.{fits_after, lines_of, IsCount, ArePieces};
+ghost use Rattle.html_render_layout_buffer.specs.Pieces.{fits_after, lines_of, ArePieces};
 
-use crate::buffer::LineBuffer;
 use crate::finished::piece::Piece;
 use crate::runs::longer;
 use html_render_layout_lines::tag::Tag;
@@ -17,43 +16,29 @@ use std::collections::VecDeque;
 use std::marker::Model;
 use std::mem;
 
-/// What is known of pieces without reading them.
-#[derive(Clone, Copy)]
-struct Known {
+/// Pieces, in order.
+#[derive(Drop)]
+pub(super) struct Pieces<T, M> {
+    pieces: VecDeque<Piece<T, M>>,
     // numbers of first and of last pieces whose widths aren't known
     front: usize,
     back: usize,
     // columns that each line of the pieces between them has at least
     least: usize,
-    // number of lines; `None` if it isn't known
-    count: Option<usize>,
-}
-
-/// What is known of no pieces.
-const OF_NONE: Known = Known {
-    front: 0,
-    back: 0,
-    least: usize::MAX,
-    count: Some(0),
-};
-
-/// Lines in pieces, in order.
-#[derive(Drop)]
-pub(super) struct Pieces<T, M> {
-    pieces: VecDeque<Piece<T, M>>,
-    known: Known,
+    // number of lines
+    count: usize,
 }
 
 impl<T, M> Model for Pieces<T, M> {
     ghost use Rattle.std.specs.Prelude.{List};
     ghost use Rattle.html_render_layout_lines.specs.Line.{Line};
-    ghost use Rattle.html_render_layout_buffer.specs.Pieces.{lines_of, ArePieces};
+    ghost use Rattle.html_render_layout_buffer.specs.Pieces.{ArePieces};
 
-    ghost Value = { List (Line T M) };
+    ghost Value = { List (List (Line T M)) };
 
-    ghost view = { λ p. lines_of p.pieces.items };
+    ghost view = { λ p. p.pieces.items };
 
-    ghost invariant = { λ p. ArePieces p.known p.pieces.items };
+    ghost invariant = { λ p. ArePieces p.front p.back p.least p.count p.pieces.items };
 }
 
 impl<T: Tag, M: Copy> Pieces<T, M> {
@@ -63,139 +48,169 @@ impl<T: Tag, M: Copy> Pieces<T, M> {
     {
         Pieces {
             pieces: VecDeque::new(alloc),
-            known: OF_NONE,
+            front: 0,
+            back: 0,
+            least: usize::MAX,
+            count: 0,
         }
     }
 
-    /// Removes all pieces.
-    pub(super) fn clear(&mut self)
-        ensures { self.new ≡ [] }
+    /// Moves the pieces out.
+    pub(super) fn take(&mut self) -> Pieces<T, M>
+        ensures taken { result ≡ self.old }
+        ensures left { self.new ≡ [] }
     {
-        self.pieces.clear();
-        self.known = OF_NONE;
+        let none = Pieces::new(*self.pieces.allocator());
+        mem::replace(self, none)
     }
 
-    /// Reports whether there are no pieces.
+    /// Reports whether there are no lines.
+    #[inline]
     pub(super) fn is_empty(&self) -> bool
-        ensures { result ≡ (length self.now == 0) }
+        ensures { result ≡ (length (lines_of self.now) == 0) }
     {
-        match self.pieces.front() {
-            Some(piece) => piece.line_count() == 0,
-            None => true,
-        }
+        self.count == 0
     }
 
     /// Returns the number of lines.
-    ///
-    /// # Errors
-    ///
-    /// `AllocError`, if a machine word doesn't hold it.
-    pub(super) fn line_count(&self) -> Result<usize, AllocError>
-        ensures { IfOk result (λ n. n ≡ length self.now) }
+    #[inline]
+    pub(super) fn line_count(&self) -> usize
+        ensures { result ≡ length (lines_of self.now) }
     {
-        match self.known.count {
-            Some(count) => Ok(count),
-            None => Err(AllocError),
-        }
+        self.count
     }
 
     /// Appends a piece.
     pub(super) fn push(&mut self, piece: Piece<T, M>) -> Result<(), AllocError>
-        ensures { OnOk result (self.new ≡ self.old ++ piece) }
+        ensures { OnOk result (self.new ≡ self.old ++ piece ∷ []) }
     {
-        let back = longer(self.known.back, 1)?;
-        let count = more_lines(self.known.count, piece.line_count());
+        let back = longer(self.back, 1)?;
+        let count = longer(self.count, piece.line_count())?;
         self.pieces.push_back(piece)?;
-        self.known.back = back;
-        self.known.count = count;
+        self.back = back;
+        self.count = count;
         Ok(())
     }
 
-    /// Moves the pieces out.
-    pub(super) fn take(&mut self) -> VecDeque<Piece<T, M>>
-        ensures taken { lines_of result.items ≡ self.old }
-        ensures left { self.new ≡ [] }
+    /// Puts a piece in front of the others.
+    pub(super) fn push_first(&mut self, piece: Piece<T, M>) -> Result<(), AllocError>
+        ensures { OnOk result (self.new ≡ piece ∷ self.old) }
     {
-        self.known = OF_NONE;
-        taken(&mut self.pieces)
+        let front = longer(self.front, 1)?;
+        let count = longer(self.count, piece.line_count())?;
+        self.pieces.push_front(piece)?;
+        self.front = front;
+        self.count = count;
+        Ok(())
     }
 
-    /// Moves other pieces to the end. Those of the shorter value are moved.
-    pub(super) fn append(&mut self, other: &mut Pieces<T, M>) -> Result<(), AllocError>
-        ensures { OnOk result (self.new ≡ self.old ++ other.old) }
+    /// Removes and returns the first piece.
+    pub(super) fn pop_first(&mut self) -> Option<Piece<T, M>>
+        ensures some { IfSome result (λ p. self.old ≡ p ∷ self.new) }
+        ensures none { IfNone result (self.old ≡ []) }
+        ensures left { IfNone result (self.new ≡ []) }
     {
-        let known = joined_known(&self.pieces, self.known, &other.pieces, other.known)?;
-        self.known = OF_NONE;
-        other.known = OF_NONE;
-        let pieces = taken(&mut self.pieces);
-        self.pieces = joined(pieces, taken(&mut other.pieces))?;
-        self.known = known;
+        let Some(piece) = self.pieces.pop_front() else {
+            return None;
+        };
+        self.front = self.front.saturating_sub(1);
+        self.count -= piece.line_count();
+        Some(piece)
+    }
+
+    /// Removes and returns the last piece.
+    pub(super) fn pop_last(&mut self) -> Option<Piece<T, M>>
+        ensures some { IfSome result (λ p. self.old ≡ self.new ++ p ∷ []) }
+        ensures none { IfNone result (self.old ≡ []) }
+        ensures left { IfNone result (self.new ≡ []) }
+    {
+        let Some(piece) = self.pieces.pop_back() else {
+            return None;
+        };
+        self.back = self.back.saturating_sub(1);
+        self.count -= piece.line_count();
+        Some(piece)
+    }
+
+    /// Returns the pieces followed by others. Those of the shorter value are moved, and their widths aren't known then.
+    pub(super) fn joined(self, others: Pieces<T, M>) -> Result<Pieces<T, M>, AllocError>
+        ensures { IfOk result (λ p. p ≡ self ++ others) }
+    {
+        let count = longer(self.count, others.count)?;
+        if self.pieces.len() < others.pieces.len() {
+            let front = longer(self.pieces.len(), others.front)?;
+            let pieces = joined(self.pieces, others.pieces)?;
+            return Ok(Pieces {
+                pieces,
+                front,
+                back: others.back,
+                least: others.least,
+                count,
+            });
+        }
+        let back = longer(self.back, others.pieces.len())?;
+        let pieces = joined(self.pieces, others.pieces)?;
+        Ok(Pieces {
+            pieces,
+            front: self.front,
+            back,
+            least: self.least,
+            count,
+        })
+    }
+
+    /// Moves other pieces to the end.
+    #[inline(never)]
+    pub(super) fn append(&mut self, others: &mut Pieces<T, M>) -> Result<(), AllocError>
+        ensures { OnOk result (self.new ≡ self.old ++ others.old) }
+    {
+        *self = self.take().joined(others.take())?;
         Ok(())
     }
 
     /// Puts marks in front of the first line. Does nothing without pieces.
+    #[inline(never)]
     pub(super) fn mark_first(&mut self, marks: &[M]) -> Result<(), AllocError>
-        ensures { OnOk result (self.new ≡ marked_before marks.now self.old) }
+        ensures { OnOk result (lines_of self.new ≡ marked_before marks.now (lines_of self.old)) }
     {
-        let known = self.known;
-        self.known = OF_NONE;
-        let mut pieces = taken(&mut self.pieces);
-        let Some(piece) = pieces.pop_front() else {
+        let Some(piece) = self.pop_first() else {
             return Ok(());
         };
         piece.has_line();
-        pieces.push_front(piece.marked_first(marks)?)?;
-        self.pieces = pieces;
-        self.known = known;
-        Ok(())
+        self.push_first(piece.marked_first(marks)?)
     }
 
     /// Appends marks to the last line. Does nothing without pieces.
+    #[inline(never)]
     pub(super) fn mark_last(&mut self, marks: &[M]) -> Result<(), AllocError>
-        ensures { OnOk result (self.new ≡ marked_behind marks.now self.old) }
+        ensures { OnOk result (lines_of self.new ≡ marked_behind marks.now (lines_of self.old)) }
     {
-        let known = self.known;
-        self.known = OF_NONE;
-        let mut pieces = taken(&mut self.pieces);
-        let Some(piece) = pieces.pop_back() else {
+        let Some(piece) = self.pop_last() else {
             return Ok(());
         };
         piece.has_line();
-        pieces.push_back(piece.marked_last(marks)?)?;
-        self.pieces = pieces;
-        self.known = known;
-        Ok(())
+        self.push(piece.marked_last(marks)?)
     }
 
     /// Fills each line with spaces up to `width` columns, under a tag. Reads no piece that is known to be as wide.
-    pub(super) fn fill(&mut self, width: usize, tag: T) -> Result<(), AllocError>
-        ensures { OnOk result (self.new ≡ filled (Some tag) width self.old) }
+    pub(super) fn filled(self, width: usize, tag: T) -> Result<Pieces<T, M>, AllocError>
+        ensures { IfOk result (λ p. lines_of p ≡ filled (Some tag) width (lines_of self)) }
     {
-        let Known {
+        let Pieces {
+            mut pieces,
             front,
             back,
             least,
             count,
-        } = self.known;
-        if front == 0 && back == 0 && width <= least {
-            return Ok(());
-        }
-        self.known = OF_NONE;
-        let mut pieces = taken(&mut self.pieces);
-        let first = if width <= least {
-            front
-        } else {
-            pieces.len() - back
-        };
-        fill_outer(&mut pieces, first, back, width, tag)?;
-        self.pieces = pieces;
-        self.known = Known {
+        } = self;
+        fill_narrow(&mut pieces, front, back, least, width, tag)?;
+        Ok(Pieces {
+            pieces,
             front: 0,
             back: 0,
             least: width,
             count,
-        };
-        Ok(())
+        })
     }
 
     /// Reports whether the lines fit in `width` columns, the first after `first` columns and the others after `later` columns.
@@ -206,7 +221,7 @@ impl<T: Tag, M: Copy> Pieces<T, M> {
         later: Option<usize>,
         width: usize,
     ) -> bool
-        ensures { (a b : ℕ) → first ≡ counted a → later ≡ counted b → result ≡ fits_after a b width self.now }
+        ensures { (a b : ℕ) → first ≡ counted a → later ≡ counted b → result ≡ fits_after a b width (lines_of self.now) }
     {
         if self.pieces.is_empty() {
             return true;
@@ -214,38 +229,6 @@ impl<T: Tag, M: Copy> Pieces<T, M> {
         let piece = &self.pieces[0];
         piece.has_line();
         piece.fits_after(first, later, width) && others_fit(&self.pieces, later, width)
-    }
-
-    /// Moves the lines to the end of a buffer, without the pieces' memory.
-    pub(super) fn move_to(self, to: &mut LineBuffer<T, M>) -> Result<(), AllocError>
-        requires { to.old.line ≡ [] }
-        ensures { OnOk result (to.new ≡ record { lines = to.old.lines ++ self; line = [] }) }
-    {
-        let mut pieces = self.pieces;
-        while let Some(piece) = pieces.pop_front() {
-            piece.write_to(to)?;
-        }
-        Ok(())
-    }
-}
-
-/// Returns a number of lines and more of them. `None` if one isn't known, or a machine word doesn't hold the sum.
-fn more_lines(count: Option<usize>, more: usize) -> Option<usize>
-    ensures { (n : ℕ) → IsCount count n → IsCount result (n + more) }
-{
-    match count {
-        Some(count) => count.checked_add(more),
-        None => None,
-    }
-}
-
-/// Returns the sum of two numbers of lines. `None` if one isn't known, or a machine word doesn't hold the sum.
-fn all_lines(count: Option<usize>, others: Option<usize>) -> Option<usize>
-    ensures { (n k : ℕ) → IsCount count n → IsCount others k → IsCount result (n + k) }
-{
-    match others {
-        Some(more) => more_lines(count, more),
-        None => None,
     }
 }
 
@@ -284,44 +267,25 @@ fn joined<T: Tag, M: Copy>(
     Ok(pieces)
 }
 
-/// Returns what is known of pieces followed by others. Of the shorter value, nothing is known but the number of lines.
-///
-/// # Errors
-///
-/// `AllocError`, if a machine word doesn't hold the number of pieces.
-fn joined_known<T: Tag, M: Copy>(
-    pieces: &VecDeque<Piece<T, M>>,
-    known: Known,
-    others: &VecDeque<Piece<T, M>>,
-    other_known: Known,
-) -> Result<Known, AllocError>
-    ensures { ArePieces known pieces.now.items → ArePieces other_known others.now.items →
-        IfOk result (λ k. ArePieces k (pieces.now.items ++ others.now.items)) }
+/// Fills each line with spaces up to `width` columns, under a tag. Reads no piece but the first and last ones if each line of the
+/// others has at least `width` columns.
+fn fill_narrow<T: Tag, M: Copy>(
+    pieces: &mut VecDeque<Piece<T, M>>,
+    front: usize,
+    back: usize,
+    least: usize,
+    width: usize,
+    tag: T,
+) -> Result<(), AllocError>
+    ensures { (n : ℕ) → ArePieces front back least n pieces.old.items →
+        OnOk result (lines_of pieces.new.items ≡ filled (Some tag) width (lines_of pieces.old.items)) }
 {
-    let count = all_lines(known.count, other_known.count);
-    if pieces.len() < others.len() {
-        return Ok(Known {
-            front: longer(pieces.len(), other_known.front)?,
-            back: other_known.back,
-            least: other_known.least,
-            count,
-        });
+    let len = pieces.len();
+    let outer = longer(front, back)?;
+    if width <= least && outer <= len {
+        return fill_outer(pieces, front, back, width, tag);
     }
-    Ok(Known {
-        front: known.front,
-        back: longer(known.back, others.len())?,
-        least: known.least,
-        count,
-    })
-}
-
-/// Moves pieces out.
-fn taken<T: Tag, M: Copy>(pieces: &mut VecDeque<Piece<T, M>>) -> VecDeque<Piece<T, M>>
-    ensures taken { result.items ≡ pieces.old.items }
-    ensures left { pieces.new.items ≡ [] }
-{
-    let none = VecDeque::new(*pieces.allocator());
-    mem::replace(pieces, none)
+    fill_in_turn(pieces, len, width, tag)
 }
 
 /// Fills the lines of the first and of the last pieces with spaces up to `width` columns, under a tag.

@@ -4,18 +4,19 @@
 //! places follow from the cells and the edges: the two cells in the first row, and a gap and a placeholder in the row below
 //! it.
 
-ghost use Rattle.std.specs.Prelude.{◌≡◌, ◌+◌, ◌^◌, ◌≤◌, ◌<◌, ◌++◌, ◌∷◌, [], true, All, Some, length, map, IsTrue, IfOk, IfErr, OnOk, MatchBool, MatchOption};
+ghost use Rattle.std.specs.Prelude.{◌≡◌, ◌+◌, ◌^◌, ◌≤◌, ◌<◌, ◌++◌, ◌∷◌, [], true, All, Some, length, map, IsTrue, IfOk, IfErr, OnOk, MatchBool};
 ghost use Rattle.std.specs.List.Sorted.{IsStrictlyIncreasing};
 ghost use Rattle.html_render_dom_values.specs.Outcome.{OnlyOutOfMemory};
 ghost use Rattle.html_render_parts.specs.Placement.{hanging, lists, own_from, own_rows_from, placed_rows, rising, row_from};
 ghost use Rattle.html_render_parts.specs.PlacementSteps.{AreAhead, fitting_positions, places_ahead, row_fits, row_told, rows_ahead};
-ghost use Rattle.html_render_parts.specs.SimpleRows.{AllStoredFit, StoredFit, fitting_row, own_or_simple, own_rows_on, own_with_simple, row_on};
+ghost use Rattle.html_render_parts.specs.SimpleRows.{AllStoredFit, StoredFit, fitting_row, own_or_simple, own_placed, own_rows_on, own_with_simple, row_on};
 ghost use Rattle.html_render_parts.specs.Grid.{AreValid, edges_of, positions_fit};
 ghost use Rattle.html_render_parts.specs.TableCells.{cell_grid_of, columns_of, on_columns, rows_on, span_on};
 ghost use Rattle.html_render_parts.specs.Refusal.{Fails};
 
 use crate::table::gathering::Positions;
 use crate::table::placement::{PositionedCell, RowPlacer};
+use crate::table::row_list::RowList;
 use crate::table::{PlacedCell, Span, numbering, simple};
 use html_render_dom_values::Error;
 use std::alloc::{AllocError, Global};
@@ -39,7 +40,7 @@ struct PlacedCells {
     /// Edges, rising.
     edges: Vec<u128>,
     /// Own cells of each row; none of a simple row.
-    own: Vec<Vec<PositionedCell>>,
+    own: RowList<PositionedCell>,
 }
 
 /// Adds the edges of a simple row.
@@ -58,46 +59,59 @@ fn add_simple_row(
     Ok(())
 }
 
-/// Places the next row of a table, and adds its edges. Returns its own cells; none of a simple row. `ends` is a buffer.
+/// Places the next row of a table, and adds its edges. Returns false if the row is simple and isn't placed. `ends` is a buffer.
 fn place_next_own(
-    alloc: Global,
     row: usize,
     cells: &[Span],
     placer: &mut RowPlacer,
     positions: &mut Positions,
     ends: &mut Vec<u128>,
-) -> Result<Vec<PositionedCell>, Error>
+) -> Result<bool, Error>
     ensures hanging { OnOk result (placer.new.hanging ≡ hanging (row + 1) (placer.old.hanging ++ own_from row 0 placer.old.hanging cells.now)) }
     ensures positions { OnOk result (positions.new ≡ rising (positions.old ++ row_told 0 placer.old.hanging cells.now)) }
     ensures fits { OnOk result (row_fits (row_from 0 placer.old.hanging cells.now) ≡ true) }
-    ensures own { IfOk result (λ own. own_or_simple row cells.now own.items ≡ own_from row 0 placer.old.hanging cells.now) }
+    ensures own { IfOk result (λ placed. own_or_simple row cells.now (own_placed placed placer.new.own) ≡ own_from row 0 placer.old.hanging cells.now) }
     ensures err { IfErr result (λ e. Fails e (fitting_row (row_from 0 placer.old.hanging cells.now))) }
 {
     if placer.hangs_nothing() && simple::spans_end(cells) {
         add_simple_row(cells, positions, ends)?;
-        return Ok(Vec::new(alloc));
+        return Ok(false);
     }
     placer.place_row(row, cells)?;
     positions.add(placer.told())?;
-    let own = Vec::from_slice(alloc, placer.own())?;
-    Ok(own)
+    Ok(true)
+}
+
+/// Appends the own cells of the last row; none if that isn't placed.
+fn push_own(
+    placer: &RowPlacer,
+    is_placed: bool,
+    own: &mut RowList<PositionedCell>,
+) -> Result<(), AllocError>
+    ensures { OnOk result (own.new ≡ own.old ++ own_placed is_placed placer.now.own ∷ []) }
+{
+    if is_placed {
+        own.push(placer.own())
+    } else {
+        own.push(&[])
+    }
 }
 
 /// Places the rows of a table, and returns their own cells and the edges. The other places aren't stored.
 fn place_cells(alloc: Global, rows: &[Vec<Span>]) -> Result<PlacedCells, Error>
     ensures fits { IfOk result (λ p. IsTrue (positions_fit (placed_rows (lists rows.now)))) }
     ensures edges { IfOk result (λ p. p.edges.items ≡ edges_of (placed_rows (lists rows.now))) }
-    ensures own { IfOk result (λ p. own_with_simple 0 (lists rows.now) (lists p.own.items) ≡ own_rows_from 0 [] (lists rows.now)) }
-    ensures count { IfOk result (λ p. length p.own.items ≡ length rows.now) }
+    ensures own { IfOk result (λ p. own_with_simple 0 (lists rows.now) p.own ≡ own_rows_from 0 [] (lists rows.now)) }
+    ensures count { IfOk result (λ p. length p.own ≡ length rows.now) }
     ensures err { IfErr result (λ e. Fails e (fitting_positions (placed_rows (lists rows.now)))) }
 {
     let mut placer = RowPlacer::new(alloc);
     let mut positions = Positions::zero(alloc)?;
     let mut ends = Vec::new(alloc);
-    let mut own = Vec::with_capacity(alloc, rows.len())?;
+    let mut own = RowList::with_capacity(alloc, rows.len())?;
     for (row, cells) in rows.iter().enumerate() {
-        let placed = place_next_own(alloc, row, cells, &mut placer, &mut positions, &mut ends)?;
-        own.push(placed)?;
+        let is_placed = place_next_own(row, cells, &mut placer, &mut positions, &mut ends)?;
+        push_own(&placer, is_placed, &mut own)?;
     }
     'bottom: while placer.place_bottom_row()? {
         positions.add(placer.told())?;
@@ -106,41 +120,41 @@ fn place_cells(alloc: Global, rows: &[Vec<Span>]) -> Result<PlacedCells, Error>
     Ok(PlacedCells { edges, own })
 }
 
-/// Returns placed cells of a row on the columns of their grid.
-fn placed_on(
-    alloc: Global,
+/// Replaces `row` by placed cells of a row on the columns of their grid.
+fn put_placed(
+    row: &mut Vec<GridCell>,
     edges: &[u128],
     cells: &[PositionedCell],
-) -> Result<Vec<GridCell>, AllocError>
+) -> Result<(), AllocError>
     requires rising { IsStrictlyIncreasing edges.now }
     requires fits { All (λ c. c.column + c.span.colspan < 2 ^ 128) cells.now }
-    ensures { IfOk result (λ v. v.items ≡ map (on_columns edges.now) cells.now) }
+    ensures { OnOk result (row.new.items ≡ map (on_columns edges.now) cells.now) }
 {
-    let mut row = Vec::with_capacity(alloc, cells.len())?;
+    row.clear();
     let mut behind: usize = 0;
     for cell in cells {
         let placed = simple::cell_at(edges, cell.column, &cell.span, behind);
         behind = placed.first.saturating_add(placed.columns);
         row.push(placed)?;
     }
-    Ok(row)
+    Ok(())
 }
 
-/// Returns the cells of a row on the columns of their grid. `own` are its own cells; none of a simple row.
-fn row_on(
-    alloc: Global,
+/// Replaces `row` by the cells of a row on the columns of their grid. `own` are its own cells; none of a simple row.
+fn put_row(
+    row: &mut Vec<GridCell>,
     edges: &[u128],
     cells: &[Span],
     own: &[PositionedCell],
-) -> Result<Vec<GridCell>, AllocError>
+) -> Result<(), AllocError>
     requires rising { IsStrictlyIncreasing edges.now }
     requires fits { StoredFit cells.now own.now }
-    ensures { IfOk result (λ v. v.items ≡ row_on edges.now cells.now own.now) }
+    ensures { OnOk result (row.new.items ≡ row_on edges.now cells.now own.now) }
 {
     if own.is_empty() {
-        simple::cells_on(alloc, edges, cells)
+        simple::put_cells(row, edges, cells)
     } else {
-        placed_on(alloc, edges, own)
+        put_placed(row, edges, own)
     }
 }
 
@@ -149,16 +163,18 @@ fn rows_on_columns(
     alloc: Global,
     edges: &[u128],
     rows: &[Vec<Span>],
-    own: &[Vec<PositionedCell>],
-) -> Result<Vec<Vec<GridCell>>, AllocError>
+    own: &RowList<PositionedCell>,
+) -> Result<RowList<GridCell>, AllocError>
     requires rising { IsStrictlyIncreasing edges.now }
     requires count { length own.now ≡ length rows.now }
-    requires fits { AllStoredFit (lists rows.now) (lists own.now) }
-    ensures { IfOk result (λ v. lists v.items ≡ own_rows_on edges.now (lists rows.now) (lists own.now)) }
+    requires fits { AllStoredFit (lists rows.now) own.now }
+    ensures { IfOk result (λ v. v ≡ own_rows_on edges.now (lists rows.now) own.now) }
 {
-    let mut cells = Vec::with_capacity(alloc, rows.len())?;
+    let mut cells = RowList::with_capacity(alloc, rows.len())?;
+    let mut placed = Vec::new(alloc);
     for (row, spans) in rows.iter().enumerate() {
-        cells.push(row_on(alloc, edges, spans, &own[row])?)?;
+        put_row(&mut placed, edges, spans, own.row(row))?;
+        cells.push(placed.as_slice())?;
     }
     Ok(cells)
 }
@@ -185,7 +201,7 @@ struct CellRows {
     /// Edges: 0 and the ends of all places, each once, rising. There is one more than there are columns.
     edges: Vec<u128>,
     /// Own cells of each row.
-    rows: Vec<Vec<GridCell>>,
+    rows: RowList<GridCell>,
 }
 
 /// Cells of a table on the columns of its grid, row by row, and the edges of the grid. Copies share them.
@@ -195,14 +211,13 @@ pub struct TableCells {
 }
 
 impl Model for TableCells {
-    ghost use Rattle.html_render_parts.specs.Placement.{lists};
     ghost use Rattle.html_render_parts.specs.TableCells.{CellGrid, IsCellGrid};
 
     ghost Value = { CellGrid };
 
-    ghost view = { λ c. record { edges = c.shared.value.edges.items; rows = lists c.shared.value.rows.items } };
+    ghost view = { λ c. record { edges = c.shared.value.edges.items; rows = c.shared.value.rows } };
 
-    ghost invariant = { λ c. IsCellGrid (record { edges = c.shared.value.edges.items; rows = lists c.shared.value.rows.items }) };
+    ghost invariant = { λ c. IsCellGrid (record { edges = c.shared.value.edges.items; rows = c.shared.value.rows }) };
 }
 
 impl TableCells {
@@ -241,11 +256,11 @@ impl TableCells {
     }
 
     /// Returns the own cells of each row, without placeholders and gaps.
-    pub fn rows(&self) -> &[Vec<GridCell>]
-        ensures rows { lists result.now ≡ self.now.rows }
+    pub fn rows(&self) -> &RowList<GridCell>
+        ensures rows { result.now ≡ self.now.rows }
         ensures on_columns { All (λ cells. All (λ c. (c.first + c.columns ≤ columns_of self.now) × (0 < c.columns)) cells) self.now.rows }
     {
-        self.shared.rows.as_slice()
+        &self.shared.rows
     }
 
     /// Returns a copy, which shares the cells in memory.
@@ -302,12 +317,15 @@ fn next_simple(
         (row.new ≡ row.old)) }
     ensures ahead { AreAhead cells.now row.new placer.now.hanging }
 {
-    if let Some(own) = cells.rows().get(*row) {
-        if placer.hangs_nothing() && simple::cells_end(own) {
-            simple::put_places(places, cells.edges(), own)?;
-            *row += 1;
-            return Ok(true);
-        }
+    let rows = cells.rows();
+    if *row >= rows.len() {
+        return Ok(false);
+    }
+    let own = rows.row(*row);
+    if placer.hangs_nothing() && simple::cells_end(own) {
+        simple::put_places(places, cells.edges(), own)?;
+        *row += 1;
+        return Ok(true);
     }
     Ok(false)
 }
@@ -326,15 +344,15 @@ fn place_next(
     ensures err { OnlyOutOfMemory result }
     ensures ahead { AreAhead cells.now row.new placer.new.hanging }
 {
-    match cells.rows().get(*row) {
-        Some(own) => {
-            put_spans(spans, cells.edges(), own)?;
-            placer.place_row(*row, spans)?;
-            *row += 1;
-            Ok(true)
-        }
-        None => placer.place_bottom_row(),
+    let rows = cells.rows();
+    if *row >= rows.len() {
+        return placer.place_bottom_row();
     }
+    let own = rows.row(*row);
+    put_spans(spans, cells.edges(), own)?;
+    placer.place_row(*row, spans)?;
+    *row += 1;
+    Ok(true)
 }
 
 /// Rows of a table that aren't placed yet, and the state of their placement.

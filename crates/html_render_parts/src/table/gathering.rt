@@ -1,6 +1,6 @@
 //! Edges of a table's grid, gathered row by row.
 
-ghost use Rattle.std.specs.Prelude.{◌≡◌, ◌++◌, ◌∷◌, [], IfOk, OnOk};
+ghost use Rattle.std.specs.Prelude.{◌≡◌, ◌++◌, ◌∷◌, [], Contains, IfOk, IfSome, OnOk};
 ghost use Rattle.html_render_parts.specs.Placement.{rising};
 
 use crate::table::numbering::make_rising;
@@ -9,6 +9,48 @@ use std::marker::Model;
 
 /// Minimum limit: fewer positions are only sorted at the end.
 const FEWEST: usize = 16;
+
+/// Maximum number of positions that a search reads.
+const PROBES: usize = 8;
+
+/// Searches a position from the index `start` on, among few positions. Returns its index.
+fn index_near(positions: &[u128], start: usize, position: u128) -> Option<usize>
+    ensures { IfSome result (λ at. Contains positions.now position) }
+{
+    let end = start.saturating_add(PROBES).min(positions.len());
+    for at in start..end {
+        if positions[at] == position {
+            return Some(at);
+        }
+    }
+    None
+}
+
+/// Appends a position, but not one that a search from `start` on finds. Returns where the search for a next one starts.
+#[tactic(auto, using(crate::proofs::EdgeRanks::rising_again))]
+fn push_unknown(gathered: &mut Vec<u128>, start: usize, position: u128) -> Result<usize, AllocError>
+    ensures { OnOk result (rising gathered.new.items ≡ rising (gathered.old.items ++ position ∷ [])) }
+{
+    if let Some(at) = index_near(gathered, start, position) {
+        return Ok(at.saturating_add(1));
+    }
+    gathered.push(position)?;
+    Ok(start)
+}
+
+/// Appends positions, but only few of those that are there.
+#[tactic(auto, using(crate::proofs::EdgeRanks::rising_next))]
+#[inline(never)]
+fn push_all_unknown(gathered: &mut Vec<u128>, positions: &[u128]) -> Result<(), AllocError>
+    ensures { OnOk result (rising gathered.new.items ≡ rising (gathered.old.items ++ positions.now)) }
+{
+    // the cells of a row end at rising positions, and most of them at known ones
+    let mut start = 0;
+    for position in positions {
+        start = push_unknown(gathered, start, *position)?;
+    }
+    Ok(())
+}
 
 /// Growing set of positions. Between two additions it holds fewer than 16, or than twice the distinct ones when it was last
 /// sorted, whichever is more.
@@ -53,7 +95,7 @@ impl Positions {
         if self.gathered.as_slice().ends_with(positions) {
             return Ok(());
         }
-        self.gathered.extend_from_slice(positions)?;
+        push_all_unknown(&mut self.gathered, positions)?;
         if self.gathered.len() >= self.limit {
             make_rising(&mut self.gathered)?;
             self.limit = self.gathered.len().saturating_mul(2).max(FEWEST);

@@ -217,6 +217,7 @@ impl RowBuilder {
     }
 
     /// Places one of the row's own cells at the cursor.
+    #[tactic(auto, using(crate::proofs::HangingOrder::ends_here))]
     fn put_own(&mut self, row: usize, span: Span) -> Result<(), Error>
         ensures ok { OnOk result (with_own row span self.old ≡ Some self.new) }
         ensures err { IfErr result (λ e. Fails e (with_own row span self.old)) }
@@ -226,6 +227,9 @@ impl RowBuilder {
         self.put(CellKind::Cell, span.colspan)?;
         self.tell_end()?;
         self.take_own(cell)?;
+        if span.rowspan <= 1 {
+            return Ok(());
+        }
         self.keep(row, cell)
     }
 

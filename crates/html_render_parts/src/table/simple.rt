@@ -1,7 +1,7 @@
 //! Simple rows: no cell hangs into such a row, and none of its own hangs into the next one. So its places are its own cells,
 //! side by side from position 0 on, and need no placement.
 
-ghost use Rattle.std.specs.Prelude.{◌≡◌, ◌↔◌, ◌+◌, ◌^◌, ◌≤◌, ◌<◌, [], true, All, length, map, IsTrue, IfOk, IfErr, OnOk};
+ghost use Rattle.std.specs.Prelude.{◌≡◌, ◌↔◌, ◌+◌, ◌^◌, ◌≤◌, ◌<◌, [], true, All, length, map, IsTrue, IfErr, OnOk};
 ghost use Rattle.std.specs.List.Sorted.{IsStrictlyIncreasing};
 ghost use Rattle.html_render_parts.specs.Placement.{row_from};
 ghost use Rattle.html_render_parts.specs.PlacementSteps.{row_fits, row_told};
@@ -12,7 +12,7 @@ ghost use Rattle.html_render_parts.specs.Refusal.{Fails};
 use crate::table::cells::GridCell;
 use crate::table::{CellKind, PlacedCell, Span, numbering};
 use html_render_dom_values::Error;
-use std::alloc::{AllocError, Global};
+use std::alloc::AllocError;
 
 /// Reports whether no cell with these spans hangs into the next row.
 pub(crate) fn spans_end(cells: &[Span]) -> bool
@@ -63,17 +63,17 @@ pub(crate) fn cell_at(edges: &[u128], column: u128, span: &Span, guess: usize) -
     }
 }
 
-/// Returns cells with these spans, side by side from position 0 on, on the columns of their grid.
-pub(crate) fn cells_on(
-    alloc: Global,
+/// Replaces `row` by cells with these spans, side by side from position 0 on, on the columns of their grid.
+pub(crate) fn put_cells(
+    row: &mut Vec<GridCell>,
     edges: &[u128],
     cells: &[Span],
-) -> Result<Vec<GridCell>, AllocError>
+) -> Result<(), AllocError>
     requires rising { IsStrictlyIncreasing edges.now }
     requires fits { All (λ n. n < 2 ^ 128) (row_told 0 [] cells.now) }
-    ensures { IfOk result (λ v. v.items ≡ cells_from edges.now 0 cells.now) }
+    ensures { OnOk result (row.new.items ≡ cells_from edges.now 0 cells.now) }
 {
-    let mut row = Vec::with_capacity(alloc, cells.len())?;
+    row.clear();
     let mut cursor: u128 = 0;
     let mut behind: usize = 0;
     for span in cells {
@@ -82,7 +82,7 @@ pub(crate) fn cells_on(
         behind = cell.first.saturating_add(cell.columns);
         row.push(cell)?;
     }
-    Ok(row)
+    Ok(())
 }
 
 /// Replaces `places` by the places of these cells, if they are side by side from position 0 on.

@@ -1,6 +1,6 @@
 -- The word minimums of columns, and the shares that are cut to them.
-use Rattle.std.proofs.Common.{◌≡◌, ℕ, ◌+◌, ◌-◌, ◌*◌, ◌/◌, ◌<◌, ◌≤◌, Bool, true, false, cond, zero, suc, List, [], ◌∷◌, length, sum, sum_by, map, min, max}
-use Rattle.std.proofs.Common.{get_or, refl, ap, sym, ◌∙◌, subst, arith, All, IfSome, Option, Some, None}
+use Rattle.std.proofs.Common.{◌≡◌, ℕ, ◌+◌, ◌-◌, ◌*◌, ◌/◌, ◌<◌, ◌≤◌, Bool, true, false, cond, zero, suc, List, [], ◌∷◌, length, sum, sum_by, map, max}
+use Rattle.std.proofs.Common.{get_or, refl, ap, sym, ◌∙◌, arith, IfSome, Some, None}
 use Rattle.std.specs.Prelude.{if◌then◌else◌}
 use Rattle.std.proofs.Math.Nat.{add-mul, div-le_of_le-mul}
 use Rattle.std.proofs.lemmas.List.{get_or-map, length-map}

@@ -3,14 +3,13 @@ use Rattle.std.proofs.Common.{◌≡◌, ℕ, ◌+◌, ◌-◌, Bool, true, ◌&
 use Rattle.std.proofs.lemmas.Bool.{and_from, and_parts}
 use Rattle.html_render_dom_values.specs.Forest.{none, node, followed_by}
 use Rattle.html_render_parts.specs.Placement.{own_from, own_rows_from, due_end, not_due, hanging}
+use Rattle.html_render_parts.specs.Spans.{spanned, spanned_in, width_of}
 use Rattle.html_render_parts.specs.TableCells.{on_columns}
 use Rattle.html_render_parts.specs.declared.table.Span.{Span}
 use Rattle.html_render_parts.specs.declared.table.cells.GridCell.{GridCell}
 use Rattle.html_render_parts.specs.declared.table.placement.PositionedCell.{PositionedCell}
-use Rattle.html_render_tree_convert.specs.declared.tables.CellSpan.{CellSpan}
 use Rattle.html_render_layout_nodes.specs.declared.tree.NodeKind.{NodeKind}
 use Rattle.html_render_layout_nodes.specs.declared.tree.NodeKind.TheVariants.{Table, TableRow, TableCell}
-use Rattle.html_render_tree_convert.specs.Tables.{spanned, spanned_in, width_of}
 use Rattle.html_render_tree_convert.specs.Results.{Nodes, in_first}
 use Rattle.html_render_tree.specs.GoodTrees.{TreePlace, Anywhere, Nowhere, InTable, InRow, is_leaf, places_around, are_good_below, are_good}
 
@@ -37,7 +36,7 @@ cells_like-map : {X Y : Type 0} (f : X → Y) (cells : List X) → cells_like (m
 cells_like-map f [] = refl
 cells_like-map f (c ∷ cells) = ap (λ cs. some_cell ∷ cs) (cells_like-map f cells)
 
-pub spanned_in-alike : (widest : ℕ) (rows : List (List CellSpan)) → rows_like (spanned_in widest rows) ≡ rows_like rows
+pub spanned_in-alike : (widest : ℕ) (rows : List (List Span)) → rows_like (spanned_in widest rows) ≡ rows_like rows
 spanned_in-alike widest [] = refl
 spanned_in-alike widest (cells ∷ rows) = rw (cells_like-map (spanned (widest - width_of cells)) cells, spanned_in-alike widest rows) refl
 

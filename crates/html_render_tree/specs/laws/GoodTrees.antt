@@ -27,7 +27,6 @@ use Rattle.html_render_tree_convert.specs.declared.mapping.ElementKind.TheVarian
 use Rattle.html_render_tree_convert.specs.declared.plans.Element.{Element}
 use Rattle.html_render_tree_convert.specs.declared.plans.Plan.{Plan}
 use Rattle.html_render_tree_convert.specs.declared.plans.Plan.TheVariants as plan
-use Rattle.html_render_tree_convert.specs.declared.tables.CellSpan.{CellSpan}
 use Rattle.html_render_tree_convert.specs.declared.tables.Part.TheVariants as part
 use Rattle.html_render_tree_convert.specs.Plans.{inserts, plan_of, insertion_of, text_nodes, displayed_plan, mark_plan}
 use Rattle.html_render_tree_convert.specs.Results.{Nodes, Result, beside, nodes_of, of_role, stands_alone}
@@ -110,10 +109,10 @@ is_cell x = is_some (cell_of x)
 abbrev is_row : Role → Bool
 is_row x = is_some (row_of x)
 
-abbrev cells_of : Role → List CellSpan
+abbrev cells_of : Role → List Span
 cells_of x = option_to_list (cell_of x)
 
-abbrev rows_of : Role → List (List CellSpan)
+abbrev rows_of : Role → List (List Span)
 rows_of x = option_to_list (row_of x)
 
 abbrev all_of : {X : Type 0} (own : Role → List X) → List Result → List X

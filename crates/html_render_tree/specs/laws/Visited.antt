@@ -17,8 +17,8 @@ use Rattle.html_render_layout_nodes.specs.declared.tree.RenderNode.{RenderNode}
 use Rattle.html_render_layout_nodes.specs.Visitor.{NodePlace, Bare, Skipped, Within, is_skipped, Places, bare, Visit, Leaf, Inner, Visits, through_visit, inside, followed}
 use Rattle.html_render_layout_nodes.specs.Visitor.{placed, run_at, run, nodes_at}
 use Rattle.html_render_layout_nodes.specs.laws.Visits.{from, from_state}
-use Rattle.html_render_layout.specs.declared.nesting.OwnBlock.{OwnBlock}
-use Rattle.html_render_layout.specs.declared.nesting.OwnBlock.TheVariants.{Shared, Prefixed, Indented}
+use Rattle.html_render_layout.specs.Layout.{OwnBlock}
+use Rattle.html_render_layout.specs.Layout.{Shared, Prefixed, Indented}
 use Rattle.html_render_layout.specs.declared.state.LayoutState.{LayoutState}
 use Rattle.html_render_layout_blocks.specs.declared.block.BlockSetting.{BlockSetting}
 use Rattle.html_render_layout_estimates.specs.Estimates.{measured_kind, measured}

@@ -7,9 +7,10 @@ ghost use Rattle.html_render_tree_convert.specs.Steps.{closed, closed_as, closed
 
 use super::{Conversion, put_in};
 use crate::builder::{Tree, set_kind, write_size};
-use crate::due::Due;
+use crate::due::{Due, DueParts};
 use crate::elements::{Open, OpenKind, Role};
 use crate::spans::grid_of;
+use crate::tables::CellSpan;
 use html_render_dom_values::Error;
 use html_render_layout_nodes::tree::{NodeKind, RenderNode};
 use std::alloc::Global;
@@ -49,7 +50,13 @@ impl Conversion {
             return Ok(());
         };
         let element = std::mem::replace(&mut self.innermost, parent);
-        close_in(alloc, element, &mut self.innermost, &mut self.tree)
+        close_in(
+            alloc,
+            element,
+            &mut self.innermost,
+            &mut self.tree,
+            &mut self.spare,
+        )
     }
 }
 
@@ -60,21 +67,63 @@ impl Conversion {
 /// `Fail` exactly if it is a table and a cell ends after column or row `u128::MAX`, and `OutOfMemory` if an allocation is
 /// refused.
 #[inline(always)]
-fn close_in(alloc: Global, element: Open, parent: &mut Open, tree: &mut Tree) -> Result<(), Error>
+fn close_in(
+    alloc: Global,
+    element: Open,
+    parent: &mut Open,
+    tree: &mut Tree,
+    spare: &mut Option<Box<DueParts>>,
+) -> Result<(), Error>
     ensures ok { OnOk result (Some (record { element = parent.new; tree = tree.new.items })
         ≡ closed_in element (record { element = parent.old; tree = tree.old.items })) }
     ensures err { IfErr result (λ e. Fails e (closed_in element (record { element = parent.old; tree = tree.old.items }))) }
 {
-    // most elements become nodes that have no role in a table
+    if let OpenKind::Cell(span) = &element.kind {
+        let span = *span;
+        return close_cell(span, element, parent, tree, spare);
+    }
+    // most other elements become nodes that have no role in a table
     if !matches!(element.kind, OpenKind::Node(_)) {
-        return close_part(alloc, element, parent, tree);
+        return close_part(alloc, element, parent, tree, spare);
     }
     if element.vanishes() {
         return vanish(element, parent, tree);
     }
-    write_due(element.due, element.start, tree)?;
+    write_due(element.due, element.start, tree, spare)?;
+    close_contents(
+        element.has_children,
+        element.is_stray,
+        element.start,
+        parent,
+        tree,
+    );
+    Ok(())
+}
+
+/// Closes a cell in its parent.
+///
+/// # Errors
+///
+/// `OutOfMemory` if an allocation is refused.
+#[inline(always)]
+fn close_cell(
+    span: CellSpan,
+    element: Open,
+    parent: &mut Open,
+    tree: &mut Tree,
+    spare: &mut Option<Box<DueParts>>,
+) -> Result<(), Error>
+    requires { element.kind ≡ OpenKind.Cell span }
+    ensures ok { OnOk result (Some (record { element = parent.new; tree = tree.new.items })
+        ≡ closed_in element (record { element = parent.old; tree = tree.old.items })) }
+    ensures err { OnlyOutOfMemory result }
+{
+    if element.vanishes() {
+        return vanish(element, parent, tree);
+    }
+    write_due(element.due, element.start, tree, spare)?;
     close_node(
-        Role::Contents,
+        Role::Cell(span),
         element.has_children,
         element.is_stray,
         element.start,
@@ -95,6 +144,7 @@ fn close_part(
     mut element: Open,
     parent: &mut Open,
     tree: &mut Tree,
+    spare: &mut Option<Box<DueParts>>,
 ) -> Result<(), Error>
     ensures ok { OnOk result (Some (record { element = parent.new; tree = tree.new.items })
         ≡ closed_in element (record { element = parent.old; tree = tree.old.items })) }
@@ -105,7 +155,7 @@ fn close_part(
     if element.vanishes() {
         return vanish(element, parent, tree);
     }
-    close_standing(element, parent, tree)
+    close_standing(element, parent, tree, spare)
 }
 
 /// Gives its insertion back to a table of which a part had no row.
@@ -173,7 +223,12 @@ fn vanish(element: Open, parent: &mut Open, tree: &mut Tree) -> Result<(), Error
 /// # Errors
 ///
 /// `OutOfMemory` if an allocation is refused.
-fn close_standing(element: Open, parent: &mut Open, tree: &mut Tree) -> Result<(), Error>
+fn close_standing(
+    element: Open,
+    parent: &mut Open,
+    tree: &mut Tree,
+    spare: &mut Option<Box<DueParts>>,
+) -> Result<(), Error>
     ensures ok { OnOk result (record { element = parent.new; tree = tree.new.items }
         ≡ come (closed_as element.kind element (drop element.start tree.old.items))
         (record { element = parent.old; tree = take element.start tree.old.items })) }
@@ -198,7 +253,7 @@ fn close_standing(element: Open, parent: &mut Open, tree: &mut Tree) -> Result<(
         return Ok(());
     }
     if !matches!(kind, OpenKind::Parts(_) | OpenKind::Row(_)) {
-        write_due(due, start, tree)?;
+        write_due(due, start, tree, spare)?;
     }
     let has_children = matches!(kind, OpenKind::Parts(_)) || has_children;
     close_node(role_left(kind), has_children, is_stray, start, parent, tree)
@@ -224,7 +279,12 @@ fn role_left(kind: OpenKind) -> Role
 ///
 /// `OutOfMemory` if an allocation is refused.
 #[inline(always)]
-fn write_due(due: Due, start: usize, tree: &mut Tree) -> Result<(), Error>
+fn write_due(
+    due: Due,
+    start: usize,
+    tree: &mut Tree,
+    spare: &mut Option<Box<DueParts>>,
+) -> Result<(), Error>
     ensures own { OnOk result (drop start tree.new.items ≡ with_back due.own.back (drop start tree.old.items)) }
     ensures below { OnOk result (take start tree.new.items ≡ take start tree.old.items) }
     ensures err { OnlyOutOfMemory result }
@@ -232,7 +292,7 @@ fn write_due(due: Due, start: usize, tree: &mut Tree) -> Result<(), Error>
     if due.is_none() || start >= tree.len() {
         return Ok(());
     }
-    due.write_back(tree)
+    due.write_back(tree, spare)
 }
 
 /// Closes an element whose node is at `start`, if its parent keeps it.
@@ -262,4 +322,26 @@ fn close_node(
         tree.truncate(start);
     }
     Ok(())
+}
+
+/// Closes an element that is no part of a table and whose node is at `start`, if its parent keeps it.
+#[inline(always)]
+fn close_contents(
+    has_children: bool,
+    is_stray: bool,
+    start: usize,
+    parent: &mut Open,
+    tree: &mut Tree,
+)
+    ensures { record { element = parent.new; tree = tree.new.items }
+        ≡ come (closed_node Role.Contents has_children is_stray (drop start tree.old.items)) (record { element = parent.old; tree = take start tree.old.items }) }
+{
+    let Some(entry) = tree.get(start) else {
+        return;
+    };
+    if parent.receive_contents(&entry.node.kind, has_children, is_stray) {
+        write_size(tree, start);
+    } else {
+        tree.truncate(start);
+    }
 }

@@ -16,11 +16,11 @@ use crate::elements::{Open, OpenKind};
 use crate::kinds::Keeping;
 use crate::mapping::{ElementKind, IfEmpty, node_style};
 use crate::plans::{Element, ElementTexts, copy_of};
-use crate::spans::{PartRows, RowCells, TableSpans};
 use crate::tables::{CellSpan, Part};
 use html_render_dom::style::ComputedStyle;
 use html_render_dom_values::Error;
 use html_render_layout_nodes::tree::{Estimate, NodeKind, NodeStyle, RenderNode};
+use html_render_parts::table::spans::{PartRows, RowCells, TableSpans};
 use std::alloc::Global;
 
 /// Returns an unmeasured node of a style.
@@ -82,7 +82,7 @@ impl Conversion {
             own: InsertedNodes::new(alloc),
             given: InsertedNodes::new(alloc),
         };
-        element.due = Due::new(alloc, parts)?;
+        element.due = Due::reusing(alloc, parts, &mut self.spare)?;
         self.begin(element, node)?;
         put_texts(written, before, &mut self.tree)
     }

@@ -1,9 +1,10 @@
-use Rattle.std.proofs.Common.{◌≡◌, ◌⊎◌, ℕ, ℤ, Some, IfOk, IfErr, subst, sym, refl, inl, inr}
+use Rattle.std.proofs.Common.{◌≡◌, ◌⊎◌, ℕ, ℤ, List, Some, IfOk, IfErr, subst, sym, refl, inl, inr}
 use Rattle.html_render_dom_values.specs.Forest.{Forest}
 use Rattle.html_render_dom_values.specs.Outcome.{Refuses}
 use Rattle.html_render_layout_nodes.specs.declared.tree.RenderNode.{RenderNode}
 use Rattle.html_render_layout_nodes.specs.Visitor.{way}
 use Rattle.html_render_layout_nodes.specs.Preorder.{forest_of}
+use Rattle.html_render_layout_blocks.specs.declared.held.Prefixing.{Prefixing}
 use Rattle.html_render_layout.specs.declared.state.CloseAction.{CloseAction}
 use Rattle.html_render_layout.specs.declared.state.CloseAction.TheVariants.{Bullets, Numbers}
 use Rattle.html_render_layout.specs.Layout.{Algebra, State}
@@ -12,8 +13,8 @@ use Rattle.html_render_layout.specs.Working.{by_tags}
 use Rattle.html_render_layout.proofs.walk.steps.open.Goals as goal
 
 -- a child of a list is opened in its sub-block
-listed : {S A K T B : Type 0} (m : Algebra S A K T B) (kind : CloseAction S T B) (number : ℕ) (n : RenderNode) (trees : Forest RenderNode) (s : State m) →
-    ((columns : ℕ) × (min_width : ℕ) × (kind ≡ Bullets columns min_width))
+listed : {S A K T B : Type 0} (m : Algebra S A K T B) (kind : CloseAction S T (Prefixing B T) B) (number : ℕ) (n : RenderNode) (trees : Forest RenderNode) (s : State m) →
+    ((bullet : List ℕ) × (min_width : ℕ) × (kind ≡ Bullets bullet min_width))
     ⊎ ((first : ℤ) × (columns : ℕ) × (min_width : ℕ) × (kind ≡ Numbers first columns min_width)) →
     block_opened m n trees (child_block m s.decorator kind number) s ≡ opened_below m kind number n trees s
 listed m kind number n trees s (inl b) =

@@ -1,4 +1,4 @@
-use Rattle.std.proofs.Common.{[], None, option_map}
+use Rattle.std.proofs.Common.{[], None}
 use Rattle.html_render_layout_blocks.proofs.Behind.{padded_flush}
 use Rattle.html_render_layout_blocks.proofs.block.Block.flush_paragraph.Goals as goal
 
@@ -12,7 +12,7 @@ returns-clause-ok g c =
       lines = [];
       paragraph = None;
       at_block_end = inside.at_block_end;
-      table = option_map (λ t. t.value) inside.table;
+      table = inside.table;
     })
     inside.paragraph c.in-Some.paragraph c.flush_padded.new.paragraph [] inside.lines c.flush_padded.new.to c.self.view_is c.in-Some.is
     c.in_ok-some.ensures.ok

@@ -1,10 +1,14 @@
-use Rattle.std.proofs.Common.{◌<◌, length, arith}
-use Rattle.html_render_layout_buffer.specs.Padding.{filled_line}
-use Rattle.html_render_layout_buffer.proofs.Growing.{one-more}
+use Rattle.std.proofs.Common.{rules, ◌≤◌, [], ◌++◌, sym, ap, ◌∙◌}
+use Rattle.std.proofs.lemmas.Result.{on_ok_weaker}
+use Rattle.html_render_layout_buffer.proofs.PieceLines.{wide_filled}
 use Rattle.html_render_layout_buffer.proofs.buffer.LineBuffer.append_filled.Goals as goal
 
-pub loop-n-preserved : goal.loop-n-preserved
-loop-n-preserved g c =
-    let h : c.loop-n.n < length c.args.other.now.lines = omega arith in
-    one-more (λ y. filled_line c.args.tag c.args.width y) c.args.self.now c.loop-n.self c.append_line_filled.new.self c.loop-n.n c.args.other.now.lines
-    c.loop-n.invariant c.in_ok-append_line_filled.ensures.ok h
+pub returns-then-least_columns-width-clause-ok : goal.returns-then-least_columns-width-clause-ok
+returns-then-least_columns-width-clause-ok g c =
+    let own = c.args.self.now.lines in
+    let ls = c.args.other.now.lines in
+    let wide : c.args.width ≤ c.least_columns.result = search rules in
+    on_ok_weaker c.append_all.result
+    (λ e. e ∙ ap (λ l. record { lines = own ++ ls; line = l }) c.requires.other_open
+    ∙ ap (λ y. record { lines = own ++ y; line = [] }) (sym (wide_filled c.args.tag c.args.width c.least_columns.result ls c.least_columns.ensures wide)))
+    c.append_all.ensures.ok

@@ -1,13 +1,13 @@
 use Rattle.std.proofs.Common.{rules, ◌<◌, ◌+◌, ◌&&◌, ◌∙◌, nat_le, length, sym, ap}
 use Rattle.std.specs.List.{list_all}
 use Rattle.html_render_layout_lines.specs.Line.{columns}
-use Rattle.html_render_layout_buffer.specs.Pieces.{fits_after}
+use Rattle.html_render_layout_buffer.specs.Pieces.{lines_of, fits_after}
 use Rattle.html_render_layout_buffer.proofs.PieceLines.{fit-parts}
 use Rattle.html_render_layout_buffer.proofs.finished.FinishedLines.fits_after.Goals as goal
 
 pub returns-then-fits_after : goal.returns-then-fits_after
 returns-then-fits_after g c a b e f =
-    let first = c.self.inside.pieces in
+    let first = lines_of c.self.inside.pieces in
     let last = c.self.inside.last.lines in
     let w = c.args.width in
     let others = list_all (λ l. nat_le (b + columns l) w) last in
@@ -17,7 +17,7 @@ returns-then-fits_after g c a b e f =
 
 pub returns-else-fits_after : goal.returns-else-fits_after
 returns-else-fits_after g c a b e f =
-    let first = c.self.inside.pieces in
+    let first = lines_of c.self.inside.pieces in
     let last = c.self.inside.last.lines in
     let w = c.args.width in
     let others = list_all (λ l. nat_le (b + columns l) w) last in

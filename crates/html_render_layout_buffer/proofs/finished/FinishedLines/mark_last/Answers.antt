@@ -2,6 +2,7 @@ use Rattle.std.proofs.Common.{rules, ◌≡◌, ◌<◌, ◌++◌, length, sym, 
 use Rattle.std.proofs.lemmas.List.{nil_from_length}
 use Rattle.std.proofs.lemmas.Result.{on_ok_weaker}
 use Rattle.html_render_layout_buffer.specs.Marked.{marked_behind}
+use Rattle.html_render_layout_buffer.specs.Pieces.{lines_of}
 use Rattle.html_render_layout_buffer.proofs.PieceLines.{marked-none, marked-behind}
 use Rattle.html_render_layout_buffer.proofs.finished.FinishedLines.mark_last.Goals as goal
 
@@ -13,7 +14,7 @@ returns-then-is_empty g c =
 pub returns-then-line_count-gt0 : goal.returns-then-line_count-gt0
 returns-then-line_count-gt0 g c =
     let ms = c.args.marks.now in
-    let first = c.self.inside.pieces in
+    let first = lines_of c.self.inside.pieces in
     let last = c.self.inside.last.lines in
     let some : 0 < length last = search rules in
     on_ok_weaker c.mark_last.result

@@ -1,6 +1,6 @@
 use Rattle.std.proofs.Common.{◌++◌, ◌∷◌, [], Some, ap, sym, ◌∙◌, arith}
 use Rattle.html_render_layout_buffer.specs.Padding.{filled}
-use Rattle.html_render_layout_buffer.proofs.KnownPieces.{one-turn}
+use Rattle.html_render_layout_buffer.proofs.PieceLines.{one-turn}
 use Rattle.html_render_layout_buffer.proofs.finished.pieces.fill_in_turn.Goals as goal
 
 pub loop-preserved : goal.loop-preserved

@@ -1,6 +1,6 @@
 use Rattle.std.proofs.Common.{rules, ◌≡◌, Some, length, deque_len, ◌∙◌}
 use Rattle.html_render_layout_buffer.specs.Padding.{filled}
-use Rattle.html_render_layout_buffer.proofs.KnownPieces.{outer-changed}
+use Rattle.html_render_layout_buffer.proofs.PieceLines.{outer-changed}
 use Rattle.html_render_layout_buffer.proofs.finished.pieces.fill_outer.Goals as goal
 
 pub returns : goal.returns

@@ -1,5 +1,5 @@
 use Rattle.std.proofs.Common.{rules, ◌≡◌, ◌-◌, ◌++◌, take, drop, length, deque_len, ap, ◌∙◌}
-use Rattle.html_render_layout_buffer.proofs.KnownPieces.{turned}
+use Rattle.html_render_layout_buffer.proofs.PieceLines.{turned}
 use Rattle.html_render_layout_buffer.proofs.finished.pieces.joined.Goals as goal
 
 pub returns-then-len : goal.returns-then-len

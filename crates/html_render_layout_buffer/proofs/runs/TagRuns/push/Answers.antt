@@ -1,22 +1,14 @@
 use Rattle.std.proofs.Common.{◌≡◌, ◌++◌, replicate, ap, ◌∙◌}
 use Rattle.std.specs.Prelude.{Some}
-use Rattle.html_render_layout_buffer.proofs.TagLists.{longer, switched}
+use Rattle.html_render_layout_buffer.proofs.TagLists.{longer}
 use Rattle.html_render_layout_buffer.proofs.runs.TagRuns.push.Goals as goal
 
 pub invariant_of-self : goal.invariant_of-self
 invariant_of-self g c =
     let own : c.self.inside.tag ≡ Some c.args.tag = c.if-is_tag.ensures in
-    (longer _ _ c.args.tag _ _ c.args.count _ c.self.invariant own c.in_ok-len.ensures).0
+    (longer _ _ c.args.tag _ _ c.args.count _ c.self.invariant own c.in_ok-self-inside.ensures).0
 
 pub returns-then-is_tag-clause-ok : goal.returns-then-is_tag-clause-ok
 returns-then-is_tag-clause-ok g c =
     let own : c.self.inside.tag ≡ Some c.args.tag = c.if-is_tag.ensures in
-    (longer _ _ c.args.tag _ _ c.args.count _ c.self.invariant own c.in_ok-len.ensures).1 ∙ ap (λ y. y ++ replicate c.args.count c.args.tag) c.self.view_is
-
-pub invariant_of-self-2 : goal.invariant_of-self-2
-invariant_of-self-2 g c = rw c.in_ok-close_run.ensures.ok (switched _ _ c.args.tag _ _ c.args.count _ c.self.invariant c.in_ok-len.ensures).0
-
-pub returns-clause-ok : goal.returns-clause-ok
-returns-clause-ok g c =
-    rw c.in_ok-close_run.ensures.ok ((switched _ _ c.args.tag _ _ c.args.count _ c.self.invariant c.in_ok-len.ensures).1
-    ∙ ap (λ y. y ++ replicate c.args.count c.args.tag) c.self.view_is)
+    (longer _ _ c.args.tag _ _ c.args.count _ c.self.invariant own c.in_ok-self-inside.ensures).1 ∙ ap (λ y. y ++ replicate c.args.count c.args.tag) c.self.view_is

@@ -6,18 +6,14 @@ use Rattle.html_render_layout_buffer.specs.Padding.{filled}
 use Rattle.html_render_layout_pictures.specs.declared.cells.RowCell.{RowCell}
 use Rattle.html_render_layout_pictures.specs.Picture.{KeptCell, row_lines}
 use Rattle.html_render_layout_pictures.specs.RowCells.{cells_of}
-use Rattle.html_render_layout_pictures.proofs.CellLines.{cells-length, only-row, only-count, some-lines}
+use Rattle.html_render_layout_pictures.proofs.CellLines.{one-counted, only-row, only-count, some-lines}
 use Rattle.html_render_layout_pictures.proofs.OnlyCell.{only_cell, only_blank_cell, one_cell}
 use Rattle.html_render_layout_pictures.proofs.picture.Frame.only_cell_lines.Goals.{then-cell-eq0+in_ok-push_marks_line, else-cell-eq0+in_ok-mark_last}
 use Rattle.html_render_layout_pictures.proofs.picture.Frame.only_cell_lines.Goals as goal
 
-counted : {T M : Type 0} (xs cells : List (RowCell M)) (ls : List (Line T M)) (row : List (KeptCell T M)) →
-    xs ≡ cells → cells_of cells ls ≡ row → length row ≡ 1 → length xs ≡ 1
-counted xs cells ls row same is one = ap length same ∙ sym (cells-length cells ls) ∙ ap length is ∙ one
-
 pub returns-in_default : goal.returns-in_default
 returns-in_default g c =
-    let one = counted _ c.row.inside.cells.items c.row.inside.lines c.args.row c.as_slice.ensures.value c.row.view_is c.requires in
+    let one = one-counted _ c.row.inside.cells.items c.row.inside.lines c.args.row c.as_slice.ensures.value c.row.view_is c.requires in
     absurd (omega (arith, one, c.in_default.len_below))
 
 pub returns : goal.returns
@@ -28,7 +24,7 @@ returns g c =
     let cell = c.cell-item.result in
     let ms = cell.marks.items in
     let kept : KeptCell g.row.T.Denot g.row.M.Denot = record { width = cell.width; lines = ls; marks = ms } in
-    let one = counted _ cells ls c.args.row c.as_slice.ensures.value c.row.view_is c.requires in
+    let one = one-counted _ cells ls c.args.row c.as_slice.ensures.value c.row.view_is c.requires in
     let only : cells ≡ cell ∷ [] = sym c.as_slice.ensures.value ∙ one_cell c.as_slice.result.now cell one c.cell-item.is in
     let count : cell.count ≡ length ls = only-count cells ls cell only c.row.invariant in
     let row : kept ∷ [] ≡ c.args.row = sym (only-row cells ls cell only c.row.invariant) ∙ c.row.view_is in

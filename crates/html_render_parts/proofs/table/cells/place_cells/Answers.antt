@@ -1,10 +1,10 @@
 use Rattle.std.proofs.Common.{◌≡◌, Contains, ◌+◌, ◌++◌, ◌∷◌, [], drop, length, ap, ◌∙◌, subst, refl, sym, append_assoc}
 use Rattle.std.proofs.lemmas.List.Elements.{All-nil}
-use Rattle.std.proofs.lemmas.List.{append-nil, drop_all, length-append, map_push}
+use Rattle.std.proofs.lemmas.List.{append-nil, drop_all, length-append}
 use Rattle.html_render_parts.specs.Placement.{bottom_rows, lists, own_from, own_rows_from, placed_rows, rising, row_from, rows_from}
 use Rattle.html_render_parts.specs.Grid.{ends, positions_fit}
 use Rattle.html_render_parts.specs.PlacementSteps.{Placing, row_told}
-use Rattle.html_render_parts.specs.SimpleRows.{own_or_simple, own_with_simple}
+use Rattle.html_render_parts.specs.SimpleRows.{own_or_simple, own_placed, own_with_simple}
 use Rattle.html_render_parts.proofs.EdgeRanks.{Contains-here}
 use Rattle.html_render_parts.proofs.GatheringEnds.{Between, IsGathered, gathered-bottom, gathered-next}
 use Rattle.html_render_parts.proofs.RowAfterRow.{IsNext}
@@ -12,7 +12,7 @@ use Rattle.html_render_parts.proofs.Vectors.{lists-drop}
 use Rattle.html_render_parts.proofs.table.cells.place_cells.Goals as goal
 
 pub loop-row-init : goal.loop-row-init
-loop-row-init c = rw (c.new-placer.ensures, c.in_ok-positions.ensures, c.in_ok-own.ensures.items) (record {
+loop-row-init c = rw (c.new-placer.ensures, c.in_ok-positions.ensures, c.in_ok-own.ensures) (record {
   gathered = record {
     fits = refl;
     edges = refl;
@@ -32,7 +32,7 @@ loop-row-preserved c =
     let more = lists (drop (row + 1) c.args.rows.now) in
     let done = c.loop-row.placer in
     let hung = done.hanging in
-    let made = c.in_ok-placed.placed.items in
+    let made = own_placed c.in_ok-is_placed.is_placed c.place_next_own.new.placer.own in
     let next : Placing = record {
       places = row_from 0 hung cells;
       own = own_from row 0 hung cells;
@@ -44,23 +44,22 @@ loop-row-preserved c =
       places = refl;
       own = refl;
       told = refl;
-      hangs_on = rw c.deref.ensures.value at c.in_ok-placed.ensures.hanging;
-      fits = rw c.deref.ensures.value at c.in_ok-placed.ensures.fits;
+      hangs_on = rw c.deref.ensures.value at c.in_ok-is_placed.ensures.hanging;
+      fits = rw c.deref.ensures.value at c.in_ok-is_placed.ensures.fits;
     } in
-    let pushed : lists c.push.new.self.items ≡ lists c.loop-row.own.items ++ made ∷ [] =
-    ap lists c.in_ok-push.ensures.items ∙ map_push _ c.loop-row.own.items _ in
-    let stored : own_or_simple row cells made ≡ own_from row 0 hung cells = rw c.deref.ensures.value at c.in_ok-placed.ensures.own in
+    let pushed : c.push_own.new.own ≡ c.loop-row.own ++ made ∷ [] = c.in_ok-push_own.ensures in
+    let stored : own_or_simple row cells made ≡ own_from row 0 hung cells = rw c.deref.ensures.value at c.in_ok-is_placed.ensures.own in
     record {
-      gathered = rw (rw c.deref.ensures.value at c.in_ok-placed.ensures.positions)
+      gathered = rw (rw c.deref.ensures.value at c.in_ok-is_placed.ensures.positions)
           (gathered-next (placed_rows rows) row cells more done next c.loop-row.positions is
           (subst (λ r. IsGathered (placed_rows rows) (rows_from row hung r) hung c.loop-row.positions) split
           c.loop-row.invariant.gathered));
-      own = λ rest e. rw pushed (ap (λ o. own_with_simple 0 rows o) (append_assoc (lists c.loop-row.own.items) (made ∷ []) rest)
+      own = λ rest e. rw pushed (ap (λ o. own_with_simple 0 rows o) (append_assoc c.loop-row.own (made ∷ []) rest)
           ∙ c.loop-row.invariant.own (made ∷ rest)
           (subst (λ r. own_with_simple row r (made ∷ rest) ≡ own_rows_from row hung r) (sym split)
           (ap (λ o. o ∷ own_with_simple (row + 1) more rest) stored
           ∙ ap (λ r. own_from row 0 hung cells ∷ r) (e ∙ ap (λ hs. own_rows_from (row + 1) hs more) is.hangs_on))));
-      count = ap length c.in_ok-push.ensures.items ∙ length-append c.loop-row.own.items (_ ∷ []) ∙ ap (λ n. n + 1) c.loop-row.invariant.count;
+      count = ap length pushed ∙ length-append c.loop-row.own (made ∷ []) ∙ ap (λ n. n + 1) c.loop-row.invariant.count;
     }
 
 pub bottom-init : goal.bottom-init
@@ -95,7 +94,7 @@ returns-clause-own c =
     let rows = c.args.rows.now in
     let row = c.loop-row.row in
     let hung = c.loop-row.placer.hanging in
-    let own = lists c.loop-row.own.items in
+    let own = c.loop-row.own in
     let none = drop_all row rows c.loop-row-test.false in
     ap (own_with_simple 0 (lists rows)) (sym (append-nil own))
     ∙ c.loop-row.invariant.own [] (subst (λ r. own_with_simple row (lists r) [] ≡ own_rows_from row hung (lists r)) (sym none) refl)

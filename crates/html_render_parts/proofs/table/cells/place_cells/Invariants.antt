@@ -11,8 +11,8 @@ invariant-loop-row l =
     let more = lists (drop l.row l.rows) in record {
       gathered : IsGathered (placed_rows (lists l.rows)) (rows_from l.row hung more) hung l.positions;
       own : (rest : List (List PositionedCell)) → own_with_simple l.row more rest ≡ own_rows_from l.row hung more →
-          own_with_simple 0 (lists l.rows) (lists l.own.items ++ rest) ≡ own_rows_from 0 [] (lists l.rows);
-      count : length l.own.items ≡ l.row;
+          own_with_simple 0 (lists l.rows) (l.own ++ rest) ≡ own_rows_from 0 [] (lists l.rows);
+      count : length l.own ≡ l.row;
     }
 
 abbrev pub invariant-bottom : goal.invariant-bottom

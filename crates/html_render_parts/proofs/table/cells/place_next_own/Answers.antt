@@ -16,5 +16,4 @@ returns-clause-own c =
     let cells = c.args.cells.now in
     let done = c.args.placer.now in
     let is = next-is row cells done c.place_row.new.self c.in_ok-place_row.ensures.ok in
-    let own : c.in_ok-own.own.items ≡ own_from row 0 done.hanging cells = c.in_ok-own.ensures.items ∙ c.own.ensures ∙ is.own in
-    subst (λ o. own_or_simple row cells o ≡ own_from row 0 done.hanging cells) (sym own) (stored-placed row done.hanging cells)
+    subst (λ o. own_or_simple row cells o ≡ own_from row 0 done.hanging cells) (sym is.own) (stored-placed row done.hanging cells)

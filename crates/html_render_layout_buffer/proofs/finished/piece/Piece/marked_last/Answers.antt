@@ -1,8 +1,7 @@
 use Rattle.std.proofs.Common.{reverse, ap, ◌∙◌}
 use Rattle.html_render_layout_buffer.specs.Marked.{marked_behind}
 use Rattle.html_render_layout_buffer.specs.Pieces.{with_front}
-use Rattle.html_render_layout_buffer.proofs.KnownPieces.{length-behind}
-use Rattle.html_render_layout_buffer.proofs.PieceLines.{front-marked}
+use Rattle.html_render_layout_buffer.proofs.PieceLines.{length-behind, front-marked}
 use Rattle.html_render_layout_buffer.proofs.finished.piece.Piece.marked_last.Goals as goal
 
 pub mark_last-requires : goal.mark_last-requires

@@ -14,7 +14,7 @@ returns-then-fits_after g c a b e f =
     let some : 0 < length items = search rules in
     let at : piece ≡ get_or items 0 piece = search rules in
     c.others_fit.ensures b f ∙ sym (ap (λ x. x && others) (sym (c.fits_after.ensures a b e f) ∙ c.if-fits_after.true))
-    ∙ sym (first-fits a b w items piece some at c.has_line.ensures) ∙ ap (λ y. fits_after a b w y) c.self.view_is
+    ∙ sym (first-fits a b w items piece some at c.has_line.ensures) ∙ ap (λ y. fits_after a b w (lines_of y)) c.self.view_is
 
 pub returns-else-fits_after : goal.returns-else-fits_after
 returns-else-fits_after g c a b e f =
@@ -25,4 +25,4 @@ returns-else-fits_after g c a b e f =
     let some : 0 < length items = search rules in
     let at : piece ≡ get_or items 0 piece = search rules in
     c.if-fits_after.false ∙ sym (ap (λ x. x && others) (sym (c.fits_after.ensures a b e f) ∙ c.if-fits_after.false))
-    ∙ sym (first-fits a b w items piece some at c.has_line.ensures) ∙ ap (λ y. fits_after a b w y) c.self.view_is
+    ∙ sym (first-fits a b w items piece some at c.has_line.ensures) ∙ ap (λ y. fits_after a b w (lines_of y)) c.self.view_is

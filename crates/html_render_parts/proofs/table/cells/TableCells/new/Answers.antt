@@ -15,27 +15,27 @@ rows_on_columns-requires-clause-rising c =
 pub rows_on_columns-requires-clause-fits : goal.rows_on_columns-requires-clause-fits
 rows_on_columns-requires-clause-fits c =
     let rows = lists c.args.rows.now in
-    let own = lists c.in_ok-placed.placed.own.items in
-    rw c.deref-2.ensures.value (all-stored_fit 0 rows own
+    let own = c.in_ok-placed.placed.own in
+    (all-stored_fit 0 rows own
     (subst (All (All (λ d. d.column + d.span.colspan < 2 ^ 128))) (sym c.in_ok-placed.ensures.own)
     (own-within rows c.in_ok-placed.ensures.fits)))
 
 pub invariant_of-result : goal.invariant_of-result
 invariant_of-result c =
     let rows = lists c.args.rows.now in
-    let own = lists c.in_ok-placed.placed.own.items in
+    let own = c.in_ok-placed.placed.own in
     let es = edges_of (placed_rows rows) in
-    let cells : lists c.in_ok-rows.rows.items ≡ map (map (on_columns es)) (own_rows_from 0 [] rows) =
-    (rw (c.deref.ensures.value, c.in_ok-placed.ensures.edges, c.deref-2.ensures.value) at c.in_ok-rows.ensures)
+    let cells : c.in_ok-rows.rows ≡ map (map (on_columns es)) (own_rows_from 0 [] rows) =
+    (rw (c.deref.ensures.value, c.in_ok-placed.ensures.edges) at c.in_ok-rows.ensures)
     ∙ rows-own es 0 rows own ∙ ap (map (map (on_columns es))) c.in_ok-placed.ensures.own in
     rw (c.in_ok-shared.ensures.ok, c.in_ok-placed.ensures.edges, cells) (cells-valid rows c.requires c.in_ok-placed.ensures.fits)
 
 pub returns-clause-ok : goal.returns-clause-ok
 returns-clause-ok c =
     let rows = lists c.args.rows.now in
-    let own = lists c.in_ok-placed.placed.own.items in
+    let own = c.in_ok-placed.placed.own in
     let es = edges_of (placed_rows rows) in
-    let cells : lists c.in_ok-rows.rows.items ≡ map (map (on_columns es)) (own_rows_from 0 [] rows) =
-    (rw (c.deref.ensures.value, c.in_ok-placed.ensures.edges, c.deref-2.ensures.value) at c.in_ok-rows.ensures)
+    let cells : c.in_ok-rows.rows ≡ map (map (on_columns es)) (own_rows_from 0 [] rows) =
+    (rw (c.deref.ensures.value, c.in_ok-placed.ensures.edges) at c.in_ok-rows.ensures)
     ∙ rows-own es 0 rows own ∙ ap (map (map (on_columns es))) c.in_ok-placed.ensures.own in
     rw (c.in_ok-shared.ensures.ok, c.in_ok-placed.ensures.edges, cells, c.in_ok-placed.ensures.fits) refl

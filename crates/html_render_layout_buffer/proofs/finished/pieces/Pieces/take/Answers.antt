@@ -1,5 +1,0 @@
-use Rattle.html_render_layout_buffer.proofs.KnownPieces.{known-none}
-use Rattle.html_render_layout_buffer.proofs.finished.pieces.Pieces.take.Goals as goal
-
-pub invariant_of-self : goal.invariant_of-self
-invariant_of-self g c = known-none c.taken.new.pieces.items c.taken.ensures.left

@@ -1,6 +1,0 @@
-use Rattle.std.proofs.Common.{◌≡◌, map, take}
-use Rattle.html_render_parts.specs.TableCells.{on_columns}
-use Rattle.html_render_parts.proofs.table.cells.placed_on.Given as goal
-
-abbrev pub invariant-loop-cell : goal.invariant-loop-cell
-invariant-loop-cell l = l.row.items ≡ map (on_columns l.edges) (take l.cell-index l.cells)

@@ -1,7 +1,0 @@
-use Rattle.std.proofs.Common.{◌≡◌, ◌+◌, ◌<◌, ◌^◌, drop, max}
-use Rattle.html_render_tree_convert.specs.Tables.{greatest_width}
-use Rattle.html_render_tree_convert.proofs.spans.greatest_width.Given as goal
-
--- the greatest so far, with those of the rows that are left
-abbrev pub invariant-loop-row : goal.invariant-loop-row
-invariant-loop-row l = (max l.widest (greatest_width (drop l.row-index l.rows)) ≡ greatest_width l.rows) × (l.widest + 1 < 2 ^ 128)
