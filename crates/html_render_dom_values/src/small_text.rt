@@ -1,4 +1,4 @@
-//! Texts that need no allocation while they are short.
+//! Texts that need no allocation while they are short, and whose clones copy nothing while they are not long.
 //!
 //! `SmallText::<16>::from_str(alloc, "div")?` is the text `div`, without an allocation. A clone is the same value as its
 //! source.
@@ -14,21 +14,28 @@ use std::alloc::{AllocError, Global};
 use std::fmt;
 use std::marker::Model;
 use std::mem::size_of;
+use std::sync::Arc;
 
 /// Room for further bytes, in bytes, of a text that moves to an allocation because it grows.
 const MORE: usize = 32;
+
+/// Maximum length in bytes of a text that shares its allocation with its clones. With the length and the number of owners, the
+/// allocation has at most 88 bytes.
+const SHARED_MAX: usize = 79;
 
 /// Storage of a text's bytes.
 #[derive(Drop)]
 enum Bytes<const SHORT: usize> {
     /// At most `SHORT` bytes, inline.
     Short(InlineText<SHORT>),
-    /// Bytes of any number, in an allocation.
+    /// At most `SHARED_MAX` bytes, in an allocation that clones share.
+    Shared(Arc<InlineText<SHARED_MAX>>),
+    /// Bytes of any number, in an allocation of their own.
     Long(String),
 }
 
 /// Text with room for `SHORT` bytes inline, at most 255. It moves to an allocation when it needs more room, and stays
-/// there.
+/// there. A longer text of at most 79 bytes that was created whole shares its allocation with its clones, until it changes.
 ///
 /// In contracts, a text is its bytes.
 #[derive(Drop)]
@@ -48,12 +55,14 @@ impl<const SHORT: usize> Model for SmallText<SHORT> {
 impl<const SHORT: usize> Clone for SmallText<SHORT> {
     ghost is_clone = { λ a b. b ≡ a };
 
+    #[inline]
     fn clone(&self) -> Result<SmallText<SHORT>, AllocError> {
-        let bytes = match &self.bytes {
-            Bytes::Short(bytes) => Bytes::Short(bytes.copied()),
-            Bytes::Long(bytes) => Bytes::Long(bytes.clone()?),
-        };
-        Ok(SmallText { bytes })
+        match &self.bytes {
+            Bytes::Short(bytes) => Ok(SmallText {
+                bytes: Bytes::Short(bytes.copied()),
+            }),
+            _ => self.clone_outside(),
+        }
     }
 }
 
@@ -99,18 +108,41 @@ impl<const SHORT: usize> SmallText<SHORT> {
     /// # Errors
     ///
     /// `AllocError`, if an allocation is refused.
+    #[inline]
     pub fn from_str(alloc: Global, text: &str) -> Result<SmallText<SHORT>, AllocError>
         ensures { IfOk result (λ t. t ≡ text.now) }
     {
-        if let Some(short) = InlineText::try_from_str(text) {
-            return Ok(SmallText {
+        match InlineText::try_from_str(text) {
+            Some(short) => Ok(SmallText {
                 bytes: Bytes::Short(short),
-            });
+            }),
+            None => SmallText::outside(alloc, text),
         }
-        let bytes = String::from_str(alloc, text)?;
-        Ok(SmallText {
-            bytes: Bytes::Long(bytes),
-        })
+    }
+
+    /// Returns a copy of `text` in an allocation.
+    #[inline(never)]
+    fn outside(alloc: Global, text: &str) -> Result<SmallText<SHORT>, AllocError>
+        ensures { IfOk result (λ t. t ≡ text.now) }
+    {
+        let bytes = match InlineText::try_from_str(text) {
+            Some(shared) => Bytes::Shared(Arc::new(alloc, shared)?),
+            None => Bytes::Long(String::from_str(alloc, text)?),
+        };
+        Ok(SmallText { bytes })
+    }
+
+    /// Returns a clone of a text in an allocation.
+    #[inline(never)]
+    fn clone_outside(&self) -> Result<SmallText<SHORT>, AllocError>
+        ensures { IfOk result (λ t. t ≡ self.now) }
+    {
+        let bytes = match &self.bytes {
+            Bytes::Short(bytes) => Bytes::Short(bytes.copied()),
+            Bytes::Shared(bytes) => Bytes::Shared(Arc::try_clone(bytes)?),
+            Bytes::Long(bytes) => Bytes::Long(bytes.clone()?),
+        };
+        Ok(SmallText { bytes })
     }
 
     /// Borrows the text.
@@ -119,6 +151,7 @@ impl<const SHORT: usize> SmallText<SHORT> {
     {
         match &self.bytes {
             Bytes::Short(bytes) => bytes.as_str(),
+            Bytes::Shared(bytes) => bytes.as_str(),
             Bytes::Long(bytes) => bytes.as_str(),
         }
     }
@@ -161,13 +194,14 @@ impl<const SHORT: usize> SmallText<SHORT> {
         self.as_str().len()
     }
 
-    /// Empties the text. Its allocation, if it has one, is kept.
+    /// Empties the text. Its allocation, if it has one of its own, is kept.
     #[inline]
     pub fn clear(&mut self)
         ensures { self.new ≡ [] }
     {
         match &mut self.bytes {
             Bytes::Short(text) => text.clear(),
+            Bytes::Shared(_) => self.bytes = Bytes::Short(InlineText::new()),
             Bytes::Long(text) => text.clear(),
         }
     }
@@ -222,6 +256,7 @@ impl<const SHORT: usize> SmallText<SHORT> {
     {
         match &mut self.bytes {
             Bytes::Long(text) => return text.reserve(bytes),
+            Bytes::Shared(_) => {}
             Bytes::Short(text) => {
                 if bytes <= text.remaining_capacity() {
                     return Ok(());
@@ -254,6 +289,7 @@ impl<const SHORT: usize> SmallText<SHORT> {
     {
         match &mut self.bytes {
             Bytes::Long(text) => return text.push_str(more),
+            Bytes::Shared(_) => {}
             Bytes::Short(text) => {
                 if more.len() <= text.remaining_capacity() {
                     text.push_str(more);
@@ -293,6 +329,7 @@ impl<const SHORT: usize> SmallText<SHORT> {
     {
         match &mut self.bytes {
             Bytes::Long(text) => return text.insert_str(0, front),
+            Bytes::Shared(_) => {}
             Bytes::Short(text) => {
                 if front.len() <= text.remaining_capacity() {
                     let mut all = InlineText::new();
