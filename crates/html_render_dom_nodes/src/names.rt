@@ -5,6 +5,8 @@ ghost use Rattle.html_render_dom_nodes.specs.Content.{name_of, property_of, spac
 ghost use Rattle.html_render_dom_nodes.specs.Names.{name_eq, property_eq, space_eq};
 ghost use Rattle.html_render_dom_nodes.specs.laws.Names.{name_eq_equiv, property_eq_equiv, space_eq_equiv};
 ghost use Rattle.std.specs.Prelude.{◌≡◌, map, string_bytes};
+ghost use Rattle.std.specs.List.{slice_index_or};
+ghost use Rattle.std.specs.Str.{bytes_eq};
 ghost use Rattle.html_render_dom_nodes.specs.Elements.{has_name};
 ghost use Rattle.html_render_dom_nodes.specs.Content as content;
 
@@ -107,6 +109,32 @@ impl PartialEq for Attribute {
 
 impl Eq for Attribute {
     ghost laws = { on_equiv property_of property_eq_equiv };
+}
+
+/// Returns a byte of a text; 0 after the last one.
+#[inline(always)]
+fn byte_at(text: &str, at: usize) -> u8
+    ensures { result ≡ slice_index_or text.now at 0 }
+{
+    match text.as_bytes().get(at) {
+        Some(byte) => *byte,
+        None => 0,
+    }
+}
+
+/// Reports whether two local names are the same.
+///
+/// Their lengths and first two bytes are compared in place, so that most names that differ, and those of one or two letters, need
+/// no call. A `match` would call a comparison of texts for each name that it lists.
+#[inline(always)]
+#[tactic(auto, using(crate::proofs::SameNames::compared))]
+pub fn is_same_name(name: &str, other: &str) -> bool
+    ensures { result ≡ bytes_eq name.now other.now }
+{
+    name.len() == other.len()
+        && byte_at(name, 0) == byte_at(other, 0)
+        && byte_at(name, 1) == byte_at(other, 1)
+        && (name.len() <= 2 || name == other)
 }
 
 /// Reports whether one of the attributes has the name.

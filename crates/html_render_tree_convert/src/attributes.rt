@@ -13,6 +13,7 @@ ghost use Rattle.html_render_tree_convert.specs.Tables.{size_of, size_or_one, sp
 use crate::tables::CellSpan;
 use html_render_dom::Error;
 use html_render_dom::dom::{Attribute, Namespace, QualName};
+use html_render_dom_nodes::is_same_name;
 use html_render_layout_nodes::text::NodeText;
 use std::alloc::Global;
 
@@ -20,9 +21,7 @@ use std::alloc::Global;
 fn attribute_named<'a>(attributes: &'a [Attribute], name: &str) -> Option<&'a Attribute>
     ensures { option_copied result ≡ find (λ a. bytes_eq a.name.local name.now) attributes.now }
 {
-    attributes
-        .iter()
-        .find(|attribute| attribute.name.local.as_str() == name)
+    attributes.iter().find(|attribute| is_same_name(attribute.name.local.as_str(), name))
 }
 
 /// Returns the value of the first attribute of a local name.
@@ -57,10 +56,7 @@ pub fn start_of(attributes: &[Attribute]) -> i64
 fn last_named<'a>(attributes: &'a [Attribute], name: &str) -> Option<&'a Attribute>
     ensures { option_copied result ≡ find (λ a. bytes_eq a.name.local name.now) (reverse attributes.now) }
 {
-    attributes
-        .iter()
-        .rev()
-        .find(|attribute| attribute.name.local.as_str() == name)
+    attributes.iter().rev().find(|attribute| is_same_name(attribute.name.local.as_str(), name))
 }
 
 /// Returns the number that a text is, and 1 if it is none.

@@ -18,6 +18,7 @@ use crate::tables::Part;
 use html_render_dom::Error;
 use html_render_dom::dom::{Attribute, Handle, Namespace, QualName, RcDom};
 use html_render_dom::style::{ComputedStyle, Specificity, StyleOrigin, WhiteSpace};
+use html_render_dom_nodes::is_same_name as is;
 use html_render_layout_nodes::text::NodeText;
 use html_render_layout_nodes::tree::{Emphasis, Image, NodeKind, NodeStyle};
 use std::alloc::Global;
@@ -70,15 +71,6 @@ fn table_part(part: Part, if_empty: IfEmpty) -> Mapping
     ensures { result ≡ Mapping.Parent (ElementKind.Part part) if_empty }
 {
     Mapping::Parent(ElementKind::Part(part), if_empty)
-}
-
-/// Reports whether a name is `other`. Lengths are compared first, in place: a `match` would call a comparison of texts for each
-/// name that it lists.
-#[inline(always)]
-fn is(name: &str, other: &str) -> bool
-    ensures { result ≡ bytes_eq name.now other.now }
-{
-    name.len() == other.len() && name == other
 }
 
 /// Returns the mapping of an element of HTML whose node holds no text, by its local name and its attributes. Cells and rows, of
@@ -212,7 +204,7 @@ pub(crate) fn element_mapping(
 {
     match name.ns {
         Namespace::Html => html_element_mapping(alloc, name.local.as_str(), attributes),
-        Namespace::Svg if name.local.as_str() == "svg" => {
+        Namespace::Svg if is(name.local.as_str(), "svg") => {
             let title = drawing_title(alloc, dom, element)?;
             Ok(Mapping::Leaf(NodeKind::Svg(title)))
         }

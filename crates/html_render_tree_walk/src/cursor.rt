@@ -6,6 +6,7 @@ ghost use Rattle.html_render_dom.specs.Dom.{IsNode};
 ghost use Rattle.html_render_tree_walk.specs.Walk.{IsVisited, ahead, coming, coming_at, entered, is_named, picks};
 
 use html_render_dom::dom::{Handle, Namespace, NodeData, RcDom};
+use html_render_dom_nodes::is_same_name;
 use std::alloc::{AllocError, Global};
 use std::marker::Model;
 
@@ -50,7 +51,7 @@ fn is_named(name: &str, node: &NodeData) -> bool
 {
     match node {
         NodeData::Element { name: own, .. } => match own.ns {
-            Namespace::Html => own.local.as_str() == name,
+            Namespace::Html => is_same_name(own.local.as_str(), name),
             _ => false,
         },
         _ => false,

@@ -14,7 +14,7 @@ ghost use Rattle.html_render_dom_styles.specs.Selectors.{is_filled};
 
 use super::attributes::first_value;
 use super::computed::{ComputedStyle, computed_style, style_of_rules};
-use html_render_dom_nodes::Attribute;
+use html_render_dom_nodes::{Attribute, is_same_name};
 use html_render_dom_styles::StyleRule;
 use html_render_dom_values::Error;
 use std::alloc::{AllocError, Global};
@@ -77,7 +77,9 @@ struct PlainStyle {
 fn find_plain<'a>(plain: &'a [PlainStyle], name: &str) -> Option<&'a PlainStyle>
     ensures { option_copied result ≡ find (λ p. bytes_eq (string_bytes p.name) name.now) plain.now }
 {
-    plain.iter().find(|style| style.name.as_str() == name)
+    plain
+        .iter()
+        .find(|style| is_same_name(style.name.as_str(), name))
 }
 
 /// An index of a list of rules by the texts that they state, so that few of many rules are tested for an element.
