@@ -185,7 +185,7 @@ impl<T: Tag, M: Copy> LineBuffer<T, M> {
     /// # Errors
     ///
     /// `AllocError`. The buffer then has no lines.
-    #[inline]
+    #[inline(always)]
     pub(crate) fn push_counted(
         &mut self,
         text: &str,
@@ -356,7 +356,7 @@ fn clear_all<T: Tag, M: Copy>(
 }
 
 /// Appends a text and its slots.
-#[inline]
+#[inline(always)]
 fn put_text<T: Tag, M: Copy>(
     text: &mut String,
     slots: &mut TagRuns<Slot<T, M>>,

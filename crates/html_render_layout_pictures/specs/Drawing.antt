@@ -10,7 +10,7 @@ pub record DueBorder (M : Type 0) : Type 0 where
   pub marks : List M
   pub above : List Bool
 
--- what is drawn: the lines, the marks that wait behind them, and the border that is due
+-- the drawing so far: its lines, the marks that wait after them, and the border that is due
 pub record Drawing (T M : Type 0) : Type 0 where
   pub frame : Frame T
   pub lines : List (Line T M)
@@ -26,7 +26,7 @@ due_lines frame (Some e) below = marked_before e.marks (border frame e.above bel
 abbrev pub due_below : {T M : Type 0} → Frame T → (above : List Bool) → Option (DueBorder M)
 due_below frame above = if frame.borders then Some (record { marks = []; above = above }) else None
 
--- with the lines of a drawn row, behind the border that is due
+-- drawing with the lines of a drawn row after the border that is due
 abbrev pub with_cells : {T M : Type 0} → Drawing T M → List (KeptCell T M) → Drawing T M
 with_cells d cells = record {
   frame = d.frame;
@@ -50,10 +50,10 @@ begun frame waiting =
 abbrev pub with_rows : {T M : Type 0} → Drawing T M → List (TableRow T M) → Drawing T M
 with_rows d rows = fold with_row d rows
 
--- the lines and the marks that wait behind them, once the last border is drawn
+-- the lines and the marks that wait after them, once the last border is drawn
 abbrev pub finished : {T M : Type 0} → Drawing T M → List (Line T M) × List M
 finished d = (d.lines ++ due_lines d.frame d.due [], d.waiting)
 
--- lines with those of a finished picture at their end, and the marks that wait behind them
+-- lines with those of a finished picture at their end, and the marks that wait after them
 abbrev pub appended : {T M : Type 0} → List (Line T M) → List (Line T M) × List M → List (Line T M) × List M
 appended lines p = (lines ++ p.0, p.1)

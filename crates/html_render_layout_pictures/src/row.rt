@@ -62,6 +62,7 @@ fn height<M: Copy>(cells: &[RowCell<M>]) -> usize
 
 impl<T: Tag> Frame<T> {
     /// Appends what stands between a cell and the next one: the spaces that are missing after its line, and a separator.
+    #[inline(always)]
     #[tactic(auto, using(crate::proofs::LawSets::gaps_put))]
     fn put_gap<M: Copy>(&self, to: &mut LineBuffer<T, M>, missing: usize) -> Result<(), AllocError>
         ensures { OnOk result (to.new ≡ record { lines = to.old.lines; line = (to.old.line ++ repeated self.now.tag 0x20 missing) ++ definition.separator self.now ∷ [] }) }
@@ -73,6 +74,7 @@ impl<T: Tag> Frame<T> {
 
     /// Appends a cell's own line, if the cell is as high, and after its last one the marks that wait there. Returns how many
     /// columns are missing then. Line `start` is the cell's first.
+    #[inline(always)]
     fn put_cell<M: Copy>(
         &self,
         to: &mut LineBuffer<T, M>,

@@ -65,6 +65,7 @@ impl<T: Tag, M: Copy> LineBuffer<T, M> {
     /// # Errors
     ///
     /// `AllocError`. The buffer then has no lines.
+    #[inline(always)]
     pub fn append_line(&mut self, other: &LineBuffer<T, M>, n: usize) -> Result<(), AllocError>
         requires { n < length other.now.lines }
         ensures ok { OnOk result (self.new ≡ record { lines = self.old.lines; line = self.old.line ++ slice_index_or other.now.lines n [] }) }
@@ -199,6 +200,20 @@ impl<T: Tag, M: Copy> LineBuffer<T, M> {
         self.text.capacity() >= bytes || bytes > FEW
     }
 
+    /// Exchanges the lines and the memory of two buffers. Field by field this takes no call.
+    #[inline]
+    fn exchange(&mut self, other: &mut LineBuffer<T, M>)
+        ensures own { self.new ≡ other.old }
+        ensures other { other.new ≡ self.old }
+    {
+        mem::swap(&mut self.text, &mut other.text);
+        mem::swap(&mut self.slots, &mut other.slots);
+        mem::swap(&mut self.ends, &mut other.ends);
+        mem::swap(&mut self.start, &mut other.start);
+        mem::swap(&mut self.slot_start, &mut other.slot_start);
+        mem::swap(&mut self.columns, &mut other.columns);
+    }
+
     /// Moves another buffer's lines to the end of this one. Its open line becomes the open line.
     ///
     /// If this buffer has no lines, the two exchange their memory, unless this one's is too small for the other text and that has
@@ -215,7 +230,7 @@ impl<T: Tag, M: Copy> LineBuffer<T, M> {
         ensures kept { OnErr result (other.new ≡ other.old) }
     {
         if self.line_count() == 0 && self.is_as_large(other) {
-            mem::swap(self, other);
+            self.exchange(other);
             return Ok(());
         }
         self.append_all(other)?;
