@@ -145,7 +145,7 @@ impl<T: Tag, M: Copy> LineBuffer<T, M> {
     /// # Errors
     ///
     /// `AllocError`. The buffer then has no lines.
-    #[inline]
+    #[inline(always)]
     pub fn push_str(&mut self, text: &str, width: usize, tag: T) -> Result<(), AllocError>
         requires { width ≡ text_columns (chars text.now) }
         ensures ok { OnOk result (self.new ≡ record { lines = self.old.lines; line = self.old.line ++ under tag (chars text.now) }) }

@@ -18,7 +18,6 @@ use crate::tables::Part;
 use html_render_dom::Error;
 use html_render_dom::dom::{Attribute, Handle, Namespace, QualName, RcDom};
 use html_render_dom::style::{ComputedStyle, Specificity, StyleOrigin, WhiteSpace};
-use html_render_dom_nodes::is_same_name as is;
 use html_render_layout_nodes::text::NodeText;
 use html_render_layout_nodes::tree::{Emphasis, Image, NodeKind, NodeStyle};
 use std::alloc::Global;
@@ -71,6 +70,15 @@ fn table_part(part: Part, if_empty: IfEmpty) -> Mapping
     ensures { result ≡ Mapping.Parent (ElementKind.Part part) if_empty }
 {
     Mapping::Parent(ElementKind::Part(part), if_empty)
+}
+
+/// Reports whether a name is `other`. Lengths are compared first, in place: a `match` would call a comparison of texts for each
+/// name that it lists. First letters aren't: this function would then be too large to be part of its callers.
+#[inline(always)]
+fn is(name: &str, other: &str) -> bool
+    ensures { result ≡ bytes_eq name.now other.now }
+{
+    name.len() == other.len() && name == other
 }
 
 /// Returns the mapping of an element of HTML whose node holds no text, by its local name and its attributes. Cells and rows, of
