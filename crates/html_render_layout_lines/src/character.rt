@@ -14,7 +14,7 @@ use unicode_width::UnicodeWidthChar;
 pub struct Character<T> {
     /// The character.
     pub code: char,
-    /// How white space is treated where it stands.
+    /// How white space is treated at its place.
     pub mode: WhiteSpace,
     /// Its tag on a line that begins a paragraph or comes after a newline.
     pub tag: T,
@@ -38,7 +38,7 @@ pub struct TextStyle<T> {
 pub enum Item<T, M> {
     /// A character.
     Character(Character<T>),
-    /// A mark: it takes no column, and stands directly before the next character that is placed.
+    /// A mark: it takes no column, and directly precedes the next character that is placed.
     Mark(M),
 }
 
@@ -74,22 +74,35 @@ pub struct Class {
     pub width: usize,
 }
 
-/// Whether white space is collapsed: all white space but the no-break space.
+/// Reports whether a character is white space that is collapsed: all white space but the no-break space.
 pub fn is_collapsible(c: char) -> bool
     ensures { result ≡ is_collapsible c }
 {
     c.is_whitespace() && c != '\u{A0}'
 }
 
-/// The columns of a character; 0 for a control character.
-#[tactic(auto, unfolding(crate::specs::Character::width_of))]
+/// Returns the columns of a character; 0 for a control character.
+#[inline]
+#[tactic(auto, unfolding(crate::specs::Character::width_of, unicode_width::specs::Width::char_width))]
 pub fn width_of(c: char) -> usize
+    ensures { result ≡ width_of c }
+{
+    match c {
+        ' '..='~' => 1,
+        _ => rare_width(c),
+    }
+}
+
+/// Returns the columns of any character.
+#[inline(never)]
+#[tactic(auto, unfolding(crate::specs::Character::width_of))]
+fn rare_width(c: char) -> usize
     ensures { result ≡ width_of c }
 {
     c.width().unwrap_or(0)
 }
 
-/// What a character is, and its columns.
+/// Returns the kind of a character, and its columns.
 #[inline]
 #[tactic(auto, unfolding(crate::specs::Character::width_of, crate::specs::Character::kind, unicode_width::specs::Width::char_width))]
 pub fn class_of(mode: WhiteSpace, c: char) -> Class
@@ -119,13 +132,13 @@ pub fn class_of(mode: WhiteSpace, c: char) -> Class
             } else {
                 Kind::Letter
             },
-            width: width_of(c),
+            width: rare_width(c),
         },
         _ => rare_class(mode, c),
     }
 }
 
-/// The class of any character, by its width and what it is.
+/// Returns the class of any character, by its width and its kind.
 #[inline(never)]
 #[tactic(auto, unfolding(crate::specs::Character::width_of))]
 fn rare_class(mode: WhiteSpace, c: char) -> Class
@@ -139,7 +152,7 @@ fn rare_class(mode: WhiteSpace, c: char) -> Class
     }
 }
 
-/// What a character is to the wrapping, where it is known whether it has a width.
+/// Returns the kind of a character, where it is known whether it has a width.
 #[tactic(auto, unfolding(crate::specs::Character::kind))]
 fn kind_of(mode: WhiteSpace, c: char, has_no_width: bool) -> Kind
     requires { has_no_width ≡ has_no_width_of c }
