@@ -5,7 +5,7 @@ ghost use Rattle.std.specs.List.{flat_map};
 ghost use Rattle.std.specs.Str.{IsUtf8};
 ghost use Rattle.std.specs.String.{string_bytes};
 ghost use Rattle.html_render_layout_lines.specs.Line.{columns, text_bytes, element_of};
-ghost use Rattle.html_render_layout_lines.specs.TaggedText.{items_of};
+ghost use Rattle.html_render_layout_lines.specs.TaggedText.{Cuts, items_of};
 ghost use Rattle.html_render_layout_buffer.specs.Fields.{line_slots};
 ghost use Rattle.html_render_layout_buffer.specs.Lines.{no_lines};
 ghost use Rattle.html_render_layout_buffer.specs.Words.{run_slots, open_slots};
@@ -66,11 +66,30 @@ fn put_word<T: Tag, M: Copy>(
     ensures utf8 { OnOk result (IsUtf8 (text_bytes word.now.elements)) }
 {
     let cut = word.parts();
-    text.push_str(cut.closed_text)?;
+    put_closed(text, slots, cut.closed, cut.closed_text, continues)?;
     text.push_str(cut.open_text)?;
-    put_runs(slots, cut.closed, continues)?;
     put_open(slots, cut.tag, cut.open_text.len(), continues)?;
     Ok(())
+}
+
+/// Appends the text of a word's closed runs and their slots. Most words have no closed run.
+#[inline(always)]
+fn put_closed<T: Tag, M: Copy>(
+    text: &mut String,
+    slots: &mut TagRuns<Slot<T, M>>,
+    runs: &[Run<TextStyle<T>, M>],
+    closed_text: &str,
+    continues: bool,
+) -> Result<(), AllocError>
+    requires { Cuts runs.now closed_text.now }
+    ensures text { OnOk result (string_bytes text.new ≡ string_bytes text.old ++ closed_text.now) }
+    ensures slots { OnOk result (slots.new ≡ slots.old ++ flat_map (run_slots continues) runs.now) }
+{
+    if runs.is_empty() {
+        return Ok(());
+    }
+    text.push_str(closed_text)?;
+    put_runs(slots, runs, continues)
 }
 
 /// Appends the slots of a word's closed runs.
