@@ -31,19 +31,24 @@ pub const BORDERS: Borders = Borders {
 };
 
 /// Maximum number of equal characters that are written at once.
-pub const CHUNK: usize = 64;
+pub const CHUNK: usize = 128;
 
 /// `CHUNK` horizontal border characters.
-pub const LINES: &str = "────────────────────────────────────────────────────────────────";
+pub const LINES: &str =
+    "────────────────────────────────────────────────────────────────────────────────────────────────────────────────────────────────";
 
 /// `CHUNK - 1` horizontal border characters and one with a separator above and below it.
-pub const LINES_CROSS: &str = "───────────────────────────────────────────────────────────────┼";
+pub const LINES_CROSS: &str =
+    "───────────────────────────────────────────────────────────────────────────────────────────────────────────────────────────────┼";
 
 /// `CHUNK - 1` horizontal border characters and one with a separator above it only.
-pub const LINES_ABOVE: &str = "───────────────────────────────────────────────────────────────┴";
+pub const LINES_ABOVE: &str =
+    "───────────────────────────────────────────────────────────────────────────────────────────────────────────────────────────────┴";
 
 /// `CHUNK - 1` horizontal border characters and one with a separator below it only.
-pub const LINES_BELOW: &str = "───────────────────────────────────────────────────────────────┬";
+pub const LINES_BELOW: &str =
+    "───────────────────────────────────────────────────────────────────────────────────────────────────────────────────────────────┬";
 
 /// `CHUNK` slashes.
-pub const SLASHES: &str = "////////////////////////////////////////////////////////////////";
+pub const SLASHES: &str =
+    "////////////////////////////////////////////////////////////////////////////////////////////////////////////////////////////////";

@@ -2,6 +2,7 @@
 
 ghost use Rattle.std.specs.Prelude.{◌≡◌, ◌≤◌, ◌<◌, ◌++◌, ◌∷◌, [], cond, OnOk, replicate};
 ghost use Rattle.std.specs.Str.{chars, encode_utf8_all};
+ghost use Rattle.html_render_layout_lines.specs.TaggedText.{counted};
 ghost use Rattle.html_render_layout_buffer.specs.Padding.{repeated};
 ghost use Rattle.html_render_layout_pictures.specs.Fillers.{character_of};
 ghost use Rattle.html_render_layout_pictures.specs.Picture as definition;
@@ -9,6 +10,7 @@ ghost use Rattle.html_render_layout_pictures.specs.Picture as definition;
 pub use crate::borders::CHUNK;
 use crate::borders::{BORDERS, LINES, LINES_ABOVE, LINES_BELOW, LINES_CROSS, SLASHES};
 use html_render_layout_buffer::buffer::LineBuffer;
+use html_render_layout_buffer::finished::FinishedLines;
 use html_render_layout_lines::tag::Tag;
 use std::alloc::AllocError;
 
@@ -24,7 +26,8 @@ pub enum Filler {
 }
 
 /// `CHUNK` spaces.
-const SPACES: &str = "                                                                ";
+const SPACES: &str =
+    "                                                                                                                                ";
 
 /// Returns the first `count` characters of a text that consists of `CHUNK` times `character`.
 fn first_of(text: &'static str, character: char, count: usize) -> &'static str
@@ -44,11 +47,12 @@ pub fn few_spaces(count: usize) -> &'static str
 }
 
 /// `CHUNK - 1` spaces and a separator.
-const GAP: &str = "                                                               │";
+const GAP: &str =
+    "                                                                                                                               │";
 
 /// Returns the last `few + 1` characters of a text that consists of `CHUNK - 1` times `character` and `last`.
 fn last_of(text: &'static str, character: char, last: char, few: usize) -> &'static str
-    requires text { text.now ≡ encode_utf8_all (replicate 63 character ++ last ∷ []) }
+    requires text { text.now ≡ encode_utf8_all (replicate 127 character ++ last ∷ []) }
     requires few { few < CHUNK }
     ensures { chars result.now ≡ replicate few character ++ last ∷ [] }
 {
@@ -116,4 +120,29 @@ pub fn push_fillers<T: Tag, M: Copy>(
         left -= next;
     }
     Ok(())
+}
+
+/// Returns a number of columns that is known.
+fn known(columns: usize) -> Option<usize>
+    ensures { result ≡ counted columns }
+{
+    Some(columns)
+}
+
+/// Appends a line of `count` times the character of `filler`, under a tag.
+///
+/// # Errors
+///
+/// `AllocError` if an allocation is refused. Lines may be lost.
+#[tactic(auto, using(crate::specs::laws::Fillers::fillers_width, crate::specs::laws::Fillers::fillers_under))]
+pub fn push_filler_line<T: Tag, M: Copy>(
+    to: &mut FinishedLines<T, M>,
+    filler: Filler,
+    count: usize,
+    tag: T,
+) -> Result<(), AllocError>
+    requires { count ≤ CHUNK }
+    ensures { OnOk result (to.new ≡ to.old ++ repeated tag (character_of filler) count ∷ []) }
+{
+    to.push_text_line(few(filler, count), known(count), tag)
 }

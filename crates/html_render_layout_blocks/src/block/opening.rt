@@ -16,7 +16,7 @@ use super::Block;
 use super::rows::Widths;
 use html_render_dom_values::Error;
 use html_render_layout_lines::tag::Tag;
-use html_render_layout_pictures::gaps::{Filler, push_fillers};
+use html_render_layout_pictures::gaps::{CHUNK, Filler, push_filler_line, push_fillers};
 use html_render_layout_pictures::picture::Frame;
 use html_render_parts::table::cells::{RowsAhead, TableCells};
 use html_render_parts_widths::ColumnNeed;
@@ -80,9 +80,13 @@ impl<T: Tag, M: Copy> Block<T, M> {
             return Ok(());
         };
         let marks = self.take_waiting();
+        let width = self.setting.width;
+        if marks.is_empty() && width <= CHUNK {
+            return push_filler_line(&mut self.lines, filler, width, tag);
+        }
         let mut last = self.lines.take_last();
         last.push_marks(marks.as_slice())?;
-        push_fillers(&mut last, filler, self.setting.width, tag)?;
+        push_fillers(&mut last, filler, width, tag)?;
         last.end_line()?;
         self.lines.append_buffer(&mut last)
     }

@@ -1,4 +1,4 @@
--- Characters that stand many times in a row: what is spelt by texts of them, and how many columns they take.
+-- Texts that repeat one character: their bytes and their columns.
 use Rattle.std.proofs.Common.{◌≡◌, ℕ, Bool, cond, suc, zero, ◌+◌, ◌-◌, ◌*◌, ◌<◌, ◌≤◌, true, false, List, ◌&&◌}
 use Rattle.std.proofs.Common.{[], ◌∷◌, ◌++◌, take, drop, length, replicate, refl, sym, ap, ◌∙◌, subst, arith, append_assoc, length-append}
 use Rattle.std.proofs.Math.Utf8.{encode, encodes, scalar, scalars}
@@ -62,13 +62,13 @@ module _ (c count all bytes : ℕ) (text : List ℕ) (s : scalar c ≡ true) (is
 pub chars-spaces : (count : ℕ) → chars (replicate count 0x20) ≡ replicate count 0x20
 chars-spaces count = chars-IsAscii (replicate count 0x20) (IsAscii-from_all (replicate count 0x20) (All-replicate (λ b. b < 128) count 0x20 (omega arith)))
 
--- ---- a character many times, and another one behind it
+-- ---- a repeated character, and another one after it
 
 -- the last characters of such a text, in UTF-8
-module _ (c end few bytes : ℕ) (text : List ℕ) (s : scalar c ≡ true) (e : scalar end ≡ true) (is : text ≡ encodes (replicate 63 c ++ end ∷ []))
-    (each : bytes ≡ len_utf8 c) (h : few < 64) where
+module _ (c end few bytes : ℕ) (text : List ℕ) (s : scalar c ≡ true) (e : scalar end ≡ true) (is : text ≡ encodes (replicate 127 c ++ end ∷ []))
+    (each : bytes ≡ len_utf8 c) (h : few < 128) where
   abbrev before : List ℕ
-  before = replicate (63 - few) c
+  before = replicate (127 - few) c
 
   abbrev last : List ℕ
   last = replicate few c ++ end ∷ []
@@ -79,23 +79,23 @@ module _ (c end few bytes : ℕ) (text : List ℕ) (s : scalar c ≡ true) (e : 
 
   last-parted : text ≡ encodes before ++ encodes last
   last-parted =
-      let whole : 63 ≡ (63 - few) + few = omega (arith, h) in
+      let whole : 127 ≡ (127 - few) + few = omega (arith, h) in
       is ∙ ap (λ n. encodes (replicate n c ++ end ∷ [])) whole
-      ∙ ap (λ l. encodes (l ++ end ∷ [])) (sym (replicate-append-replicate (63 - few) few c))
+      ∙ ap (λ l. encodes (l ++ end ∷ [])) (sym (replicate-append-replicate (127 - few) few c))
       ∙ ap encodes (append_assoc before (replicate few c) (end ∷ []))
       ∙ encodes-append before last
 
-  before-length : length (encodes before) ≡ (63 - few) * bytes
-  before-length = encodes-length c (63 - few) ∙ ap (λ n. (63 - few) * n) (sym each)
+  before-length : length (encodes before) ≡ (127 - few) * bytes
+  before-length = encodes-length c (127 - few) ∙ ap (λ n. (127 - few) * n) (sym each)
 
-  pub last_boundary : IsCharBoundary text ((63 - few) * bytes)
+  pub last_boundary : IsCharBoundary text ((127 - few) * bytes)
   last_boundary = subst (IsCharBoundary text) before-length
       (IsCharBoundary-at_seam text (encodes before) (encodes last) last-parted (last, (last-scalars few, refl)))
 
-  pub last_chars : chars (drop ((63 - few) * bytes) text) ≡ last
+  pub last_chars : chars (drop ((127 - few) * bytes) text) ≡ last
   last_chars =
-      ap (λ bs. chars (drop ((63 - few) * bytes) bs)) last-parted
-      ∙ ap chars (drop_at (encodes before) (encodes last) ((63 - few) * bytes) before-length)
+      ap (λ bs. chars (drop ((127 - few) * bytes) bs)) last-parted
+      ∙ ap chars (drop_at (encodes before) (encodes last) ((127 - few) * bytes) before-length)
       ∙ chars-encodes last (last-scalars few)
 
 -- ---- on a line
@@ -113,6 +113,10 @@ fillers_width filler count =
 pub under-replicate : {T : Type 0} (M : Type 0) (tag : T) (c count : ℕ) → under {M = M} tag (replicate count c) ≡ repeated tag c count
 under-replicate M tag c zero = refl
 under-replicate M tag c (suc count) = ap (λ l. Character c tag ∷ l) (under-replicate M tag c count)
+
+pub fillers_under : {T : Type 0} (M : Type 0) (filler : Filler) (tag : T) (count : ℕ) →
+    under {M = M} tag (replicate count (character_of filler)) ≡ repeated tag (character_of filler) count
+fillers_under M filler tag count = under-replicate M tag (character_of filler) count
 
 -- some of them, and the ones that are left, are all of them
 pub fillers_parted : {T M : Type 0} (filler : Filler) (tag : T) (line : Line T M) (next left : ℕ) → next ≤ left →
@@ -153,7 +157,7 @@ under-push : {T : Type 0} (M : Type 0) (tag : T) (b count c : ℕ) →
 under-push M tag b zero c = refl
 under-push M tag b (suc count) c = ap (λ l. Character b tag ∷ l) (under-push M tag b count c)
 
--- a character many times, and the last of them with another one behind them
+-- a repeated character, and the last of them with another one after them
 last_put : {T M : Type 0} (tag : T) (line : Line T M) (b count few c : ℕ) → few ≤ count →
     (line ++ repeated tag b (count - few)) ++ under tag (replicate few b ++ c ∷ []) ≡ (line ++ repeated tag b count) ++ Character c tag ∷ []
 last_put {T} {M} tag line b count few c h =

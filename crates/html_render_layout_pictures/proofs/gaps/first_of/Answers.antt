@@ -5,9 +5,9 @@ use Rattle.html_render_layout_pictures.proofs.gaps.first_of.Goals as goal
 
 pub range-requires-clause-end_boundary : goal.range-requires-clause-end_boundary
 range-requires-clause-end_boundary c =
-    first_boundary c.args.character c.args.count 64 c.len_utf8.result c.args.text.now c.ranges.character.0 c.requires.text c.len_utf8.ensures.value
+    first_boundary c.args.character c.args.count 128 c.len_utf8.result c.args.text.now c.ranges.character.0 c.requires.text c.len_utf8.ensures.value
     c.requires.few
 
 pub returns : goal.returns
-returns c = ap chars c.range.ensures.value ∙ first_chars c.args.character c.args.count 64 c.len_utf8.result c.args.text.now
+returns c = ap chars c.range.ensures.value ∙ first_chars c.args.character c.args.count 128 c.len_utf8.result c.args.text.now
     c.ranges.character.0 c.requires.text c.len_utf8.ensures.value c.requires.few
