@@ -1,6 +1,6 @@
 //! Which render node a node of a document becomes.
 
-ghost use Rattle.std.specs.Prelude.{◌≡◌, ◌&&◌, ◌||◌, IfOk, codes, if◌then◌else◌, map};
+ghost use Rattle.std.specs.Prelude.{◌≡◌, ◌&&◌, ◌||◌, false, IfOk, codes, if◌then◌else◌, map};
 ghost use Rattle.std.specs.Str.{bytes_eq};
 ghost use Rattle.html_render_dom_values.specs.Outcome.{OnlyOutOfMemory};
 ghost use Rattle.html_render_dom_nodes.specs.Content.{name_of, property_of, space_of, is_html};
@@ -18,6 +18,7 @@ use crate::tables::Part;
 use html_render_dom::Error;
 use html_render_dom::dom::{Attribute, Handle, Namespace, QualName, RcDom};
 use html_render_dom::style::{ComputedStyle, Specificity, StyleOrigin, WhiteSpace};
+use html_render_dom_nodes::is_same_name;
 use html_render_layout_nodes::text::NodeText;
 use html_render_layout_nodes::tree::{Emphasis, Image, NodeKind, NodeStyle};
 use std::alloc::Global;
@@ -73,7 +74,7 @@ fn table_part(part: Part, if_empty: IfEmpty) -> Mapping
 }
 
 /// Reports whether a name is `other`. Lengths are compared first, in place: a `match` would call a comparison of texts for each
-/// name that it lists. First letters aren't: this function would then be too large to be part of its callers.
+/// name that it lists.
 #[inline(always)]
 fn is(name: &str, other: &str) -> bool
     ensures { result ≡ bytes_eq name.now other.now }
@@ -81,56 +82,75 @@ fn is(name: &str, other: &str) -> bool
     name.len() == other.len() && name == other
 }
 
-/// Returns the mapping of an element of HTML whose node holds no text, by its local name and its attributes. Cells and rows, of
-/// which there are most in a long table, are looked for first.
+/// Returns the mapping of an element of HTML whose node holds no text, by its local name and its attributes. Cells, rows and
+/// `div`, of which large documents have most, are mapped in place.
 #[inline(always)]
 pub(crate) fn html_mapping(name: &str, attributes: &[Attribute]) -> Mapping
     ensures { result ≡ html_mapping name.now (map property_of attributes.now) }
 {
+    if is(name, "td") || is(name, "th") {
+        return table_part(Part::Cell(span_of(attributes)), IfEmpty::Stands);
+    }
+    if is(name, "tr") {
+        return table_part(Part::Row, IfEmpty::Stands);
+    }
+    if is(name, "div") {
+        return vanishing(NodeKind::Div);
+    }
+    other_mapping(name, attributes)
+}
+
+/// Returns the mapping of an element of HTML that is no cell, row or `div` and whose node holds no text, by its local name and
+/// its attributes.
+#[inline(never)]
+fn other_mapping(name: &str, attributes: &[Attribute]) -> Mapping
+    requires cell { bytes_eq name.now (codes "td") ≡ false }
+    requires header { bytes_eq name.now (codes "th") ≡ false }
+    requires row { bytes_eq name.now (codes "tr") ≡ false }
+    requires div { bytes_eq name.now (codes "div") ≡ false }
+    ensures { result ≡ html_mapping name.now (map property_of attributes.now) }
+{
     match name {
-        _ if is(name, "td") || is(name, "th") => table_part(
-            Part::Cell(span_of(attributes)),
-            IfEmpty::Stands,
-        ),
-        _ if is(name, "tr") => table_part(Part::Row, IfEmpty::Stands),
-        _ if is(name, "div") => vanishing(NodeKind::Div),
-        _ if is(name, "p") => vanishing(NodeKind::Block),
-        _ if is(name, "pre") => standing(NodeKind::Block),
-        _ if is(name, "li") => standing(NodeKind::ListItem),
-        _ if is(name, "em") || is(name, "i") || is(name, "ins") => standing(NodeKind::Emphasis(
-            Emphasis::Em,
+        _ if is_same_name(name, "p") => vanishing(NodeKind::Block),
+        _ if is_same_name(name, "pre") => standing(NodeKind::Block),
+        _ if is_same_name(name, "li") => standing(NodeKind::ListItem),
+        _ if is_same_name(name, "em") || is_same_name(name, "i") || is_same_name(name, "ins") =>
+            standing(NodeKind::Emphasis(Emphasis::Em)),
+        _ if is_same_name(name, "strong") || is_same_name(name, "b") => standing(NodeKind::Emphasis(
+            Emphasis::Strong,
         )),
-        _ if is(name, "strong") || is(name, "b") => standing(NodeKind::Emphasis(Emphasis::Strong)),
-        _ if is(name, "code") => standing(NodeKind::Emphasis(Emphasis::Code)),
-        _ if is(name, "br") => Mapping::Leaf(NodeKind::Break),
-        _ if is(name, "ul") => vanishing(NodeKind::Ul),
-        _ if is(name, "ol") => vanishing(NodeKind::Ol(start_of(attributes))),
-        _ if is(name, "h1") => standing(NodeKind::Header(1)),
-        _ if is(name, "h2") => standing(NodeKind::Header(2)),
-        _ if is(name, "h3") => standing(NodeKind::Header(3)),
-        _ if is(name, "h4") => standing(NodeKind::Header(4)),
-        _ if is(name, "h5") => standing(NodeKind::Header(5)),
-        _ if is(name, "h6") => standing(NodeKind::Header(6)),
-        _ if is(name, "blockquote") => vanishing(NodeKind::BlockQuote),
-        _ if is(name, "s") || is(name, "del") => standing(NodeKind::Strikeout),
-        _ if is(name, "sup") => standing(NodeKind::Superscript),
-        _ if is(name, "dl") => vanishing(NodeKind::Dl),
-        _ if is(name, "dt") => standing(NodeKind::Dt),
-        _ if is(name, "dd") => standing(NodeKind::Dd),
-        _ if is(name, "table") => table_part(Part::Table, IfEmpty::Vanishes),
-        _ if is(name, "thead") || is(name, "tbody") || is(name, "tfoot") => table_part(
-            Part::Body,
-            IfEmpty::Vanishes,
-        ),
-        _ if is(name, "caption") => table_part(Part::Caption, IfEmpty::Vanishes),
-        _ if is(name, "html") || is(name, "body") => standing(NodeKind::Container),
+        _ if is_same_name(name, "code") => standing(NodeKind::Emphasis(Emphasis::Code)),
+        _ if is_same_name(name, "br") => Mapping::Leaf(NodeKind::Break),
+        _ if is_same_name(name, "ul") => vanishing(NodeKind::Ul),
+        _ if is_same_name(name, "ol") => vanishing(NodeKind::Ol(start_of(attributes))),
+        _ if is_same_name(name, "h1") => standing(NodeKind::Header(1)),
+        _ if is_same_name(name, "h2") => standing(NodeKind::Header(2)),
+        _ if is_same_name(name, "h3") => standing(NodeKind::Header(3)),
+        _ if is_same_name(name, "h4") => standing(NodeKind::Header(4)),
+        _ if is_same_name(name, "h5") => standing(NodeKind::Header(5)),
+        _ if is_same_name(name, "h6") => standing(NodeKind::Header(6)),
+        _ if is_same_name(name, "blockquote") => vanishing(NodeKind::BlockQuote),
+        _ if is_same_name(name, "s") || is_same_name(name, "del") => standing(NodeKind::Strikeout),
+        _ if is_same_name(name, "sup") => standing(NodeKind::Superscript),
+        _ if is_same_name(name, "dl") => vanishing(NodeKind::Dl),
+        _ if is_same_name(name, "dt") => standing(NodeKind::Dt),
+        _ if is_same_name(name, "dd") => standing(NodeKind::Dd),
+        _ if is_same_name(name, "table") => table_part(Part::Table, IfEmpty::Vanishes),
         _
-            if is(name, "head")
-                || is(name, "link")
-                || is(name, "meta")
-                || is(name, "hr")
-                || is(name, "script")
-                || is(name, "style") => Mapping::Nothing,
+            if is_same_name(name, "thead")
+                || is_same_name(name, "tbody")
+                || is_same_name(name, "tfoot") => table_part(Part::Body, IfEmpty::Vanishes),
+        _ if is_same_name(name, "caption") => table_part(Part::Caption, IfEmpty::Vanishes),
+        _ if is_same_name(name, "html") || is_same_name(name, "body") => standing(
+            NodeKind::Container,
+        ),
+        _
+            if is_same_name(name, "head")
+                || is_same_name(name, "link")
+                || is_same_name(name, "meta")
+                || is_same_name(name, "hr")
+                || is_same_name(name, "script")
+                || is_same_name(name, "style") => Mapping::Nothing,
         _ => vanishing(NodeKind::Container),
     }
 }
