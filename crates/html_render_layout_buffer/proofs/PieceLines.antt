@@ -1,4 +1,4 @@
--- Lines in pieces: how wide they are, and what stands at their ends.
+-- Lines in pieces: how wide they are, and their first and last elements.
 use Rattle.std.proofs.Common.{◌≡◌, ℕ, zero, suc, ◌+◌, ◌-◌, ◌<◌, ◌≤◌, Bool, true, false, ◌&&◌, nat_le, List, [], ◌∷◌, ◌++◌, Some, map, take, drop, length, get_or, reverse, refl, sym, ap, ◌∙◌, subst, arith, append_assoc, append-nil, length-append}
 use Rattle.std.specs.List.{list_all}
 use Rattle.std.proofs.Math.Bool.{and-false}
@@ -20,7 +20,7 @@ use Rattle.html_render_layout_buffer.proofs.Growing.{part-more}
 
 -- ---- lists that are turned
 
--- the last part of a list comes to its front
+-- the last part of a list is moved to its front
 pub turned : {X : Type 0} (xs ys zs : List X) (k : ℕ) → zs ≡ xs ++ ys → k ≡ length ys → drop (length zs - k) zs ++ take (length zs - k) zs ≡ ys ++ xs
 turned xs ys zs k e h =
     let here : length zs - k ≡ length xs = omega (arith, h, ap length e, length-append xs ys) in
@@ -339,7 +339,7 @@ module _ {T M : Type 0} where
       assoc true y z = refl
       assoc false y z = refl
 
-  -- the first line of a piece behind its front, and the others
+  -- the first line of a piece after its front, and the others
   pub piece-fits : (f : Line T M) (a b w : ℕ) (ls : List (Line T M)) → 0 < length ls →
       fits_after a b w (with_front f ls) ≡ (nat_le ((a + columns f) + columns (get_or ls 0 [])) w && list_all (fits b w) (drop 1 ls))
   piece-fits f a b w [] h = absurd (omega (arith, h))
@@ -379,7 +379,7 @@ module _ {T M : Type 0} where
       let l : n < length qs = omega (arith, k) in
       one-fails f qs p n l e failing
 
-  -- ---- lines behind a prefix
+  -- ---- lines after a prefix
 
   pub prefixed-same : (l : Line T M) (xs : List (Line T M)) → prefixed l l xs ≡ map (λ (k : Line T M). l ++ k) xs
   prefixed-same l [] = refl
@@ -390,13 +390,13 @@ module _ {T M : Type 0} where
   prefixed-parts f l (x ∷ xs) ys h =
       ap (λ r. (f ++ x) ∷ r) (map-append (λ (k : Line T M). l ++ k) xs ys ∙ ap (λ r. map (λ (k : Line T M). l ++ k) xs ++ r) (sym (prefixed-same l ys)))
 
-  -- the lines of a first piece are moved behind prefixes, and then the others
+  -- the lines of a first piece are moved after prefixes, and then the others
   pub moved-behind : (f l : Line T M) (a b c piece others whole : List (Line T M)) → 0 < length piece → whole ≡ piece ++ others →
       b ≡ a ++ prefixed f l piece → c ≡ b ++ prefixed l l others → c ≡ a ++ prefixed f l whole
   moved-behind f l a b c piece others whole h e g k =
       rw (k, g, e, prefixed-parts f l piece others h) (append_assoc a (prefixed f l piece) (prefixed l l others))
 
-  -- the lines of a piece are moved behind a prefix, and others are left
+  -- the lines of a piece are moved after a prefix, and others are left
   pub moved-next : (l : Line T M) (a b piece w : List (Line T M)) (ps rest : List (List (Line T M))) → 0 < length piece → b ≡ a ++ prefixed l l piece →
       ps ≡ piece ∷ rest → a ++ prefixed l l (lines_of ps) ≡ w → b ++ prefixed l l (lines_of rest) ≡ w
   moved-next l a b piece w ps rest some e h g =
@@ -414,7 +414,7 @@ module _ {T M : Type 0} where
   only-last xs [] l e h = ap (λ zs. get_or zs 0 []) h
   only-last xs (y ∷ ys) l e h = absurd (omega (arith, e, ap length h, length-append ys (l ∷ [])))
 
-  -- an only line, filled behind its front
+  -- an only line, filled after its front
   pub only-filled : (f : Line T M) (tag : T) (w n : ℕ) (xs ys : List (Line T M)) (l : Line T M) → length xs ≡ 1 → xs ≡ ys ++ l ∷ [] →
       n ≡ w - columns (f ++ l) → with_front f (ys ++ (l ++ repeated tag 32 n) ∷ []) ≡ filled (Some tag) w (with_front f xs)
   only-filled f tag w n xs [] l e h k = rw (h, k) (ap (λ y. y ∷ []) (sym (append_assoc f l (repeated tag 32 (w - columns (f ++ l))))))

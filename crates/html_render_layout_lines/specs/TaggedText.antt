@@ -1,4 +1,4 @@
--- A text in UTF-8 under runs of tags, and the line that it stands for.
+-- A text in UTF-8 under runs of tags, and its line.
 use Rattle.std.specs.Prelude.{◌≡◌, ℕ, zero, suc, ◌≤◌, ◌<◌, ◌^◌, nat_lt, Bool, List, [], ◌∷◌, ◌++◌, Option, Some, None, map, sum_by}
 use Rattle.std.specs.Prelude.{take, drop, length, if◌then◌else◌}
 use Rattle.std.specs.Str.{chars, IsUtf8}
@@ -35,11 +35,11 @@ abbrev pub open_elements : {T M : Type 0} → Option T → List ℕ → Line T M
 open_elements None bs = []
 open_elements (Some tag) bs = under tag (chars bs)
 
--- closed runs take the text up to a place, and the open run takes what is behind it
+-- closed runs take the text up to a place, and the open run takes the rest
 abbrev pub all_elements : {T M : Type 0} → List (Run T M) → Option T → ℕ → List ℕ → Line T M
 all_elements rs tag start bs = elements_of rs (take start bs) ++ open_elements tag (drop start bs)
 
--- no text stands behind the closed runs where no run is open
+-- no text follows the closed runs where no run is open
 abbrev pub HasTag : {T : Type 0} → Option T → List ℕ → Type 0
 HasTag None bs = bs ≡ []
 HasTag (Some tag) bs = Unit {0}

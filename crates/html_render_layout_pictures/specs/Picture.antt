@@ -1,4 +1,4 @@
--- The picture of a table whose cells stand side by side: the lines of its rows, and the borders above, between and below them.
+-- The picture of a table whose cells are side by side: the lines of its rows, and the borders above, between and below them.
 use Rattle.std.specs.Prelude.{ℕ, ◌-◌, ◌++◌, Bool, true, false, not, ◌&&◌, ◌||◌, ◌==◌, List, [], ◌∷◌, length, map, max, fold, get_or}
 use Rattle.std.specs.Prelude.{flat_map, replicate, Some, if◌then◌else◌}
 use Rattle.std.specs.List.{range_with_len, list_any}
@@ -10,7 +10,7 @@ use Rattle.html_render_layout_buffer.specs.Marked.{marked_before, marked_behind}
 use Rattle.html_render_layout_buffer.specs.Padding.{filled}
 use Rattle.html_render_layout_pictures.specs.declared.picture.Frame.{Frame}
 
--- a cell that is kept: its columns, its lines, and the marks that wait behind them
+-- a cell that is kept: its columns, its lines, and the marks that wait after them
 pub record KeptCell (T M : Type 0) : Type 0 where
   pub width : ℕ
   pub lines : List (Line T M)
@@ -31,13 +31,13 @@ is_drawn {T} {M} row = list_any (λ (c : KeptCell T M). not (is_empty c.lines)) 
 abbrev pub waiting_in : {T M : Type 0} → List (KeptCell T M) → List M
 waiting_in {T} {M} cells = flat_map (λ (c : KeptCell T M). if is_empty c.lines then c.marks else []) cells
 
--- the marks that still wait behind the last drawn row
+-- the marks that still wait after the last drawn row
 abbrev pub left_waiting : {T M : Type 0} → (waiting : List M) → List (TableRow T M) → List M
 left_waiting {T} {M} waiting rows = fold (λ ms (r : TableRow T M). if is_drawn r then [] else ms ++ waiting_in r.cells) waiting rows
 
--- ---- where the separators of a row stand
+-- ---- separators of a row
 
--- for each column of a row whether a separator stands there: one does between two cells
+-- for each column of a row whether it has a separator: there is one between two cells
 abbrev pub separators_of : {T M : Type 0} → List (KeptCell T M) → List Bool
 separators_of [] = []
 separators_of {T} {M} (c ∷ cs) = replicate c.width false ++ flat_map (λ (d : KeptCell T M). true ∷ replicate d.width false) cs
@@ -47,7 +47,7 @@ abbrev pub next_separators : {T M : Type 0} → List (TableRow T M) → List Boo
 next_separators [] = []
 next_separators (r ∷ rs) = if is_drawn r then separators_of r.cells else next_separators rs
 
--- what a border has at a column, by whether the row above and the row below have a separator there
+-- the character of a border at a column, by whether the row above and the row below have a separator there
 abbrev pub joint : (above below : Bool) → ℕ
 joint true true = BORDERS.cross
 joint true false = BORDERS.above
@@ -65,7 +65,7 @@ abbrev pub has_top : {T : Type 0} → Frame T → Bool
 has_top frame = frame.borders && not (frame.width == 0)
 
 module _ {T M : Type 0} (frame : Frame T) where
-  -- what stands between cells
+  -- the separator between two cells
   abbrev pub separator : Element T M
   separator = Character (if frame.borders then BORDERS.separator else 0x20) frame.tag
 
@@ -88,7 +88,7 @@ module _ {T M : Type 0} (frame : Frame T) where
   row_lines [] = []
   row_lines (c ∷ cs) = fold beside (cell_lines (height (c ∷ cs)) c) (map (cell_lines (height (c ∷ cs))) cs)
 
-  -- the rows: one that is drawn stands behind the marks that wait, with the border below it; those of another wait for the next
+  -- the rows: the waiting marks precede one that is drawn, and the border below follows it; those of another wait for the next
   abbrev pub rows_lines : (waiting : List M) → List (TableRow T M) → List (Line T M)
   rows_lines waiting [] = []
   rows_lines waiting (r ∷ rs) =
@@ -102,6 +102,6 @@ module _ {T M : Type 0} (frame : Frame T) where
       if has_top frame then marked_before waiting (border (replicate frame.width false) (next_separators rows) ∷ rows_lines [] rows)
       else rows_lines waiting rows
 
-  -- THE PICTURE of rows behind marks that wait: its lines, and the marks that wait behind them
+  -- THE PICTURE of rows after waiting marks: its lines, and the marks that still wait after them
   abbrev pub picture : (waiting : List M) → List (TableRow T M) → List (Line T M) × List M
   picture waiting rows = (picture_lines waiting rows, left_waiting (if has_top frame then [] else waiting) rows)

@@ -44,7 +44,7 @@ fn tags_pass_through<T, U, M>()
         picture (frame_with f frame) waiting (map (row_with f) rows) ≡ drawn_with f (picture frame waiting rows) }
 {}
 
-/// Each visible character of the cells' lines stands in the picture's lines at least as often.
+/// Each visible character of the cells' lines is in the picture's lines at least as often.
 fn no_visible_character_is_lost<T, M>()
     ensures { (c : ℕ) (frame : Frame T) (waiting : List M) (rows : List (TableRow T M)) →
         count c (visible_in_rows rows) ≤ count c (visible_in_lines (picture_lines frame waiting rows)) }

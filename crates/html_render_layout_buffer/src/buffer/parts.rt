@@ -13,7 +13,7 @@ use html_render_layout_lines::character::split_first_character;
 use html_render_layout_lines::tag::Tag;
 use std::marker::Model;
 
-/// What stands next on a line.
+/// The next part of a line.
 #[derive(Drop)]
 pub enum LinePart<'a, T, M> {
     /// Characters under one tag, at least one.

@@ -1,4 +1,4 @@
-//! Finished lines behind prefixes.
+//! Finished lines after prefixes.
 
 ghost use Rattle.std.specs.Prelude.{◌≡◌, ◌<◌, ◌++◌, [], ◌∷◌, length, OnOk};
 ghost use Rattle.std.specs.List.{slice_index_or};

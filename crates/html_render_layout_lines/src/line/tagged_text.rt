@@ -15,10 +15,10 @@ use html_render_dom_values::small_text::SmallText;
 use std::alloc::{AllocError, Global};
 use std::marker::Model;
 
-/// So many bytes of a text stand in the value itself.
+/// Maximum length in bytes of a text that is stored in the value itself.
 const SHORT: usize = 30;
 
-/// What stands next in a text.
+/// The next part of a text.
 #[derive(Clone, Copy)]
 pub enum Run<T, M> {
     /// A number of bytes of the text under one tag.
@@ -140,7 +140,7 @@ impl<T: Tag, M: Copy> TaggedText<T, M> {
         Ok(())
     }
 
-    /// Puts a mark behind the closed runs.
+    /// Appends a mark to the closed runs.
     fn push_mark_here(&mut self, mark: M) -> Result<(), AllocError>
         requires { self.old.tag ≡ None }
         ensures ok { OnOk result (self.new ≡ record { elements = self.old.elements ++ Element.Mark mark ∷ []; tag = None }) }
