@@ -82,8 +82,19 @@ fn place_next_own(
     Ok(true)
 }
 
-/// Appends the own cells of the last row; none if that isn't placed.
+/// Returns the number of cells of all rows, at most `usize::MAX`.
+fn cell_count(rows: &[Vec<Span>]) -> usize {
+    let mut count: usize = 0;
+    for cells in rows {
+        count = count.saturating_add(cells.len());
+    }
+    count
+}
+
+/// Appends the own cells of the last row; none if that isn't placed. Reserves memory for `cells` cells, those of all rows, before
+/// the first row that is placed.
 fn push_own(
+    cells: usize,
     placer: &RowPlacer,
     is_placed: bool,
     own: &mut RowList<PositionedCell>,
@@ -91,6 +102,7 @@ fn push_own(
     ensures { OnOk result (own.new ≡ own.old ++ own_placed is_placed placer.now.own ∷ []) }
 {
     if is_placed {
+        own.reserve_first(cells)?;
         own.push(placer.own())
     } else {
         own.push(&[])
@@ -108,10 +120,11 @@ fn place_cells(alloc: Global, rows: &[Vec<Span>]) -> Result<PlacedCells, Error>
     let mut placer = RowPlacer::new(alloc);
     let mut positions = Positions::zero(alloc)?;
     let mut ends = Vec::new(alloc);
-    let mut own = RowList::with_capacity(alloc, rows.len())?;
+    let mut own = RowList::with_capacity(alloc, rows.len(), 0)?;
+    let cell_total = cell_count(rows);
     for (row, cells) in rows.iter().enumerate() {
         let is_placed = place_next_own(row, cells, &mut placer, &mut positions, &mut ends)?;
-        push_own(&placer, is_placed, &mut own)?;
+        push_own(cell_total, &placer, is_placed, &mut own)?;
     }
     'bottom: while placer.place_bottom_row()? {
         positions.add(placer.told())?;
@@ -170,7 +183,7 @@ fn rows_on_columns(
     requires fits { AllStoredFit (lists rows.now) own.now }
     ensures { IfOk result (λ v. v ≡ own_rows_on edges.now (lists rows.now) own.now) }
 {
-    let mut cells = RowList::with_capacity(alloc, rows.len())?;
+    let mut cells = RowList::with_capacity(alloc, rows.len(), cell_count(rows))?;
     let mut placed = Vec::new(alloc);
     for (row, spans) in rows.iter().enumerate() {
         put_row(&mut placed, edges, spans, own.row(row))?;

@@ -35,15 +35,27 @@ impl<T> Model for RowList<T> {
 }
 
 impl<T> RowList<T> {
-    /// Creates a list of no rows, with room for `rows` rows.
-    pub(crate) fn with_capacity(alloc: Global, rows: usize) -> Result<RowList<T>, AllocError>
+    /// Creates a list of no rows, with room for `rows` rows and `items` items in all.
+    pub(crate) fn with_capacity(
+        alloc: Global,
+        rows: usize,
+        items: usize,
+    ) -> Result<RowList<T>, AllocError>
         ensures { IfOk result (λ list. list ≡ []) }
     {
         let ranges = Vec::with_capacity(alloc, rows)?;
-        Ok(RowList {
-            items: Vec::new(alloc),
-            ranges,
-        })
+        let items = Vec::with_capacity(alloc, items)?;
+        Ok(RowList { items, ranges })
+    }
+
+    /// Reserves memory for `items` items, if there is none yet.
+    pub(crate) fn reserve_first(&mut self, items: usize) -> Result<(), AllocError>
+        ensures { self.new ≡ self.old }
+    {
+        if self.items.capacity() == 0 {
+            self.items.reserve_exact(items)?;
+        }
+        Ok(())
     }
 
     /// Returns the number of rows.
