@@ -9,7 +9,8 @@ use Rattle.std.proofs.lemmas.Bool.Decides.{nat_tests}
 use Rattle.std.specs.List.Sorted.{IsPermutation}
 use Rattle.std.specs.Ordering.{nat_cmp, ordering_then, is_lt}
 use Rattle.std.specs.Prelude.{false}
-use Rattle.html_render_parts_widths.specs.Cuts.{capped_sum, ranges, full_width, slack}
+use Rattle.html_render_parts_widths.specs.Cuts.{slack}
+use Rattle.html_render_parts_widths.specs.LevelForm.{capped_sum, ranges, full_width}
 use Rattle.html_render_parts_widths.specs.CutSteps.{AreAtLevel, AreInOrder, AreLowered, LoweredBefore}
 use Rattle.html_render_parts_widths.specs.declared.lowering.AtLevel.{AtLevel}
 use Rattle.html_render_parts_widths.specs.laws.Cuts.{length-ranges, ranges-at}

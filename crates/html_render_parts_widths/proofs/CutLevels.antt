@@ -4,7 +4,8 @@ use Rattle.std.proofs.Math.Nat.{pow-suc, mul-le-mul_right}
 use Rattle.std.proofs.Math.Pow.{pow_mono}
 use Rattle.std.proofs.lemmas.Bool.{cases_lt}
 use Rattle.std.proofs.lemmas.List.Sums.{sum_by-cons}
-use Rattle.html_render_parts_widths.specs.Cuts.{capped_sum, ranges, largest_slack, IsLevel}
+use Rattle.html_render_parts_widths.specs.Cuts.{largest_slack}
+use Rattle.html_render_parts_widths.specs.LevelForm.{capped_sum, ranges, IsLevel}
 
 pub capped_sum-cons : (l x : ℕ) (xs : List ℕ) → capped_sum l (x ∷ xs) ≡ min x l + capped_sum l xs
 capped_sum-cons l x xs = sum_by-cons (λ s. min s l) x xs

@@ -10,7 +10,8 @@ use Rattle.std.proofs.lemmas.List.Sorted.{IsPermutation-keeps, IsPermutation-swa
 use Rattle.std.proofs.lemmas.List.Sums.{sum_by-set}
 use Rattle.std.proofs.lemmas.List.{get_or-set_same, get_or-set_other, length-set}
 use Rattle.std.proofs.lemmas.Bool.{cases_lt, cases_eq}
-use Rattle.html_render_parts_widths.specs.Cuts.{full_width, slack}
+use Rattle.html_render_parts_widths.specs.Cuts.{slack}
+use Rattle.html_render_parts_widths.specs.LevelForm.{full_width}
 use Rattle.html_render_parts_widths.specs.CutSteps.{LoweredBefore, AreAtLevel, AreInOrder, AreLowered}
 
 -- ---- the list of columns at the level

@@ -1,14 +1,13 @@
 -- The level form is the fairest cut, and it is unique.
-use Rattle.std.proofs.Common.{◌≡◌, ℕ, ◌+◌, ◌-◌, ◌<◌, ◌≤◌, List, [], ◌∷◌, length, min, sum, refl, sym, ◌∙◌, arith, get_or, inl, inr, suc, zero}
+use Rattle.std.proofs.Common.{◌≡◌, ℕ, ◌+◌, ◌<◌, ◌≤◌, List, [], ◌∷◌, length, min, sum, refl, sym, ◌∙◌, arith, get_or, suc}
 use Rattle.std.proofs.lemmas.List.Sums.{sum_by-cons}
-use Rattle.std.proofs.lemmas.Bool.{cases_lt}
-use Rattle.html_render_parts_widths.specs.Cuts.{capped_sum, ranges, full_width, largest_slack, wanted, cut_by_units, CutFits, IsCut, IsFairestCut, IsLevel}
-use Rattle.html_render_parts_widths.specs.Cuts.{IsLevelForm}
+use Rattle.html_render_parts_widths.specs.Cuts.{largest_slack, cut_by_units, CutFits, IsCut, IsFairestCut}
+use Rattle.html_render_parts_widths.specs.LevelForm.{capped_sum, ranges, full_width, wanted, IsLevel, IsLevelForm}
 use Rattle.html_render_parts_widths.specs.laws.Cuts.{length-ranges, ranges-at, sum-ranges, minimums-fit, fairest-only, few-units, neighbours-cut, cut-within}
 use Rattle.html_render_parts_widths.specs.laws.UnitCut.{cut_by_units-fairest}
 use Rattle.html_render_parts_widths.specs.ColumnCuts.{IsColumnCut}
 use Rattle.html_render_parts_widths.specs.CutSteps.{AreLowered}
-use Rattle.html_render_parts_widths.proofs.CutLevels.{sum-below}
+use Rattle.html_render_parts_widths.proofs.CutLevelForm.{sum_at-capped, sum_at-zip, level-reached, level-covers, fairest-form}
 
 -- ---- the level form is a fairest cut
 
@@ -27,34 +26,10 @@ fairest ms ss w ws level lowered fits form = record {
 
 -- ---- no cut has a smaller largest slack
 
-pub slack-le-largest : (ms ws : List ℕ) (k : ℕ) → length ws ≡ length ms → k < length ms → get_or ws k 0 - get_or ms k 0 ≤ largest_slack ms ws
-slack-le-largest [] ws k e h = absurd (omega arith)
-slack-le-largest (m ∷ ms) [] k e h = cc
-slack-le-largest (m ∷ ms) (w ∷ ws) zero e h = let here : get_or (w ∷ ws) 0 0 - get_or (m ∷ ms) 0 0 ≡ w - m = refl in omega arith
-slack-le-largest (m ∷ ms) (w ∷ ws) (suc k) e h = let rest : get_or ws k 0 - get_or ms k 0 ≤ largest_slack ms ws =
-    slack-le-largest ms ws k (omega arith) (omega arith) in omega (arith, rest)
-
-pub largest_slack-le : (ms ws : List ℕ) (n : ℕ) → length ws ≡ length ms → ((k : ℕ) → k < length ms → get_or ws k 0 - get_or ms k 0 ≤ n) →
-    largest_slack ms ws ≤ n
-largest_slack-le [] ws n e h = omega arith
-largest_slack-le (m ∷ ms) [] n e h = cc
-largest_slack-le (m ∷ ms) (w ∷ ws) n e h =
-    let here : w - m ≤ n = h 0 (omega arith) in
-    omega (arith, here, largest_slack-le ms ws n (omega arith) (λ k less. h (suc k) (omega arith)))
-
 pub least-slack : (ms ss : List ℕ) (w : ℕ) (ws : List ℕ) (level lowered : ℕ) → CutFits ms ss w → IsLevelForm ms ss w ws level lowered
     → (vs : List ℕ) → IsCut ms ss w vs → largest_slack ms ws ≤ largest_slack ms vs
 least-slack ms ss w ws level lowered fits form vs cut =
-    largest_slack-le ms ws (largest_slack ms vs) form.lengths (λ k inside.
-    elim (cases_lt (largest_slack ms vs) level) [
-      | inl less ↦ absurd (
-          let below = sum-below ms (ranges ms ss) vs (largest_slack ms vs) cut.lengths (length-ranges ms ss fits.lengths)
-          (λ j in_j. let a = ranges-at ms ss j fits.lengths in_j in let b = cut.upper j in_j in let c =
-          slack-le-largest ms vs j cut.lengths in_j in let d = fits.each j in_j in omega arith) in
-          let short = form.is_level.least (largest_slack ms vs) less in
-          omega (arith, below, short, cut.total (omega arith), minimums-fit ms ss w fits))
-      | inr le ↦ elim (form.each k inside) [ inl f ↦ omega arith | inr f ↦ omega arith ]
-    ])
+    omega (arith, level-covers ms ss w ws level lowered fits form, level-reached ms ss w ws level lowered fits form vs cut)
 
 pub wanted-le : (ms ss : List ℕ) (w : ℕ) → CutFits ms ss w → wanted ms ss w ≤ sum (ranges ms ss)
 wanted-le ms ss w h = let e = sum-ranges ms ss h.lengths h.each in omega arith
@@ -108,13 +83,18 @@ pub column-cut : (ms ss : List ℕ) (w : ℕ) (ws : List ℕ) (level lowered : �
 column-cut ms ss w ws level lowered fits form =
     let best = fairest ms ss w ws level lowered fits form in
     record {
-      form = form;
-      only_form = λ others l d h. form-only ms ss w others ws l level d lowered fits h form;
       fairest = best;
       only_fairest = λ other h. fairest-only ms ss w other ws h best;
       by_units = sym (fairest-only ms ss w (cut_by_units ms ss w) ws (cut_by_units-fairest ms ss w fits) best);
+      at_level = omega (arith, level-covers ms ss w ws level lowered fits form, level-reached ms ss w ws level lowered fits form ws best.is_cut);
+      lack = form.count ∙ sym (sum_at-zip level ms ss ∙ sum_at-capped ms ss level fits.lengths fits.each);
       within = cut-within ms ss w ws fits best.is_cut;
       least_slack = λ other h. least-slack ms ss w ws level lowered fits form other h;
       units_taken = λ few. few-units ms ss w ws fits best.is_cut few;
       neighbours = neighbours-cut ms ss w ws best.is_cut;
     }
+
+pub cut-form : (ms ss : List ℕ) (w : ℕ) (ws : List ℕ) (level lowered : ℕ) → CutFits ms ss w → IsColumnCut ms ss w ws level lowered →
+    IsLevelForm ms ss w ws level lowered
+cut-form ms ss w ws level lowered fits cut =
+    rw cut.at_level (fairest-form ms ss w ws fits cut.fairest lowered ((rw cut.at_level at cut.lack) ∙ sum_at-zip (largest_slack ms ws) ms ss))

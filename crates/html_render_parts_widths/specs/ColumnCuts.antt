@@ -1,19 +1,19 @@
 -- The promises of a column cut's result.
-use Rattle.std.specs.Prelude.{◌≡◌, ℕ, ◌+◌, ◌-◌, ◌/◌, ◌<◌, ◌≤◌, List, length, sum, slice_index, slice_range}
-use Rattle.html_render_parts_widths.specs.Cuts.{largest_slack, cut_by_units, IsCut, IsFairestCut, IsLevelForm}
+use Rattle.std.specs.Prelude.{◌≡◌, ℕ, ◌+◌, ◌-◌, ◌/◌, ◌<◌, ◌≤◌, List, length, min, sum, sum_by, zip, slice_index, slice_range}
+use Rattle.html_render_parts_widths.specs.Cuts.{largest_slack, cut_by_units, IsCut, IsFairestCut}
 
 -- whether widths, level and number of lowered columns are those of the cut of columns
 pub record IsColumnCut (minimums shares : List ℕ) (width : ℕ) (widths : List ℕ) (level lowered : ℕ) : Type 0 where
-  -- widths, level and number are the level form
-  pub form : IsLevelForm minimums shares width widths level lowered
-  -- the level form is unique
-  pub only_form : (others : List ℕ) (l d : ℕ) → IsLevelForm minimums shares width others l d → (others ≡ widths) × (l ≡ level) × (d ≡ lowered)
   -- the widths are a fairest cut
   pub fairest : IsFairestCut minimums shares width widths
   -- the fairest cut is unique
   pub only_fairest : (other : List ℕ) → IsFairestCut minimums shares width other → other ≡ widths
   -- the loop of single units gives these widths
   pub by_units : widths ≡ cut_by_units minimums shares width
+  -- the level is the largest slack; with `lowered` more, the widths add up to the greatest ones with slacks up to the level,
+  -- each the minimum plus the level, or the share if that is less
+  pub at_level : level ≡ largest_slack minimums widths
+  pub lack : sum widths + lowered ≡ sum_by (λ x. min (x.0 + level) x.1) (zip minimums shares)
   -- the widths and the separators between columns add up to at most the width
   pub within : sum widths + (length widths - 1) ≤ width
   -- no cut has a smaller largest slack

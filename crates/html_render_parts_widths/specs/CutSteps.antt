@@ -1,6 +1,7 @@
 -- Properties of the intermediate results of a column cut.
 use Rattle.std.specs.Prelude.{◌≡◌, ◌≢◌, ℕ, ◌+◌, ◌<◌, ◌≤◌, ◌⊎◌, List, length, sum, slice_index}
-use Rattle.html_render_parts_widths.specs.Cuts.{full_width, slack, IsLowered}
+use Rattle.html_render_parts_widths.specs.Cuts.{slack}
+use Rattle.html_render_parts_widths.specs.LevelForm.{full_width, IsLowered}
 
 -- whether there are equally many minimums and shares, and each minimum is at most its share
 pub record AreColumns (minimums shares : List ℕ) : Type 0 where

@@ -2,6 +2,8 @@
 pub mod Cuts
 -- the promises of a cut's result
 pub mod ColumnCuts
+-- the level form of a cut
+pub mod LevelForm
 -- widths of a table's columns, from their needs
 pub mod Shares
 -- values over ranges of columns, and the steps that spread them

@@ -1,7 +1,9 @@
 //! Checks column cuts in a few passes, without allocating.
 
 ghost use Rattle.std.specs.Prelude.{◌≡◌, ◌≢◌, ℕ, ◌+◌, ◌-◌, ◌*◌, ◌^◌, ◌<◌, ◌≤◌, ◌↔◌, ◌⊎◌, length, min, sum, slice_index, IsTrue, IfSome, IfNone};
-ghost use Rattle.html_render_parts_widths.specs.Cuts.{ranges, capped_sum, CutFits, slack, IsLowered, IsLevel, IsLevelForm};
+ghost use Rattle.html_render_parts_widths.specs.Cuts.{CutFits, slack};
+ghost use Rattle.html_render_parts_widths.specs.ColumnCuts.{IsColumnCut};
+ghost use Rattle.html_render_parts_widths.specs.LevelForm.{ranges, capped_sum, IsLowered, IsLevel, IsLevelForm};
 ghost use Rattle.html_render_parts_widths.specs.CutSteps.{AreColumns, IsFull, LoweredBefore, LowersFirst};
 
 use super::cut::ColumnCut;
@@ -14,7 +16,7 @@ use super::levels::capped_sum;
 /// All widths are in columns of text. Checks without searching, and allocates nothing.
 pub fn check_cut(minimums: &[usize], shares: &[usize], width: usize, cut: &ColumnCut) -> bool
     ensures { IsTrue result
-        ↔ (CutFits minimums.now shares.now width × IsLevelForm minimums.now shares.now width cut.now.widths.items cut.now.level cut.now.lowered) }
+        ↔ (CutFits minimums.now shares.now width × IsColumnCut minimums.now shares.now width cut.now.widths.items cut.now.level cut.now.lowered) }
 {
     cut_fits(minimums, shares, width) && is_level_form(minimums, shares, width, cut)
 }

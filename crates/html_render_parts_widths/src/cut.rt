@@ -2,7 +2,8 @@
 
 ghost use Rattle.std.specs.Prelude.{◌≡◌, ℕ, ◌+◌, ◌-◌, ◌*◌, ◌^◌, ◌<◌, ◌≤◌, length, min, sum, slice_index, IfOk};
 ghost use Rattle.html_render_dom_values.specs.Outcome.{OnlyOutOfMemory};
-ghost use Rattle.html_render_parts_widths.specs.Cuts.{ranges, capped_sum, full_width, largest_slack, wanted, CutFits, IsLevel, IsLevelForm};
+ghost use Rattle.html_render_parts_widths.specs.Cuts.{largest_slack, CutFits};
+ghost use Rattle.html_render_parts_widths.specs.LevelForm.{ranges, capped_sum, full_width, wanted, IsLevel, IsLevelForm};
 ghost use Rattle.html_render_parts_widths.specs.ColumnCuts.{IsColumnCut};
 ghost use Rattle.html_render_parts_widths.specs.CutSteps.{AreColumns};
 

@@ -3,7 +3,8 @@
 //! `cut_fits(&[3, 3], &[9, 4], 7)` is `true`: the minimums and the separator add up to 7.
 
 ghost use Rattle.std.specs.Prelude.{◌≡◌, ◌+◌, ◌-◌, ◌≤◌, ◌↔◌, sum, IsTrue};
-ghost use Rattle.html_render_parts_widths.specs.Cuts.{CutFits, ranges, largest_slack, wanted};
+ghost use Rattle.html_render_parts_widths.specs.Cuts.{CutFits, largest_slack};
+ghost use Rattle.html_render_parts_widths.specs.LevelForm.{ranges, wanted};
 ghost use Rattle.html_render_parts_widths.specs.CutSteps.{AreColumns};
 
 /// Reports whether columns of these minimums and shares can be cut to `width`.

@@ -1,7 +1,9 @@
 //! Laws of cuts and of the meter. Each is the contract of an empty function.
 
 ghost use Rattle.std.specs.Prelude.{◌≡◌, ◌≢◌, ℕ, ◌+◌, ◌-◌, ◌<◌, ◌≤◌, ◌↔◌, ◌⊎◌, List, All, length, map, sum, sum_by, slice_index, Some, None, IsTrue, IfSome, if◌then◌else◌};
-ghost use Rattle.html_render_parts_widths.specs.Cuts.{cut_by_units, CutFits, GivesBefore, IsFairestCut, IsLevelForm};
+ghost use Rattle.html_render_parts_widths.specs.Cuts.{cut_by_units, CutFits, GivesBefore, IsFairestCut};
+ghost use Rattle.html_render_parts_widths.specs.ColumnCuts.{IsColumnCut};
+ghost use Rattle.html_render_parts_widths.specs.LevelForm.{IsLevelForm};
 ghost use Rattle.html_render_parts_widths.specs.Needs.{column_needs, AreCells, AreWithinSizes, HasRoom};
 ghost use Rattle.html_render_parts_widths.specs.Shares.{least_widths, share, share_by_size, shares, stand_side_by_side, widths_across};
 ghost use Rattle.html_render_parts_widths.specs.Shares.{whole_widths, word_minimums, word_shares, HaveShortWords};
@@ -29,9 +31,15 @@ fn fairest_cuts_are_one()
         → IsFairestCut minimums shares width other → other ≡ widths }
 {}
 
-/// States that columns that fit have at most one level form: its widths, level and number of lowered columns are unique.
+/// States that columns that fit have at most one level form, and that the cut of columns is that form.
+///
+/// Its widths, level and number of lowered columns are unique. The level is the least cap on the ranges of the columns at
+/// which the widths use all available columns of text. The lowered columns are the first of those whose range reaches the
+/// level, by greater width and then from the left; each is 1 narrower than its minimum plus the level.
 fn level_forms_are_one()
-    ensures { (minimums shares : List ℕ) (width : ℕ) (widths other : List ℕ) (level lowered l d : ℕ) → CutFits minimums shares width
+    ensures cuts { (minimums shares : List ℕ) (width : ℕ) (widths : List ℕ) (level lowered : ℕ) → CutFits minimums shares width
+        → IsColumnCut minimums shares width widths level lowered ↔ IsLevelForm minimums shares width widths level lowered }
+    ensures only { (minimums shares : List ℕ) (width : ℕ) (widths other : List ℕ) (level lowered l d : ℕ) → CutFits minimums shares width
         → IsLevelForm minimums shares width widths level lowered → IsLevelForm minimums shares width other l d
         → (other ≡ widths) × (l ≡ level) × (d ≡ lowered) }
 {}

@@ -1,7 +1,7 @@
 //! Binary search for the least level at which the capped ranges suffice.
 
 ghost use Rattle.std.specs.Prelude.{◌≡◌, ◌+◌, ◌-◌, ◌*◌, ◌^◌, ◌<◌, ◌≤◌, sum};
-ghost use Rattle.html_render_parts_widths.specs.Cuts.{ranges, capped_sum, IsLevel};
+ghost use Rattle.html_render_parts_widths.specs.LevelForm.{ranges, capped_sum, IsLevel};
 ghost use Rattle.html_render_parts_widths.specs.CutSteps.{AreColumns};
 
 /// A level and the sum of the ranges capped at it.

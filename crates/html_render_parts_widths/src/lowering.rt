@@ -1,7 +1,7 @@
 //! Lowering of the columns at the level: the first of them, by greater width and then from the left.
 
 ghost use Rattle.std.specs.Prelude.{◌≡◌, ℕ, ◌+◌, ◌-◌, ◌<◌, ◌≤◌, All, map, length, slice_index, IfOk};
-ghost use Rattle.html_render_parts_widths.specs.Cuts.{ranges, capped_sum, full_width};
+ghost use Rattle.html_render_parts_widths.specs.LevelForm.{ranges, capped_sum, full_width};
 ghost use Rattle.html_render_parts_widths.specs.CutSteps.{AreColumns, AreAtLevel, AreInOrder, AreLowered};
 
 use std::alloc::{AllocError, Global};

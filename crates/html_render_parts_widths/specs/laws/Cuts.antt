@@ -5,7 +5,8 @@ use Rattle.std.specs.Prelude.{slice_range}
 use Rattle.std.proofs.lemmas.List.{length-take, length-drop, get_or-take, get_or-drop}
 use Rattle.std.proofs.lemmas.List.Sums.{sum_by-cons}
 use Rattle.std.proofs.lemmas.Bool.{cases_lt, cases_eq}
-use Rattle.html_render_parts_widths.specs.Cuts.{ranges, total_width, CutFits, IsCut, IsFairestCut}
+use Rattle.html_render_parts_widths.specs.Cuts.{total_width, CutFits, IsCut, IsFairestCut}
+use Rattle.html_render_parts_widths.specs.LevelForm.{ranges}
 
 -- ---- ranges
 

@@ -1,5 +1,5 @@
 use Rattle.std.proofs.Common.{ℕ, ◌<◌, ◌⊎◌}
-use Rattle.html_render_parts_widths.specs.Cuts.{IsLowered}
+use Rattle.html_render_parts_widths.specs.LevelForm.{IsLowered}
 use Rattle.html_render_parts_widths.specs.CutSteps.{IsFull}
 use Rattle.html_render_parts_widths.proofs.check.are_full_or_lowered.Given as goal
 

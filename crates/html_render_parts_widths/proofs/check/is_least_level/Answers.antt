@@ -1,6 +1,6 @@
 use Rattle.std.proofs.Common.{◌<◌, ◌-◌, arith}
 use Rattle.std.proofs.lemmas.Bool.Decides.{nat_tests}
-use Rattle.html_render_parts_widths.specs.Cuts.{ranges}
+use Rattle.html_render_parts_widths.specs.LevelForm.{ranges}
 use Rattle.html_render_parts_widths.proofs.CutLevels.{capped_sum-mono}
 use Rattle.html_render_parts_widths.proofs.check.is_least_level.Goals as goal
 

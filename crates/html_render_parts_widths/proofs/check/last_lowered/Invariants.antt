@@ -1,6 +1,6 @@
 use Rattle.std.proofs.Common.{ℕ, ◌<◌, ◌≢◌, slice_index}
 use Rattle.std.specs.Option.{MatchOption}
-use Rattle.html_render_parts_widths.specs.Cuts.{IsLowered}
+use Rattle.html_render_parts_widths.specs.LevelForm.{IsLowered}
 use Rattle.html_render_parts_widths.specs.CutSteps.{LoweredBefore}
 use Rattle.html_render_parts_widths.proofs.check.last_lowered.Given as goal
 

@@ -1,5 +1,5 @@
 use Rattle.std.proofs.Common.{◌≡◌, ℕ, ◌<◌, length, slice_index}
-use Rattle.html_render_parts_widths.specs.Cuts.{full_width}
+use Rattle.html_render_parts_widths.specs.LevelForm.{full_width}
 use Rattle.html_render_parts_widths.proofs.cut.full_widths.Given as goal
 
 abbrev pub invariant-loop-i : goal.invariant-loop-i

@@ -1,5 +1,5 @@
 use Rattle.std.proofs.Common.{◌≡◌, ◌+◌, ◌*◌, ◌^◌, ◌≤◌, drop}
-use Rattle.html_render_parts_widths.specs.Cuts.{capped_sum, ranges}
+use Rattle.html_render_parts_widths.specs.LevelForm.{capped_sum, ranges}
 use Rattle.html_render_parts_widths.proofs.levels.capped_sum.Given as goal
 
 -- The sums over the first `i` columns and over the other columns add up to that over all columns. The first is at most `i`

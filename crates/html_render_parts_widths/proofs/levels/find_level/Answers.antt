@@ -1,5 +1,5 @@
 use Rattle.std.proofs.Common.{◌+◌, ◌-◌, ◌/◌, arith}
-use Rattle.html_render_parts_widths.specs.Cuts.{ranges}
+use Rattle.html_render_parts_widths.specs.LevelForm.{ranges}
 use Rattle.html_render_parts_widths.proofs.CutLevels.{capped_sum-mono, probed}
 use Rattle.html_render_parts_widths.proofs.levels.find_level.Goals as goal
 

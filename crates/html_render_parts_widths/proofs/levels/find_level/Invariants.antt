@@ -1,5 +1,5 @@
 use Rattle.std.proofs.Common.{◌≡◌, ℕ, ◌+◌, ◌-◌, ◌*◌, ◌<◌, ◌≤◌, ◌^◌}
-use Rattle.html_render_parts_widths.specs.Cuts.{capped_sum, ranges}
+use Rattle.html_render_parts_widths.specs.LevelForm.{capped_sum, ranges}
 use Rattle.html_render_parts_widths.proofs.levels.find_level.Given as goal
 
 -- the wanted level is between `low` and `high`, and each probe has halved their distance

@@ -1,6 +1,6 @@
 use Rattle.std.proofs.Common.{◌≡◌, ◌++◌, ◌∷◌, [], get_or, take, ◌+◌, rules, arith, refl}
 use Rattle.std.proofs.lemmas.List.{take_all}
-use Rattle.html_render_parts_widths.specs.Cuts.{ranges}
+use Rattle.html_render_parts_widths.specs.LevelForm.{ranges}
 use Rattle.html_render_parts_widths.specs.laws.Cuts.{length-ranges}
 use Rattle.html_render_parts_widths.proofs.CutColumns.{column-pushed, column-skipped}
 use Rattle.html_render_parts_widths.proofs.lowering.columns_at_level.Goals as goal
