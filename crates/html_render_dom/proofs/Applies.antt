@@ -8,8 +8,8 @@ use Rattle.std.proofs.lemmas.List.Elements.{filter-append, filter_map-append}
 use Rattle.std.proofs.lemmas.Grind.{flat_map-append}
 use Rattle.std.specs.List.{flat_map}
 use Rattle.html_render_dom_styles.specs.declared.updates.Update.{Update}
-use Rattle.html_render_dom_styles.specs.Cascade.{key_of, winner}
-use Rattle.html_render_dom_styles.specs.Keeping.{yields_to}
+use Rattle.html_render_dom_styles.specs.Cascade.{winner}
+use Rattle.html_render_dom_styles.specs.Keeping.{key_of, yields_to}
 use Rattle.html_render_dom_styles.specs.declared.rules.PseudoElement.{PseudoElement}
 use Rattle.html_render_dom_styles.specs.declared.rules.PseudoElement.TheVariants.{Before, After}
 use Rattle.html_render_dom_styles.specs.declared.origins.StyleOrigin.{StyleOrigin}

@@ -6,7 +6,6 @@ use Rattle.std.specs.Ordering.{is_le, nat_cmp, bool_cmp, on, then_cmp}
 use Rattle.std.specs.List.{list_all, last_or}
 use Rattle.html_render_dom_styles.specs.declared.origins.StyleOrigin.{StyleOrigin}
 use Rattle.html_render_dom_styles.specs.declared.origins.StyleOrigin.TheVariants as origin
-use Rattle.html_render_dom_styles.specs.declared.specificities.Specificity.{Specificity}
 use Rattle.html_render_dom_styles.specs.declared.updates.Update.{Update}
 use Rattle.html_render_dom_styles.specs.Specificities.{specificity_cmp}
 
@@ -21,21 +20,15 @@ normal_rank origin.Author = 3
 abbrev pub rank_of : (important : Bool) → StyleOrigin → ℕ
 rank_of important origin = if important then 3 - normal_rank origin else normal_rank origin
 
--- the data that decide between two updates, except for the order of appearance
-pub record Key : Type 0 where
-  pub important : Bool
-  pub origin_rank : ℕ
-  pub specificity : Specificity
+-- the order of two updates, their appearance aside: by importance, then by the rank of the origin, then by specificity
+abbrev pub update_cmp : {T : Type 0} → Update T → Update T → Ordering
+update_cmp =
+    then_cmp (on (λ u. u.important) bool_cmp)
+    (then_cmp (on (λ u. rank_of u.important u.origin) nat_cmp) (on (λ u. u.specificity) specificity_cmp))
 
-abbrev pub key_of : {T : Type 0} → Update T → Key
-key_of u = record { important = u.important; origin_rank = rank_of u.important u.origin; specificity = u.specificity }
-
-abbrev pub key_cmp : Key → Key → Ordering
-key_cmp = then_cmp (on (λ k. k.important) bool_cmp) (then_cmp (on (λ k. k.origin_rank) nat_cmp) (on (λ k. k.specificity) specificity_cmp))
-
--- the last of the updates with the greatest key of the list; the empty list has no winner
+-- the last of the greatest updates of the list; the empty list has no winner
 abbrev pub winner : {T : Type 0} → List (Update T) → Option (Update T)
-winner us = last_or None (filter (λ u. list_all (λ v. is_le (key_cmp (key_of v) (key_of u))) us) us)
+winner us = last_or None (filter (λ u. list_all (λ v. is_le (update_cmp v u)) us) us)
 
 -- the value of an update, if there is one
 abbrev pub value_of : {T : Type 0} → Option (Update T) → Option T

@@ -6,7 +6,8 @@ ghost use Rattle.std.specs.Ordering.{nat_cmp};
 ghost use Rattle.std.specs.declared.cmp.Ordering.TheVariants.{Equal};
 ghost use Rattle.html_render_dom_styles.specs.declared.origins.StyleOrigin.{StyleOrigin};
 ghost use Rattle.html_render_dom_styles.specs.declared.specificities.Specificity.{Specificity as TheSpecificity};
-ghost use Rattle.html_render_dom_styles.specs.Cascade.{Key, key_cmp, rank_of};
+ghost use Rattle.html_render_dom_styles.specs.Cascade.{rank_of};
+ghost use Rattle.html_render_dom_styles.specs.Keeping.{Key, key_cmp};
 ghost use Rattle.html_render_dom_styles.specs.Specificities.{no_specificity, specificity_cmp, specificity_sum};
 
 use super::origins::StyleOrigin;

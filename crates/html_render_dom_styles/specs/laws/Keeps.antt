@@ -1,8 +1,8 @@
 -- The update that is stored is the winner among all updates.
 use Rattle.std.proofs.Common.{◌≡◌, true, false, List, [], ◌∷◌, ◌++◌, Option, Some, None, refl, sym, ap, ◌∙◌}
 use Rattle.html_render_dom_styles.specs.declared.updates.Update.{Update}
-use Rattle.html_render_dom_styles.specs.Cascade.{key_of, winner}
-use Rattle.html_render_dom_styles.specs.Keeping.{yields_to}
+use Rattle.html_render_dom_styles.specs.Cascade.{winner}
+use Rattle.html_render_dom_styles.specs.Keeping.{key_of, yields_to}
 use Rattle.html_render_dom_styles.specs.laws.Winners.{later, yields, winner-push}
 
 -- an update that replaces the winner of a list is the winner of the list with it

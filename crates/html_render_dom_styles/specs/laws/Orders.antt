@@ -8,7 +8,7 @@ use Rattle.std.proofs.lemmas.Cmp.{nat_cmp_total, on_total, then_total, tied_itse
 use Rattle.std.proofs.Common.{refl, ap, ◌∙◌, subst}
 use Rattle.html_render_dom_styles.specs.declared.specificities.Specificity.{Specificity}
 use Rattle.html_render_dom_styles.specs.Specificities.{specificity_cmp}
-use Rattle.html_render_dom_styles.specs.Cascade.{Key, key_cmp}
+use Rattle.html_render_dom_styles.specs.Keeping.{Key, key_cmp}
 
 pub specificity_cmp-total : IsTotalOrder specificity_cmp
 specificity_cmp-total =

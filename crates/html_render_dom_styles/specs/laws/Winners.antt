@@ -8,7 +8,8 @@ use Rattle.std.proofs.lemmas.List.{append-nil}
 use Rattle.std.proofs.lemmas.List.Elements.{filter-append}
 use Rattle.std.proofs.lemmas.List.Folds.{list_all-append}
 use Rattle.html_render_dom_styles.specs.declared.updates.Update.{Update}
-use Rattle.html_render_dom_styles.specs.Cascade.{key_of, key_cmp, winner}
+use Rattle.html_render_dom_styles.specs.Cascade.{update_cmp, winner}
+use Rattle.html_render_dom_styles.specs.Keeping.{key_of}
 use Rattle.html_render_dom_styles.specs.laws.Orders.{key-turned, key-chain}
 
 last_or-some : {X : Type 0} (o : Option X) (xs : List X) (x : X) → last_or None xs ≡ Some x → last_or o xs ≡ Some x
@@ -146,7 +147,7 @@ module _ {U : Type 0} (le : U → U → Bool) where
 
 -- whether an update wins over an earlier one
 abbrev pub yields : {T : Type 0} → Update T → Update T → Bool
-yields earlier u = is_le (key_cmp (key_of earlier) (key_of u))
+yields earlier u = is_le (update_cmp earlier u)
 
 -- a single update is the winner of its list
 pub winner-one : {T : Type 0} (o : Option (Update T)) → winner (option_to_list o) ≡ o
