@@ -16,9 +16,10 @@ use Rattle.std.specs.Option.{unwrap_or}
 use Rattle.std.specs.Str.{bytes_eq}
 use Rattle.html_render_dom.specs.declared.style.index.PlainStyle.{PlainStyle}
 use Rattle.html_render_dom.specs.declared.style.index.RuleIndex.{RuleIndex}
-use Rattle.html_render_dom.proofs.Applies.{said_to-all}
+use Rattle.html_render_dom.proofs.Applies.{element_style-applied, said_to-all}
 use Rattle.html_render_dom.specs.laws.Members.{All-unfiltered, Contains-cons_cases, Contains-head, Contains-tail}
-use Rattle.html_render_dom.specs.ElementStyle.{applied, element_style, style_by, style_of}
+use Rattle.html_render_dom.specs.Applying.{applied, style_by}
+use Rattle.html_render_dom.specs.ElementStyle.{element_style, style_of}
 use Rattle.html_render_dom.specs.RuleIndex.{asks_attributes, Finds, Indexes, IsFound, IsPlain, is_told, said_at, text_key, numbers_under, stated_text, text_stated, texts_of}
 use Rattle.html_render_dom_nodes.specs.declared.names.Attribute.{Attribute}
 use Rattle.html_render_dom_nodes.specs.Content.{property_of}
@@ -222,7 +223,8 @@ pub none_selects : (index : RuleIndex) (name : List ℕ) (attrs : List Attribute
 none_selects index name attrs none rules finds =
     let parts = or_parts (is_told index.keys.items name || is_filled index.general.items) (index.asks_attributes && is_filled attrs) none in
     let untold = or_parts (is_told index.keys.items name) (is_filled index.general.items) parts.0 in
-    ap style_by (alone index.asks_attributes attrs finds.0.2 parts.1 ∙ sym (offered index rules name None None [] [] finds.0 (rw untold.0 refl)
+    sym (element_style-applied rules name (map property_of attrs))
+    ∙ ap style_by (alone index.asks_attributes attrs finds.0.2 parts.1 ∙ sym (offered index rules name None None [] [] finds.0 (rw untold.0 refl)
     (All-nil (λ text. All (Contains []) (numbers_under index text.now))) (empty index.general.items untold.1) (λ k lt. absurd (omega (arith, lt)))))
   where
     alone : (asks : Bool) (ps : List Attribute) → asks ≡ list_any asks_attributes rules → asks && is_filled ps ≡ false →

@@ -1,9 +1,7 @@
 -- The style of an element: for each property the winner among the declarations of the rules that select it.
-use Rattle.std.specs.Prelude.{ℕ, Bool, false, List, ◌++◌, codes, Option, Some, None, map, filter, option_map, option_to_list}
+use Rattle.std.specs.Prelude.{ℕ, Bool, false, List, codes, Option, Some, None, filter, option_map}
 use Rattle.std.specs.List.{filter_map, flat_map}
 use Rattle.html_render_dom_values.specs.declared.colours.Colour.{Colour}
-use Rattle.html_render_dom_styles.specs.declared.origins.StyleOrigin.{StyleOrigin}
-use Rattle.html_render_dom_styles.specs.declared.specificities.Specificity.{Specificity}
 use Rattle.html_render_dom_values.specs.declared.white_space.WhiteSpace.{WhiteSpace}
 use Rattle.html_render_dom_styles.specs.declared.rules.Display.{Display}
 use Rattle.html_render_dom_styles.specs.declared.rules.PseudoElement.{PseudoElement}
@@ -12,20 +10,9 @@ use Rattle.html_render_dom_styles.specs.declared.updates.Update.{Update}
 use Rattle.html_render_dom.specs.declared.style.computed.ComputedStyle.{ComputedStyle}
 use Rattle.html_render_dom_styles.specs.Cascade.{winner}
 use Rattle.html_render_dom_nodes.specs.Content.{Property}
-use Rattle.html_render_dom_styles.specs.Rules.{StyleValue, colour, bg_colour, display, white_space, content, Declared, Rule}
+use Rattle.html_render_dom_styles.specs.Rules.{StyleValue, colour, bg_colour, display, white_space, content, Rule}
 use Rattle.html_render_dom.specs.Attributes.{first_value}
 use Rattle.html_render_dom_styles.specs.Selectors.{selects, specificity_of}
-
--- a declaration with the origin, specificity and pseudo-element of its rule
-pub record Applied : Type 0 where
-  pub origin : StyleOrigin
-  pub specificity : Specificity
-  pub pseudo : Option PseudoElement
-  pub declared : Declared
-
--- the declarations of a rule, in order
-abbrev pub applied : Rule → List Applied
-applied rule = map (λ d. record { origin = rule.origin; specificity = specificity_of rule; pseudo = rule.pseudo; declared = d }) rule.declarations
 
 -- For each property, the value that a declaration gives it, if any. With a pseudo-element only content counts.
 abbrev pub colour_in : Option PseudoElement → StyleValue → Option Colour
@@ -51,67 +38,27 @@ content_in (Some Before) (Some Before) (content text) = Some text
 content_in (Some After) (Some After) (content text) = Some text
 content_in _ _ _ = None
 
--- the updates of a property by declarations, in order
-abbrev pub updates : {T : Type 0} → (Option PseudoElement → StyleValue → Option T) → List Applied → List (Update T)
-updates property declarations = filter_map (λ a.
-    option_map (λ x. record { important = a.declared.important; origin = a.origin; specificity = a.specificity; value = x })
-    (property a.pseudo a.declared.style)) declarations
+-- the updates of a property by the declarations of rules, in order
+abbrev pub updates_by : {T : Type 0} → (Option PseudoElement → StyleValue → Option T) → List Rule → List (Update T)
+updates_by property rules = flat_map (λ rule. filter_map (λ d.
+    option_map (λ x. record { important = d.important; origin = rule.origin; specificity = specificity_of rule; value = x })
+    (property rule.pseudo d.style)) rule.declarations) rules
 
--- a style: for each property the winning update, if there is one
-pub record ElementStyle : Type 0 where
-  pub colour : Option (Update Colour)
-  pub bg_colour : Option (Update Colour)
-  pub display : Option (Update Display)
-  pub white_space : Option (Update WhiteSpace)
-  pub content : Option (Update (List ℕ))
-  pub content_before : Option (Update (List ℕ))
-  pub content_after : Option (Update (List ℕ))
-  pub internal_pre : Bool
-
--- the style that declarations give, in this order
-abbrev pub style_by : List Applied → ElementStyle
-style_by declarations = record {
-  colour = winner (updates colour_in declarations);
-  bg_colour = winner (updates bg_colour_in declarations);
-  display = winner (updates display_in declarations);
-  white_space = winner (updates white_space_value declarations);
-  content = winner (updates (content_in None) declarations);
-  content_before = winner (updates (content_in (Some Before)) declarations);
-  content_after = winner (updates (content_in (Some After)) declarations);
-  internal_pre = false;
-}
-
--- the style of an element with a local name and attributes, from the rules that select it, in the order in which they were
--- added
-abbrev pub element_style : List Rule → (name : List ℕ) → List Property → ElementStyle
+-- the style of an element with a local name and attributes: for each property the winner among the updates by the rules that select
+-- the element, in the order in which they were added
+abbrev pub element_style : List Rule → (name : List ℕ) → List Property → ComputedStyle
 element_style rules name properties =
-    style_by (flat_map applied (filter (selects name (first_value (codes "id") properties) (first_value (codes "class") properties)) rules))
+    let selected = filter (selects name (first_value (codes "id") properties) (first_value (codes "class") properties)) rules in record {
+      colour = winner (updates_by colour_in selected);
+      bg_colour = winner (updates_by bg_colour_in selected);
+      display = winner (updates_by display_in selected);
+      white_space = winner (updates_by white_space_value selected);
+      content = winner (updates_by (content_in None) selected);
+      content_before = winner (updates_by (content_in (Some Before)) selected);
+      content_after = winner (updates_by (content_in (Some After)) selected);
+      internal_pre = false;
+    }
 
 -- the value of a `ComputedStyle`
-abbrev pub style_of : ComputedStyle → ElementStyle
-style_of s = record {
-  colour = s.colour;
-  bg_colour = s.bg_colour;
-  display = s.display;
-  white_space = s.white_space;
-  content = s.content;
-  content_before = s.content_before;
-  content_after = s.content_after;
-  internal_pre = s.internal_pre;
-}
-
--- the winning update of a property, and the style, after more declarations
-abbrev pub with_more : {T : Type 0} → (Option PseudoElement → StyleValue → Option T) → Option (Update T) → List Applied → Option (Update T)
-with_more property kept declarations = winner (option_to_list kept ++ updates property declarations)
-
-abbrev pub with_declarations : ElementStyle → List Applied → ElementStyle
-with_declarations s declarations = record {
-  colour = with_more colour_in s.colour declarations;
-  bg_colour = with_more bg_colour_in s.bg_colour declarations;
-  display = with_more display_in s.display declarations;
-  white_space = with_more white_space_value s.white_space declarations;
-  content = with_more (content_in None) s.content declarations;
-  content_before = with_more (content_in (Some Before)) s.content_before declarations;
-  content_after = with_more (content_in (Some After)) s.content_after declarations;
-  internal_pre = s.internal_pre;
-}
+abbrev pub style_of : ComputedStyle → ComputedStyle
+style_of s = s

@@ -9,6 +9,7 @@ pub mod Moves
 -- computed styles
 pub mod Attributes
 pub mod ElementStyle
+pub mod Applying
 pub mod RuleIndex
 -- scripts and the documents that they build
 pub mod script

@@ -3,7 +3,8 @@ use Rattle.std.specs.Prelude.{◌≡◌, ℕ, ◌+◌, ◌*◌, ◌%◌, ◌<◌
 use Rattle.std.specs.BTreeMap.{get_by_text}
 use Rattle.std.specs.List.{Contains, flat_map, list_any}
 use Rattle.std.specs.Option.{option_map_or, unwrap_or}
-use Rattle.html_render_dom.specs.ElementStyle.{Applied, applied, element_style, style_of}
+use Rattle.html_render_dom.specs.Applying.{Applied, applied}
+use Rattle.html_render_dom.specs.ElementStyle.{element_style, style_of}
 use Rattle.html_render_dom.specs.declared.style.index.PlainStyle.{PlainStyle}
 use Rattle.html_render_dom.specs.declared.style.index.RuleIndex.{RuleIndex}
 use Rattle.html_render_dom_styles.specs.Rules.{Rule}

@@ -2,7 +2,7 @@
 use Rattle.std.proofs.Common.{◌≡◌, ℕ, Bool, true, false, ◌||◌, if◌then◌else◌, List, [], ◌∷◌, ◌++◌, codes, Option, None, is_some, option_to_list, refl, sym, ap, ◌∙◌}
 use Rattle.std.specs.Str.{bytes_eq}
 use Rattle.html_render_dom_styles.specs.Cascade.{winner}
-use Rattle.html_render_dom.specs.ElementStyle.{ElementStyle}
+use Rattle.html_render_dom.specs.declared.style.computed.ComputedStyle.{ComputedStyle}
 use Rattle.html_render_dom_styles.specs.Specificities.{no_specificity}
 use Rattle.html_render_dom_values.specs.declared.white_space.WhiteSpace.{WhiteSpace}
 use Rattle.html_render_dom_styles.specs.declared.specificities.Specificity.{Specificity}
@@ -22,7 +22,7 @@ use Rattle.html_render_tree_convert.specs.Marks.{mark_of}
 use Rattle.html_render_tree_convert.specs.Plans.{displayed_plan, element_of, element_plan}
 
 -- `pre` gives its style an update of the least specificity after those of all rules
-pub preformatted : (style : ElementStyle) (least : Specificity) (new : Option (Update WhiteSpace)) → least ≡ no_specificity →
+pub preformatted : (style : ComputedStyle) (least : Specificity) (new : Option (Update WhiteSpace)) → least ≡ no_specificity →
     ((updates : List (Update WhiteSpace)) → style.white_space ≡ winner updates →
     new ≡ winner (updates ++ record last_white_space { specificity = least } ∷ [])) →
     record style { white_space = new; internal_pre = true } ≡ preformatted_style style
@@ -32,7 +32,7 @@ preformatted style least new e takes =
     (takes before (sym (winner-one style.white_space))
     ∙ ap (λ s. winner (before ++ record last_white_space { specificity = s } ∷ [])) e)
 
-pub not_displayed : (mapping : Mapping) (mark : Option (List ℕ)) (style : ElementStyle) → is_some style.display ≡ true →
+pub not_displayed : (mapping : Mapping) (mark : Option (List ℕ)) (style : ComputedStyle) → is_some style.display ≡ true →
     element_plan mapping mark style ≡ plan.Nothing
 not_displayed mapping mark style h = ap (λ b. if b then plan.Nothing else displayed_plan mapping mark style) h
 
@@ -44,7 +44,7 @@ mapped false true w x y z r e = cc
 mapped false false true x y z r e = cc
 
 -- the plan of an element without attributes of a known style
-pub styled : (rules : List Rule) (name : Name) (local : List ℕ) (below : Forest Content) (kind : ElementKind) (if_empty : IfEmpty) (s : ElementStyle) →
+pub styled : (rules : List Rule) (name : Name) (local : List ℕ) (below : Forest Content) (kind : ElementKind) (if_empty : IfEmpty) (s : ComputedStyle) →
     local ≡ name.local → name.space ≡ html → (bytes_eq local (codes "a") || (bytes_eq local (codes "img") || bytes_eq local (codes "wbr"))) ≡ false →
     is_preformatted name ≡ false → s ≡ element_style rules local [] → is_some s.display ≡ false → html_mapping local [] ≡ Parent kind if_empty →
     element_plan (element_mapping name.space name.local [] below) (mark_of name []) (own_style rules name []) ≡ plan.Over (element_of kind if_empty None s) true

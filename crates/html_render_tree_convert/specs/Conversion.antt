@@ -11,7 +11,8 @@ use Rattle.html_render_dom_styles.specs.declared.origins.StyleOrigin.TheVariants
 use Rattle.html_render_dom_styles.specs.declared.updates.Update.{Update}
 use Rattle.html_render_dom_styles.specs.Cascade.{value_of, winner}
 use Rattle.html_render_dom_nodes.specs.Content.{Name, Property, Space, html, svg, Content, is_html}
-use Rattle.html_render_dom.specs.ElementStyle.{ElementStyle, element_style}
+use Rattle.html_render_dom.specs.declared.style.computed.ComputedStyle.{ComputedStyle}
+use Rattle.html_render_dom.specs.ElementStyle.{element_style}
 use Rattle.html_render_dom_values.specs.Forest.{Forest}
 use Rattle.html_render_dom_styles.specs.Rules.{Rule as StyleRule}
 use Rattle.html_render_dom.specs.Attributes.{first_value}
@@ -103,7 +104,7 @@ abbrev pub last_white_space : Update WhiteSpace
 last_white_space = record { important = false; origin = Agent; specificity = no_specificity; value = Pre }
 
 -- a style with that update
-abbrev pub preformatted_style : ElementStyle → ElementStyle
+abbrev pub preformatted_style : ComputedStyle → ComputedStyle
 preformatted_style style = record style { white_space = winner (option_to_list style.white_space ++ last_white_space ∷ []); internal_pre = true }
 
 -- whether an element is a `pre` of HTML, whose text is preformatted
@@ -111,13 +112,13 @@ abbrev pub is_preformatted : Name → Bool
 is_preformatted name = is_html name.space && bytes_eq name.local (codes "pre")
 
 -- the style of an element: what the rules give it, and what `pre` of HTML gives itself
-abbrev pub own_style : List StyleRule → Name → List Property → ElementStyle
+abbrev pub own_style : List StyleRule → Name → List Property → ComputedStyle
 own_style rules name properties =
     let style = element_style rules name.local properties in
     if is_preformatted name then preformatted_style style else style
 
 -- what an element's style gives the node that it becomes; white space is Normal where nothing else is declared
-abbrev pub node_style : ElementStyle → NodeStyle
+abbrev pub node_style : ComputedStyle → NodeStyle
 node_style style = record {
   colour = value_of style.colour;
   background = value_of style.bg_colour;

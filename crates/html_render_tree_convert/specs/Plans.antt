@@ -5,7 +5,7 @@ use Rattle.html_render_dom_styles.specs.Cascade.{value_of}
 use Rattle.html_render_dom_styles.specs.Rules.{Rule as StyleRule}
 use Rattle.html_render_dom_nodes.specs.Content.{Content, document, doctype, text, comment, element, instruction}
 use Rattle.html_render_dom.specs.Dom.{Dom, content_at, children_at, trees_of}
-use Rattle.html_render_dom.specs.ElementStyle.{ElementStyle}
+use Rattle.html_render_dom.specs.declared.style.computed.ComputedStyle.{ComputedStyle}
 use Rattle.html_render_layout_nodes.specs.RenderNodes.{no_style, without_style}
 use Rattle.html_render_layout_nodes.specs.declared.tree.NodeKind.{NodeKind}
 use Rattle.html_render_layout_nodes.specs.declared.tree.NodeKind.TheVariants.{Text, Container, FragmentStart}
@@ -30,20 +30,20 @@ mark_plan None = Nothing
 mark_plan (Some name) = Alone (without_style (FragmentStart name))
 
 -- texts that an element inserts under its style
-abbrev pub texts_of : (mark : Option (List ℕ)) → ElementStyle → ElementTexts
+abbrev pub texts_of : (mark : Option (List ℕ)) → ComputedStyle → ElementTexts
 texts_of mark style = record { mark = mark; before = value_of style.content_before; after = value_of style.content_after }
 
 -- element of a kind under its style
-abbrev pub element_of : ElementKind → IfEmpty → (mark : Option (List ℕ)) → ElementStyle → Element
+abbrev pub element_of : ElementKind → IfEmpty → (mark : Option (List ℕ)) → ComputedStyle → Element
 element_of kind if_empty mark style = record { kind = kind; style = node_style style; if_empty = if_empty; texts = texts_of mark style }
 
 -- plan of an element that is displayed
-abbrev pub displayed_plan : Mapping → (mark : Option (List ℕ)) → ElementStyle → Plan
+abbrev pub displayed_plan : Mapping → (mark : Option (List ℕ)) → ComputedStyle → Plan
 displayed_plan mapping.Nothing mark style = mark_plan mark
 displayed_plan (mapping.Leaf kind) mark style = Over (element_of (Node kind) Stands mark style) false
 displayed_plan (mapping.Parent kind if_empty) mark style = Over (element_of kind if_empty mark style) true
 
-abbrev pub element_plan : Mapping → (mark : Option (List ℕ)) → ElementStyle → Plan
+abbrev pub element_plan : Mapping → (mark : Option (List ℕ)) → ComputedStyle → Plan
 element_plan m mark style = if is_some style.display then Nothing else displayed_plan m mark style
 
 -- element without a style that inserts nothing

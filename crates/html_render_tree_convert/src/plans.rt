@@ -6,7 +6,8 @@ ghost use Rattle.html_render_dom_values.specs.Forest.{Forest};
 ghost use Rattle.html_render_dom_values.specs.Outcome.{OnlyOutOfMemory};
 ghost use Rattle.html_render_dom_nodes.specs.Content.{Content, name_of, property_of, space_of};
 ghost use Rattle.html_render_dom.specs.Dom.{IsForest, IsNode};
-ghost use Rattle.html_render_dom.specs.ElementStyle.{ElementStyle, element_style, style_of};
+ghost use Rattle.html_render_dom.specs.ElementStyle.{element_style, style_of};
+ghost use Rattle.html_render_dom.specs.declared.style.computed.ComputedStyle.{ComputedStyle as TheStyle};
 ghost use Rattle.html_render_dom.specs.RuleIndex.{Finds};
 ghost use Rattle.html_render_dom_styles.specs.Rules.{Rule, rule_of};
 ghost use Rattle.html_render_layout_nodes.specs.RenderNodes.{without_style};
@@ -129,7 +130,7 @@ pub fn copy_of(text: Option<&NodeText>) -> Result<Option<NodeText>, AllocError>
 
 /// Returns the plan of an element that is displayed.
 fn displayed_plan(mapping: Mapping, style: NodeStyle, texts: ElementTexts) -> Plan
-    ensures { (own : ElementStyle) → style ≡ node_style own → texts ≡ texts_of texts.mark own → result ≡ displayed_plan mapping texts.mark own }
+    ensures { (own : TheStyle) → style ≡ node_style own → texts ≡ texts_of texts.mark own → result ≡ displayed_plan mapping texts.mark own }
 {
     let (kind, if_empty, has_children) = match mapping {
         Mapping::Nothing => return mark_plan(texts.mark),

@@ -39,7 +39,7 @@ use Rattle.html_render_tree.specs.laws.GoodPlaces.{followed-rows, into_cell-good
 use Rattle.std.specs.List.{list_any, AllByRecursion}
 use Rattle.html_render_layout_nodes.specs.laws.Splits.{followed_by-none}
 use Rattle.html_render_layout_nodes.specs.Kinds.{holds_insertions}
-use Rattle.html_render_dom.specs.ElementStyle.{ElementStyle}
+use Rattle.html_render_dom.specs.declared.style.computed.ComputedStyle.{ComputedStyle}
 use Rattle.html_render_tree_convert.specs.declared.mapping.Mapping.{Mapping}
 use Rattle.html_render_tree_convert.specs.declared.mapping.Mapping.TheVariants.{Nothing}
 use Rattle.html_render_tree_convert.specs.Conversion.{element_mapping, link_mapping, own_style}
@@ -201,7 +201,7 @@ if-true : (b : Bool) → (if b then true else true) ≡ true
 if-true true = refl
 if-true false = refl
 
-module _ (mark : Option (List ℕ)) (style : ElementStyle) where
+module _ (mark : Option (List ℕ)) (style : ComputedStyle) where
   abbrev fits : Mapping → Bool
   fits m = is_good_plan (displayed_plan m mark style)
 

@@ -7,8 +7,9 @@ use Rattle.html_render_dom_nodes.specs.Content.{property_of}
 use Rattle.html_render_dom_styles.specs.Rules.{rule_of}
 use Rattle.html_render_dom.specs.Attributes.{first_value}
 use Rattle.html_render_dom_styles.specs.Selectors.{selects}
-use Rattle.html_render_dom.specs.ElementStyle.{applied, style_by, style_of, with_declarations}
-use Rattle.html_render_dom.proofs.Applies.{said_to, said_to-all, said_to-selected, said_to-other, with_declarations-more}
+use Rattle.html_render_dom.specs.Applying.{applied, style_by, with_declarations}
+use Rattle.html_render_dom.specs.ElementStyle.{style_of}
+use Rattle.html_render_dom.proofs.Applies.{element_style-applied, said_to, said_to-all, said_to-selected, said_to-other, with_declarations-more}
 use Rattle.html_render_dom.proofs.style.computed.computed_style.Goals as goal
 use Rattle.html_render_dom.proofs.style.computed.computed_style.Goals.{then-selects+in_ok-update_all, else-selects}
 
@@ -41,3 +42,4 @@ returns-clause-ok c =
     ∙ ap style_by (sym (flat_map-map (said_to asked) rule_of rules) ∙ said_to-all asked (map rule_of rules))
     ∙ ap (λ v. style_for v classes) c.first_value-id.ensures
     ∙ ap (style_for (first_value (codes "id") properties)) c.first_value-classes.ensures
+    ∙ element_style-applied (map rule_of rules) c.args.element.now properties

@@ -6,7 +6,8 @@ use Rattle.std.proofs.lemmas.Option.{slice_get-map, slice_get_past, slice_get_re
 use Rattle.html_render_dom_styles.specs.declared.rules.StyleRule.{StyleRule}
 use Rattle.html_render_dom_styles.specs.Rules.{Rule, rule_of}
 use Rattle.html_render_dom_styles.specs.Selectors.{selects}
-use Rattle.html_render_dom.specs.ElementStyle.{applied, style_by, style_of, with_declarations}
+use Rattle.html_render_dom.specs.Applying.{applied, style_by, with_declarations}
+use Rattle.html_render_dom.specs.ElementStyle.{style_of}
 use Rattle.html_render_dom.specs.RuleIndex.{said_at}
 use Rattle.html_render_dom.proofs.Applies.{still, said_to-selected, said_to-other, with_declarations-more}
 use Rattle.html_render_dom.proofs.style.computed.style_of_rules.Goals as goal

@@ -1,6 +1,7 @@
 use Rattle.std.proofs.Common.{◌≡◌, [], map, take, option_copied}
 use Rattle.std.specs.List.{flat_map}
-use Rattle.html_render_dom.specs.ElementStyle.{style_by, style_of, with_declarations}
+use Rattle.html_render_dom.specs.Applying.{style_by, with_declarations}
+use Rattle.html_render_dom.specs.ElementStyle.{style_of}
 use Rattle.html_render_dom.specs.RuleIndex.{said_at}
 use Rattle.html_render_dom_styles.specs.Rules.{rule_of}
 use Rattle.html_render_dom_styles.specs.Selectors.{selects}

@@ -2,7 +2,8 @@
 use Rattle.std.proofs.Common.{ap, ◌∙◌, arith}
 use Rattle.std.specs.List.{flat_map}
 use Rattle.std.proofs.lemmas.List.{take_all}
-use Rattle.html_render_dom.specs.ElementStyle.{style_of, with_declarations}
+use Rattle.html_render_dom.specs.Applying.{with_declarations}
+use Rattle.html_render_dom.specs.ElementStyle.{style_of}
 use Rattle.html_render_dom.proofs.Applies.{said_by, said_by-all, still, with_declarations-more}
 use Rattle.html_render_dom.proofs.style.computed.ComputedStyle.update_all.Goals as goal
 

@@ -1,6 +1,7 @@
 use Rattle.std.proofs.Common.{◌≡◌, take}
 use Rattle.std.specs.List.{flat_map}
-use Rattle.html_render_dom.specs.ElementStyle.{style_of, with_declarations}
+use Rattle.html_render_dom.specs.Applying.{with_declarations}
+use Rattle.html_render_dom.specs.ElementStyle.{style_of}
 use Rattle.html_render_dom.proofs.Applies.{said_by}
 use Rattle.html_render_dom.proofs.style.computed.ComputedStyle.update_all.Given as goal
 

@@ -4,8 +4,9 @@ use Rattle.html_render_dom_nodes.specs.Content.{property_of}
 use Rattle.html_render_dom_styles.specs.Rules.{rule_of}
 use Rattle.html_render_dom_styles.specs.Selectors.{selects}
 use Rattle.html_render_dom.specs.Attributes.{first_value}
-use Rattle.html_render_dom.specs.ElementStyle.{applied, style_by}
+use Rattle.html_render_dom.specs.Applying.{applied, style_by}
 use Rattle.html_render_dom.specs.RuleIndex.{said_at}
+use Rattle.html_render_dom.proofs.Applies.{element_style-applied}
 use Rattle.html_render_dom.proofs.RuleIndex.{offered}
 use Rattle.html_render_dom.proofs.style.index.RuleIndex.indexed_style.Goals as goal
 
@@ -23,3 +24,4 @@ returns-clause-ok c =
     c.in_ok-texts.ensures numbers.found numbers.general numbers.ascending)
     ∙ ap (λ v. style_for v classes) c.first_value-id.ensures
     ∙ ap (style_for (first_value (codes "id") (map property_of c.args.attrs.now))) c.first_value-classes.ensures
+    ∙ element_style-applied rules name (map property_of c.args.attrs.now)
