@@ -9,6 +9,9 @@ pub mod Block
 -- The definition on whole lists, and the machine that is fed character by character.
 pub mod Definition
 pub mod Machine
+-- A table as one function of its finished cells, and the operations that lay it out cell by cell.
+pub mod WholeTable
+pub mod CellByCell
 -- What a current block ends as, once a reference to its block does.
 pub mod Lending
 -- Sequences of operations on a block.

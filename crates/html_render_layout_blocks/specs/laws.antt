@@ -15,3 +15,7 @@ pub mod BlockVisible
 pub mod BlockMarks
 -- White space alone in a sub-block.
 pub mod BlankItems
+-- A table that is laid out cell by cell is that of its finished cells.
+pub mod WholeTable
+-- Each operation on an open table adds to the cells that were added before it.
+pub mod CellByCell

@@ -6,7 +6,8 @@ use Rattle.html_render_layout_paragraphs.specs.Stream.{State, start, after, fini
 use Rattle.html_render_layout_paragraphs.specs.laws.Whole.{finished-after, after-append}
 use Rattle.html_render_layout_blocks.specs.Block.{mark_items}
 
-fed-marks : {T M : Type 0} (s : Setting) (marks ms : List M) → after (start {T = T} s marks) (mark_items ms) ≡ Some (start s (marks ++ ms))
+-- Marks that are fed to an empty paragraph wait in it.
+pub fed-marks : {T M : Type 0} (s : Setting) (marks ms : List M) → after (start {T = T} s marks) (mark_items ms) ≡ Some (start s (marks ++ ms))
 fed-marks s marks [] = ap (λ ns. Some (start s ns)) (sym (append-nil marks))
 fed-marks s marks (m ∷ ms) = fed-marks s (marks ++ m ∷ []) ms ∙ ap (λ ns. Some (start s ns)) (append_assoc marks (m ∷ []) ms)
 
