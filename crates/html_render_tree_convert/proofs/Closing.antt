@@ -5,7 +5,7 @@ use Rattle.std.proofs.Math.Bool.{and-false, and-true, or-false, or-true}
 use Rattle.std.proofs.lemmas.Bool.{cases_Bool}
 use Rattle.std.specs.Prelude.{filter, flat_map, option_to_list}
 use Rattle.std.specs.List.{list_any}
-use Rattle.html_render_dom_values.specs.Forest.{none, node}
+use Rattle.html_render_dom_values.specs.Forest.{followed_by, none, node}
 use Rattle.html_render_dom_values.specs.Outcome.{◌>>=◌}
 use Rattle.html_render_dom_styles.specs.Selectors.{is_filled}
 use Rattle.html_render_layout_nodes.specs.Kinds.{holds_insertions}
@@ -18,7 +18,7 @@ use Rattle.html_render_layout_nodes.specs.declared.tree.NodeStyle.{NodeStyle}
 use Rattle.html_render_layout_nodes.specs.declared.tree.RenderNode.{RenderNode}
 use Rattle.html_render_parts.specs.TableCells.{cell_grid_of}
 use Rattle.html_render_tree_convert.specs.Conversion.{vanishes}
-use Rattle.html_render_tree_convert.specs.Results.{Nodes, Result, Role, alone, are_rows, beside, captioned, cell_of, has_stray, inserted, is_caption, left_of, level_in, made, over, row_of, row_over, rows_over, spans_of, stands_alone, table_of, table_over, trees}
+use Rattle.html_render_tree_convert.specs.Results.{Result, Role, all_alone, alone, are_rows, beside, captioned, cell_of, has_stray, inserted, is_caption, left_of, level_in, made, over, row_of, row_over, rows_over, spans_of, stands_alone, table_of, table_over}
 use Rattle.html_render_tree_convert.specs.Results as role
 use Rattle.html_render_tree_convert.specs.declared.mapping.ElementKind.{ElementKind}
 use Rattle.html_render_tree_convert.specs.declared.mapping.ElementKind.TheVariants as element
@@ -27,7 +27,7 @@ use Rattle.html_render_tree_convert.specs.declared.mapping.IfEmpty.TheVariants.{
 use Rattle.html_render_tree_convert.specs.declared.plans.Element.{Element}
 use Rattle.html_render_tree_convert.specs.declared.tables.CellSpan.{CellSpan}
 use Rattle.html_render_tree_convert.specs.declared.tables.Part.TheVariants as part
-use Rattle.html_render_tree_convert.specs.Held.{Entries, Insertion, due_of, held_back, leaf, leaves, inserts, insertion_of, nothing, within}
+use Rattle.html_render_tree_convert.specs.Held.{Entries, Insertion, Nodes, due_of, held_back, leaf, leaves, inserts, insertion_of, nothing, within}
 use Rattle.html_render_tree_convert.specs.OpenElements.{OpenIn, State, created, innermost, outside}
 use Rattle.html_render_tree_convert.specs.declared.elements.Open.{Open}
 use Rattle.html_render_tree_convert.specs.Keeping.{keeping_of}
@@ -35,7 +35,7 @@ use Rattle.html_render_tree_convert.specs.declared.elements.OpenKind.{OpenKind}
 use Rattle.html_render_tree_convert.specs.declared.elements.OpenKind.TheVariants as open_kind
 use Rattle.html_render_tree_convert.specs.declared.kinds.Keeping.TheVariants.{Any}
 use Rattle.html_render_tree_convert.specs.Steps.{Closed, all_parted, begun, begun_node, begun_over, begun_with, caption_kind, closed, closed_once, come, emptied, given_back, held, is_captions, is_completed, left_by, mark_left, node_in, role_left}
-use Rattle.html_render_tree_convert.proofs.Entries.{entries-within, filled, filled-nothing, filled-within, nodes-leaves}
+use Rattle.html_render_tree_convert.proofs.Entries.{entries-within, filled, filled-nothing, filled-within, nodes-leaves, trees}
 use Rattle.html_render_tree_convert.proofs.Coming.{all_come, all_come-append, as_block, at, closed_result, counted, kept, nodes_come, nodes_in, none-come, one-come, placed, results_come, strays, unless_taken, with_role}
 
 -- results come into the innermost element of a state
@@ -63,6 +63,43 @@ mark-comes : (mark : Option (List ℕ)) (q : OpenIn) →
     come (mark_left mark) q ≡ all_come (option_to_list (option_map (λ name. alone (without_style (FragmentStart name))) mark)) q
 mark-comes None q = sym (none-come q)
 mark-comes (Some name) q = contents-come (alone (without_style (FragmentStart name))) q
+
+-- nodes without children before results: they have a result, their nodes precede, and no part of a table is among them
+alone-filled : (ns : List RenderNode) (r : Result) (rs : List Result) → is_filled (all_alone ns ++ r ∷ rs) ≡ true
+alone-filled [] r rs = refl
+alone-filled (n ∷ ns) r rs = refl
+
+alone-beside : (ns : List RenderNode) (rs : List Result) → beside (all_alone ns ++ rs) ≡ followed_by (trees ns) (beside rs)
+alone-beside [] rs = refl
+alone-beside (n ∷ ns) rs = ap (node n none) (alone-beside ns rs)
+
+alone-strays : (ns : List RenderNode) (rs : List Result) → has_stray (all_alone ns ++ rs) ≡ has_stray rs
+alone-strays [] rs = refl
+alone-strays (n ∷ ns) rs = alone-strays ns rs
+
+no-strays : (ns : List RenderNode) → has_stray (all_alone ns) ≡ false
+no-strays [] = refl
+no-strays (n ∷ ns) = no-strays ns
+
+-- a result beside what an element inserts, in a container
+abbrev in_container : Element → Result → Result
+in_container e r = record (alone (without_style Container)) {
+  has_children = true;
+  is_stray = r.is_stray;
+  below = filled 0 (insertion_of e) (node r.node r.below none);
+}
+
+container-inserted : (e : Element) (r : Result) → in_container e (with_role role.Contents r) ≡ inserted None e (with_role role.Contents r)
+container-inserted e r = λ i. record (alone (without_style Container)) {
+  has_children = sym (alone-filled (insertion_of e).front (with_role role.Contents r) (all_alone (insertion_of e).back)) i;
+  is_stray = strays i;
+  below = sym (alone-beside (insertion_of e).front (with_role role.Contents r ∷ all_alone (insertion_of e).back)) i;
+}
+  where
+    strays : r.is_stray ≡ has_stray (all_alone (insertion_of e).front ++ with_role role.Contents r ∷ all_alone (insertion_of e).back)
+    strays =
+        sym (alone-strays (insertion_of e).front (with_role role.Contents r ∷ all_alone (insertion_of e).back)
+        ∙ ap (λ b. (r.is_stray || false) || b) (no-strays (insertion_of e).back) ∙ or-false (r.is_stray || false) ∙ or-false r.is_stray)
 
 -- an element that becomes nothing leaves its mark
 left-comes : (e : Element) (v has_captions : Bool) (c : Closed) (r : Result) (p q : OpenIn) → (v ≡ true → p ≡ q) →
@@ -146,17 +183,20 @@ module _ (e : Element) (ps : List Open) (rs : List Result) where
     container f = container_in (record e { if_empty = f }) (without_style Container) q
 
     stands : (f : IfEmpty) → closed_once (outside (q.element ∷ ps) (come (Some (closed_result inside)) (container f)))
-        ≡ Some (outside ps (come (if vanishes f true then mark_left e.texts.mark else Some (closed_result (inserted None e inside))) q))
+        ≡ Some (outside ps (come (if vanishes f true then mark_left e.texts.mark else Some (closed_result (in_container e inside))) q))
     stands f =
         ap (λ w. closed_once (outside (q.element ∷ ps) w)) (contents-come inside (container f))
         ∙ holder-left (open_kind.Node Any) refl (inside ∷ []) (without_style Container) f e.texts.mark (insertion_of e) true q ps
         ∙ ap (λ x. Some (outside ps (come (if vanishes f true then mark_left e.texts.mark else Some (closed_result x)) q))) (simp or-false)
 
+    comes : come (Some (closed_result (in_container e inside))) q ≡ all_come (inserted None e inside ∷ []) q
+    comes = contents-come (in_container e inside) q ∙ ap (λ r. all_come (r ∷ []) q) (container-inserted e inside)
+
     beside-left : (f : IfEmpty) (b : Bool) → (not (inserts e) || holds_insertions kind) ≡ false →
         closed_once (outside (q.element ∷ ps) (come (if vanishes f b then mark_left None else Some (closed_result inside)) (container f)))
         ≡ Some (outside ps (all_come (option_to_list (left_of (of_kind e (element.Node kind)) (vanishes f b) false inside)) q))
-    beside-left Stands b h = stands Stands ∙ rw h (ap (λ w. Some (outside ps w)) (contents-come (inserted None e inside) q))
-    beside-left Vanishes true h = stands Vanishes ∙ rw h (ap (λ w. Some (outside ps w)) (contents-come (inserted None e inside) q))
+    beside-left Stands b h = stands Stands ∙ rw h (ap (λ w. Some (outside ps w)) comes)
+    beside-left Vanishes true h = stands Vanishes ∙ rw h (ap (λ w. Some (outside ps w)) comes)
     beside-left Vanishes false h =
         ap (λ w. closed_once (outside (q.element ∷ ps) w)) (sym (none-come (container Vanishes)))
         ∙ holder-left (open_kind.Node Any) refl [] (without_style Container) Vanishes e.texts.mark (insertion_of e) true q ps

@@ -15,9 +15,9 @@ use Rattle.html_render_layout_nodes.specs.laws.Preorder.{flatten-followed_by}
 use Rattle.html_render_layout_nodes.specs.laws.Splits.{followed_by-none, followed_by-followed_by}
 use Rattle.html_render_layout_nodes.specs.declared.tree.NodeKind.TheVariants.{Block}
 use Rattle.html_render_layout_nodes.specs.declared.tree.RenderNode.{RenderNode}
-use Rattle.html_render_tree_convert.specs.Results.{Nodes, Role, Result, any_stray, beside, cell_of, has_stray, row_of, spans_of}
+use Rattle.html_render_tree_convert.specs.Results.{Role, Result, any_stray, beside, cell_of, has_stray, row_of, spans_of}
 use Rattle.html_render_tree_convert.specs.Results as role
-use Rattle.html_render_tree_convert.specs.Held.{Entries, Held, Insertion, due_of, leaf, nothing, nothing_held, sized}
+use Rattle.html_render_tree_convert.specs.Held.{Entries, Held, Insertion, Nodes, due_of, leaf, nothing, nothing_held, sized}
 use Rattle.html_render_tree_convert.specs.OpenElements.{OpenIn}
 use Rattle.html_render_tree_convert.specs.declared.elements.Open.{Open}
 use Rattle.html_render_tree_convert.specs.declared.elements.OpenKind.{OpenKind}
@@ -145,8 +145,8 @@ all_come-append xs ys q = by q.element.kind
   where
     by : (k : OpenKind) → all_come ys (all_come xs (at k q)) ≡ all_come (xs ++ ys) (at k q)
     by (open_kind.Parts spans) = simp (appends, due-twice (open_kind.Parts spans), due-once (open_kind.Parts spans))
-    by (open_kind.Rows rows) = simp (appends, due-twice (open_kind.Rows rows), due-once (open_kind.Rows rows))
-    by (open_kind.Row cells) = simp (appends, due-twice (open_kind.Row cells), due-once (open_kind.Row cells))
+    by (open_kind.Rows rows) = simp (append_assoc, due-once (open_kind.Rows rows)) (simp (appends, due-twice (open_kind.Rows rows)))
+    by (open_kind.Row cells) = simp (append_assoc, due-once (open_kind.Row cells)) (simp (appends, due-twice (open_kind.Row cells)))
     by k = simp (appends, flatten-followed_by)
 
 -- ---- one result

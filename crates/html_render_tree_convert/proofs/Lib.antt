@@ -1,6 +1,7 @@
 pub mod Numbers
 pub mod Styles
 pub mod Titles
+pub mod Drawings
 pub mod Entries
 pub mod Coming
 pub mod Closing

@@ -79,13 +79,33 @@ close-run {ev} {os} runs s leaves q ps h es =
 
 -- ---- an element
 
+-- what an element makes of the results of its children
+of_table : (f : (captions others : List Result) → Option (Option Result)) (captions others feet : Option (List Result)) →
+    (option_map (kept open_kind.Captions) captions >>= λ c. both others feet >>= f c)
+    ≡ ◌>>=◌ {A = List Result × List Result} (do
+      c ← captions
+      o ← others
+      l ← feet
+      Some (kept open_kind.Captions c, o ++ l)) (λ children. f children.0 children.1)
+of_table f None others feet = refl
+of_table f (Some c) None feet = refl
+of_table f (Some c) (Some o) None = refl
+of_table f (Some c) (Some o) (Some l) = refl
+
+of_all : (f : (captions others : List Result) → Option (Option Result)) (all : Option (List Result)) →
+    (all >>= f []) ≡ ◌>>=◌ {A = List Result × List Result} (option_map (λ others. ([], others)) all) (λ children. f children.0 children.1)
+of_all f None = refl
+of_all f (Some l) = refl
+
 module _ (inside_events : Pick → List Event) (inside : Pick → Option (List Result))
     (runs : (pick : Pick) → Runs (inside_events pick) (inside pick)) (e : Element) (es : List Event) (q : OpenIn) (ps : List Open) where
   table-runs : run ((children_events (element.Part part.Table) inside_events ++ Close ∷ []) ++ es) (outside (q.element ∷ ps) (table_begun e q ps))
       ≡ run_after es q ps (as_list (over_children (table e q ps) inside))
   table-runs =
       ap (λ l. run l (outside (q.element ∷ ps) (table_begun e q ps))) (regroup (inside_events Captions) others)
-      ∙ (runs Captions).after (Parts ∷ ((others ++ Close ∷ []) ++ es)) (table_begun e q ps) (q.element ∷ ps) ∙ by (inside Captions)
+      ∙ (runs Captions).after (Parts ∷ ((others ++ Close ∷ []) ++ es)) (table_begun e q ps) (q.element ∷ ps)
+      ∙ by (inside Captions)
+      ∙ ap (λ m. run_after es q ps (as_list m)) (of_table (made (table e q ps)) (inside Captions) (inside Others) (inside Feet))
     where
       others : List Event
       others = inside_events Others ++ inside_events Feet
@@ -104,7 +124,9 @@ module _ (inside_events : Pick → List Event) (inside : Pick → Option (List R
   element-runs : (k : ElementKind) → run ((children_events k inside_events ++ Close ∷ []) ++ es) (begun k (of_kind e k) (outside ps q))
       ≡ run_after es q ps (as_list (over_children (of_kind e k) inside))
   element-runs (element.Part part.Table) = table-runs
-  element-runs k = close-run (runs All) (begun k (of_kind e k) (outside ps q)) (made (of_kind e k) []) q ps (λ rs. closes e ps rs k refl q) es
+  element-runs k =
+      close-run (runs All) (begun k (of_kind e k) (outside ps q)) (made (of_kind e k) []) q ps (λ rs. closes e ps rs k refl q) es
+      ∙ ap (λ m. run_after es q ps (as_list m)) (of_all (made (of_kind e k)) (inside All))
 
 -- ---- a node
 

@@ -1,5 +1,6 @@
 -- Nodes in pre-order, and what an open element has still to write.
 use Rattle.std.specs.Prelude.{ℕ, ◌+◌, List, [], ◌∷◌, ◌++◌, length, map, Option, Some, None}
+use Rattle.html_render_dom_values.specs.Forest.{Forest}
 use Rattle.html_render_layout_nodes.specs.declared.tree.Entry.{Entry}
 use Rattle.html_render_layout_nodes.specs.declared.tree.NodeKind.{NodeKind}
 use Rattle.html_render_layout_nodes.specs.declared.tree.NodeKind.TheVariants.{Text}
@@ -9,6 +10,9 @@ use Rattle.html_render_tree_convert.specs.declared.due.DueParts.{DueParts}
 use Rattle.html_render_tree_convert.specs.declared.due.InsertedNodes.{InsertedNodes}
 
 -- ---- entries
+
+abbrev pub Nodes : Type 0
+Nodes = Forest RenderNode
 
 -- nodes in pre-order
 abbrev pub Entries : Type 0

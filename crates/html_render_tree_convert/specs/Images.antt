@@ -1,8 +1,7 @@
 -- What an image and a drawing are called, and where an image lies.
 use Rattle.std.specs.Prelude.{ℕ, not, ◌&&◌, Bool, true, false, List, [], ◌∷◌, ◌++◌, codes, if◌then◌else◌}
 use Rattle.std.specs.Str.{bytes_eq}
-use Rattle.html_render_dom_nodes.specs.Content.{Property, Space, svg, Content, text, element}
-use Rattle.html_render_dom.specs.Dom.{is_element}
+use Rattle.html_render_dom_nodes.specs.Content.{Name, Property, Space, svg, Content, text, element}
 use Rattle.html_render_dom_values.specs.Forest.{Forest, none, node}
 use Rattle.html_render_dom_styles.specs.Selectors.{is_filled}
 use Rattle.html_render_layout_nodes.specs.declared.tree.ImageParts.{ImageParts}
@@ -28,31 +27,26 @@ image_parts properties = read_all properties (record { source = []; title = [] }
 
 -- ---- drawings
 
--- the contents of a text; those of any other node are empty here
-abbrev pub text_in : Content → List ℕ
-text_in (text contents) = contents
-text_in _ = []
-
 -- the texts that are roots of these trees, joined
 abbrev pub direct_texts : Forest Content → List ℕ
 direct_texts none = []
-direct_texts (node content below beside) = text_in content ++ direct_texts beside
+direct_texts (node (text contents) below beside) = contents ++ direct_texts beside
+direct_texts (node content below beside) = direct_texts beside
 
 abbrev pub is_svg : Space → Bool
 is_svg svg = true
 is_svg _ = false
 
--- whether a node is a `title` of SVG
-abbrev pub is_title : Content → Bool
-is_title (element name properties template_contents integration_point) = is_svg name.space && bytes_eq name.local (codes "title")
-is_title _ = false
+-- whether an element of this name is a `title` of SVG
+abbrev pub is_title : Name → Bool
+is_title name = is_svg name.space && bytes_eq name.local (codes "title")
 
 -- the trees in the last of the titles before any other element, and those in the title found before where there is none
 abbrev pub in_last_title : (found : Forest Content) → Forest Content → Forest Content
 in_last_title found none = found
-in_last_title found (node content below beside) =
-    if is_title content then in_last_title below beside
-    else if is_element content then found else in_last_title found beside
+in_last_title found (node (element name properties template_contents integration_point) below beside) =
+    if is_title name then in_last_title below beside else found
+in_last_title found (node content below beside) = in_last_title found beside
 
 -- THE TITLE of a drawing over these trees
 abbrev pub drawing_title : Forest Content → List ℕ

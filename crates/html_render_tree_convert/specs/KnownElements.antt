@@ -5,9 +5,18 @@ use Rattle.std.specs.Option.{option_map_or}
 use Rattle.html_render_dom.specs.Applying.{style_by}
 use Rattle.html_render_dom.specs.ElementStyle.{style_of}
 use Rattle.html_render_dom.specs.declared.style.computed.ComputedStyle.{ComputedStyle}
+use Rattle.html_render_layout_nodes.specs.RenderNodes.{no_style}
+use Rattle.html_render_layout_nodes.specs.declared.tree.NodeKind.TheVariants.{Container}
+use Rattle.html_render_tree_convert.specs.ElementTexts.{no_texts}
 use Rattle.html_render_tree_convert.specs.Plans.{element_of}
+use Rattle.html_render_tree_convert.specs.declared.mapping.ElementKind.TheVariants.{Node}
+use Rattle.html_render_tree_convert.specs.declared.mapping.IfEmpty.TheVariants.{Stands}
 use Rattle.html_render_tree_convert.specs.declared.plans.Element.{Element}
 use Rattle.html_render_tree_convert.specs.declared.plans.KnownElement.{KnownElement}
+
+-- the document's node
+abbrev pub document_element : Element
+document_element = record { kind = Node Container; style = no_style; if_empty = Stands; texts = no_texts }
 
 -- a style; the style without any declaration where there is none
 abbrev pub known_style : Option (Bor ComputedStyle) → ComputedStyle

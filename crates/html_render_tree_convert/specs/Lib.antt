@@ -1,5 +1,6 @@
 -- what becomes of each element
 pub mod Images
+pub mod Drawings
 pub mod Marks
 pub mod Tables
 pub mod Conversion

@@ -1,12 +1,14 @@
 -- What becomes of a node of a document, its children aside, and the nodes that an element inserts.
-use Rattle.std.specs.Prelude.{ℕ, Bool, true, false, List, ◌++◌, Option, Some, None, is_some, option_map, option_to_list, if◌then◌else◌}
+use Rattle.std.specs.Prelude.{ℕ, Bool, true, false, List, [], ◌++◌, Option, None, is_some, option_map, option_to_list, if◌then◌else◌}
+use Rattle.std.specs.Option.{option_map_or}
 use Rattle.html_render_dom_values.specs.Forest.{Forest}
 use Rattle.html_render_dom_styles.specs.Cascade.{value_of}
 use Rattle.html_render_dom_styles.specs.Rules.{Rule as StyleRule}
-use Rattle.html_render_dom_nodes.specs.Content.{Content, document, doctype, text, comment, element, instruction}
+use Rattle.html_render_dom_nodes.specs.Content.{Content, document, text, element}
 use Rattle.html_render_dom.specs.Dom.{Dom, content_at, children_at, trees_of}
 use Rattle.html_render_dom.specs.declared.style.computed.ComputedStyle.{ComputedStyle}
-use Rattle.html_render_layout_nodes.specs.RenderNodes.{no_style, without_style}
+use Rattle.html_render_dom.specs.ElementStyle.{element_style}
+use Rattle.html_render_layout_nodes.specs.RenderNodes.{without_style}
 use Rattle.html_render_layout_nodes.specs.declared.tree.NodeKind.{NodeKind}
 use Rattle.html_render_layout_nodes.specs.declared.tree.NodeKind.TheVariants.{Text, Container, FragmentStart}
 use Rattle.html_render_layout_nodes.specs.declared.tree.RenderNode.{RenderNode}
@@ -22,12 +24,7 @@ use Rattle.html_render_tree_convert.specs.declared.plans.Element.{Element}
 use Rattle.html_render_tree_convert.specs.declared.plans.ElementTexts.{ElementTexts}
 use Rattle.html_render_tree_convert.specs.declared.plans.Plan.{Plan}
 use Rattle.html_render_tree_convert.specs.declared.plans.Plan.TheVariants.{Nothing, Alone, Over}
-use Rattle.html_render_tree_convert.specs.ElementTexts.{has_any, no_texts}
-
--- mark of an element whose children aren't converted
-abbrev pub mark_plan : (mark : Option (List ℕ)) → Plan
-mark_plan None = Nothing
-mark_plan (Some name) = Alone (without_style (FragmentStart name))
+use Rattle.html_render_tree_convert.specs.ElementTexts.{has_any}
 
 -- texts that an element inserts under its style
 abbrev pub texts_of : (mark : Option (List ℕ)) → ComputedStyle → ElementTexts
@@ -37,32 +34,22 @@ texts_of mark style = record { mark = mark; before = value_of style.content_befo
 abbrev pub element_of : ElementKind → IfEmpty → (mark : Option (List ℕ)) → ComputedStyle → Element
 element_of kind if_empty mark style = record { kind = kind; style = node_style style; if_empty = if_empty; texts = texts_of mark style }
 
--- plan of an element that is displayed
+-- plan of an element that is displayed; its mark alone if its children aren't converted
 abbrev pub displayed_plan : Mapping → (mark : Option (List ℕ)) → ComputedStyle → Plan
-displayed_plan mapping.Nothing mark style = mark_plan mark
+displayed_plan mapping.Nothing mark style = option_map_or (λ name. Alone (without_style (FragmentStart name))) mark Nothing
 displayed_plan (mapping.Leaf kind) mark style = Over (element_of (Node kind) Stands mark style) false
 displayed_plan (mapping.Parent kind if_empty) mark style = Over (element_of kind if_empty mark style) true
 
 abbrev pub element_plan : Mapping → (mark : Option (List ℕ)) → ComputedStyle → Plan
 element_plan m mark style = if is_some style.display then Nothing else displayed_plan m mark style
 
--- element without a style that inserts nothing
-abbrev pub plain_element : ElementKind → IfEmpty → Element
-plain_element kind if_empty = record { kind = kind; style = no_style; if_empty = if_empty; texts = no_texts }
-
--- the document's node
-abbrev pub document_element : Element
-document_element = plain_element (Node Container) Stands
-
--- PLAN of a node over its children
+-- PLAN of a node over its children; the document is a container without a style
 abbrev pub plan_of : List StyleRule → Content → (children : Forest Content) → Plan
-plan_of rules document children = Over document_element true
+plan_of rules document children = Over (element_of (Node Container) Stands None (element_style [] [] [])) true
 plan_of rules (text contents) children = Alone (without_style (Text contents))
 plan_of rules (element name properties template_contents integration_point) children =
     element_plan (element_mapping name.space name.local properties children) (mark_of name properties) (own_style rules name properties)
-plan_of rules (doctype name public_id system_id) children = Nothing
-plan_of rules (comment contents) children = Nothing
-plan_of rules (instruction target contents) children = Nothing
+plan_of rules content children = Nothing
 
 -- plan of a node of a DOM
 abbrev pub plan_at : List StyleRule → Dom → (node : ℕ) → Plan

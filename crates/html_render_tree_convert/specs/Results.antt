@@ -31,11 +31,9 @@ use Rattle.html_render_tree_convert.specs.declared.plans.Plan.{Plan}
 use Rattle.html_render_tree_convert.specs.declared.plans.Plan.TheVariants as plan
 use Rattle.html_render_tree_convert.specs.declared.tables.Part.TheVariants as part
 use Rattle.html_render_tree_convert.specs.Conversion.{is_blank, vanishes}
-use Rattle.html_render_tree_convert.specs.Plans.{inserts, insertion_of, plan_of}
+use Rattle.html_render_tree_convert.specs.ElementTexts.{has_any}
+use Rattle.html_render_tree_convert.specs.Plans.{insertion_of, plan_of}
 use Rattle.html_render_parts.specs.Spans.{greatest_width, spanned_in}
-
-abbrev pub Nodes : Type 0
-Nodes = Forest RenderNode
 
 -- ---- results
 
@@ -46,15 +44,15 @@ pub record Result : Type 0 where
   pub node : RenderNode
   pub has_children : Bool
   pub is_stray : Bool
-  pub below : Nodes
+  pub below : Forest RenderNode
 
 -- the nodes of a result: of rows those below, of any other its node over those below
-abbrev pub nodes_of : Role → RenderNode → (below : Nodes) → Nodes
+abbrev pub nodes_of : Role → RenderNode → (below : Forest RenderNode) → Forest RenderNode
 nodes_of (Rows rows) n below = below
 nodes_of _ n below = node n below none
 
 -- the nodes of results, one after another
-abbrev pub beside : List Result → Nodes
+abbrev pub beside : List Result → Forest RenderNode
 beside [] = none
 beside (r ∷ rs) = followed_by (nodes_of r.role r.node r.below) (beside rs)
 
@@ -146,14 +144,12 @@ keeps Dl Dd = true
 keeps Dl child = false
 keeps _ child = true
 
--- whether a node shows nothing, as far as is seen without going into its children
+-- whether a node shows nothing, as far as is seen without going into its children: its text is blank, or it has no children; a table
+-- always has some
 abbrev pub shows_nothing : NodeKind → (has_children : Bool) → Bool
 shows_nothing (Text contents) has_children = is_blank contents
-shows_nothing Break has_children = true
 shows_nothing (Image image) has_children = is_blank image.title
 shows_nothing (Svg title) has_children = is_blank title
-shows_nothing (FragmentStart name) has_children = true
-shows_nothing (Table grid) has_children = false
 shows_nothing _ has_children = not has_children
 
 -- a link counts what shows something, and any other node all
@@ -193,38 +189,31 @@ level_in (Part part.Body) has_texts has_captions = Some 2
 level_in (Part part.Row) has_texts has_captions = Some 1
 level_in (Part _) has_texts has_captions = Some 0
 
--- nodes without children beside each other
-abbrev pub trees : List RenderNode → Nodes
-trees [] = none
-trees (n ∷ ns) = node n none (trees ns)
-
 -- nodes before and after those that are so many levels down in the first of some trees; where there is no such tree they are lost
-abbrev pub in_first : (level : ℕ) → (front back : Nodes) → Nodes → Nodes
+abbrev pub in_first : (level : ℕ) → (front back : Forest RenderNode) → Forest RenderNode → Forest RenderNode
 in_first zero front back t = followed_by front (followed_by t back)
 in_first (suc level) front back none = none
 in_first (suc level) front back (node n children others) = node n (in_first level front back children) others
 
--- a node without children
+-- nodes without children
 abbrev pub alone : RenderNode → Result
 alone n = record { role = Contents; node = n; has_children = false; is_stray = false; below = none }
+
+abbrev pub all_alone : List RenderNode → List Result
+all_alone = map alone
 
 -- a result with what an element inserts
 abbrev pub inserted : (level : Option ℕ) → Element → Result → Result
 inserted (Some level) e r =
     let i = insertion_of e in
-    record r { has_children = (level == 0 && inserts e) || r.has_children; below = in_first level (trees i.front) (trees i.back) r.below }
-inserted None e r =
-    let i = insertion_of e in
-    record (alone (without_style Container)) {
-      has_children = true;
-      is_stray = r.is_stray;
-      below = followed_by (trees i.front) (node r.node r.below (trees i.back));
-    }
+    let below = in_first level (beside (all_alone i.front)) (beside (all_alone i.back)) r.below in
+    record r { has_children = (level == 0 && has_any e.texts) || r.has_children; below = below }
+inserted None e r = let i = insertion_of e in over no_style Container (all_alone i.front ++ r ∷ all_alone i.back)
 
 -- the result that an element leaves, with what it inserts; its mark where it becomes nothing
 abbrev pub left_of : Element → (is_nothing has_captions : Bool) → Result → Option Result
 left_of e true has_captions r = option_map (λ name. alone (without_style (FragmentStart name))) e.texts.mark
-left_of e false has_captions r = Some (inserted (level_in e.kind (inserts e) has_captions) e r)
+left_of e false has_captions r = Some (inserted (level_in e.kind (has_any e.texts) has_captions) e r)
 
 -- ---- documents
 
@@ -235,22 +224,16 @@ made e captions others =
 
 -- an element's captions, and the results of its other children, of which a table's feet come last; `inside` has the results of
 -- the children of each pick
-abbrev pub captions_in : ElementKind → (inside : Pick → Option (List Result)) → Option (List Result)
-captions_in (Part part.Table) inside = option_map (of_role is_caption) (inside Captions)
-captions_in _ inside = Some []
-
-abbrev pub others_in : ElementKind → (inside : Pick → Option (List Result)) → Option (List Result)
-others_in (Part part.Table) inside = do
+abbrev pub children_in : ElementKind → (inside : Pick → Option (List Result)) → Option (List Result × List Result)
+children_in (Part part.Table) inside = do
+  captions ← inside Captions
   others ← inside Others
   feet ← inside Feet
-  Some (others ++ feet)
-others_in _ inside = inside All
+  Some (of_role is_caption captions, others ++ feet)
+children_in _ inside = option_map (λ others. ([], others)) (inside All)
 
 abbrev pub over_children : Element → (inside : Pick → Option (List Result)) → Option (Option Result)
-over_children e inside = do
-  captions ← captions_in e.kind inside
-  others ← others_in e.kind inside
-  made e captions others
+over_children e inside = children_in e.kind inside >>= λ children. made e children.0 children.1
 
 -- what a node becomes, by its plan
 abbrev pub result_of : Plan → (inside : Pick → Option (List Result)) → Option (Option Result)
@@ -268,7 +251,7 @@ results rules (node content children others) pick = do
   Some (option_to_list r ++ rest)
 
 -- THE RENDER TREE of a document; none where a table has no grid, or a part of a table is in none
-abbrev pub render_tree_of : List StyleRule → Dom → Option Nodes
+abbrev pub render_tree_of : List StyleRule → Dom → Option (Forest RenderNode)
 render_tree_of rules dom = do
   rs ← results rules (tree_of dom 0) All
   if has_stray rs then None else Some (beside rs)

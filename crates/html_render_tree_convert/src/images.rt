@@ -5,7 +5,8 @@ ghost use Rattle.html_render_dom_values.specs.Outcome.{OnlyOutOfMemory};
 ghost use Rattle.html_render_dom_nodes.specs.Content.{content_of, property_of};
 ghost use Rattle.html_render_dom.specs.Dom.{IsForest, IsNode, below, children_at, node_count, trees_of};
 ghost use Rattle.html_render_dom_values.specs.Forest.{none};
-ghost use Rattle.html_render_tree_convert.specs.Images.{read, image_parts, is_title, text_in, direct_texts, in_last_title, drawing_title};
+ghost use Rattle.html_render_tree_convert.specs.Images.{read, image_parts, direct_texts, in_last_title, drawing_title};
+ghost use Rattle.html_render_tree_convert.specs.Drawings.{is_title_node, text_in};
 
 use html_render_dom::Error;
 use html_render_dom::dom::{Attribute, Handle, Namespace, NodeData, RcDom};
@@ -47,7 +48,7 @@ pub fn image_parts(attributes: &[Attribute]) -> (&str, &str)
 
 /// Reports whether a node is a `title` of SVG.
 fn is_title(node: &NodeData) -> bool
-    ensures { result ≡ is_title (content_of node.now) }
+    ensures { result ≡ is_title_node (content_of node.now) }
 {
     match node {
         NodeData::Element { name, .. } => match name.ns {
@@ -59,6 +60,7 @@ fn is_title(node: &NodeData) -> bool
 }
 
 /// Returns the last of the titles in a node that come before any other element.
+#[tactic(auto, using(crate::proofs::Drawings::children))]
 fn last_title(dom: &RcDom, node: Handle) -> Option<Handle>
     requires { IsNode dom.now node }
     ensures node { IfSome result (IsNode dom.now) }
@@ -87,6 +89,7 @@ fn text_in(node: &NodeData) -> &str
 }
 
 /// Returns the texts that are children of a node, joined.
+#[tactic(auto, using(crate::proofs::Drawings::children))]
 fn direct_texts(alloc: Global, dom: &RcDom, node: Handle) -> Result<String, AllocError>
     requires { IsNode dom.now node }
     ensures { IfOk result (λ texts. string_bytes texts ≡ direct_texts (trees_of dom.now (children_at dom.now node))) }

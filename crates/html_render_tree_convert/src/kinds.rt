@@ -53,7 +53,8 @@ fn is_blank(text: &str) -> bool
     text.trim().is_empty()
 }
 
-/// Reports whether a node shows nothing, as far as is seen without going into its children.
+/// Reports whether a node shows nothing, as far as is seen without going into its children: its text is blank, or it has no
+/// children. A table always has some.
 #[inline(never)]
 pub fn shows_nothing(kind: &NodeKind, has_children: bool) -> bool
     ensures { result ≡ shows_nothing kind.now has_children }
@@ -62,8 +63,6 @@ pub fn shows_nothing(kind: &NodeKind, has_children: bool) -> bool
         NodeKind::Text(text) => is_blank(text.as_str()),
         NodeKind::Image(image) => is_blank(image.title().as_str()),
         NodeKind::Svg(title) => is_blank(title.as_str()),
-        NodeKind::Break | NodeKind::FragmentStart(_) => true,
-        NodeKind::Table(_) => false,
         _ => !has_children,
     }
 }

@@ -2,6 +2,7 @@
 
 ghost use Rattle.std.specs.Prelude.{◌≡◌, [], false, true, List, None, IfOk, IfSome, map, option_copied};
 ghost use Rattle.std.specs.Bool.{OnTrue};
+ghost use Rattle.std.specs.Option.{option_map_or};
 ghost use Rattle.html_render_dom_values.specs.Forest.{Forest};
 ghost use Rattle.html_render_dom_values.specs.Outcome.{OnlyOutOfMemory};
 ghost use Rattle.html_render_dom_nodes.specs.Content.{Content, name_of, property_of, space_of};
@@ -14,8 +15,8 @@ ghost use Rattle.html_render_layout_nodes.specs.RenderNodes.{without_style};
 ghost use Rattle.html_render_tree_convert.specs.Conversion.{element_mapping, is_preformatted, node_style, own_style};
 ghost use Rattle.html_render_tree_convert.specs.ElementTexts.{has_any, no_texts};
 ghost use Rattle.html_render_tree_convert.specs.Marks.{mark_of};
-ghost use Rattle.html_render_tree_convert.specs.Plans.{displayed_plan, document_element, element_plan, mark_plan, plan_at, texts_of};
-ghost use Rattle.html_render_tree_convert.specs.KnownElements.{known_element, known_style};
+ghost use Rattle.html_render_tree_convert.specs.Plans.{displayed_plan, element_plan, plan_at, texts_of};
+ghost use Rattle.html_render_tree_convert.specs.KnownElements.{document_element, known_element, known_style};
 
 use crate::attributes::mark_of;
 use crate::mapping::{
@@ -106,7 +107,7 @@ pub enum Plan {
 
 /// Returns the plan of an element that becomes nothing: its mark is left.
 fn mark_plan(mark: Option<NodeText>) -> Plan
-    ensures { result ≡ mark_plan mark }
+    ensures { result ≡ option_map_or (λ name. Plan.Alone (without_style (NodeKind.FragmentStart name))) mark Plan.Nothing }
 {
     match mark {
         Some(name) => Plan::Alone(RenderNode::from(NodeKind::FragmentStart(name))),

@@ -10,7 +10,8 @@ use Rattle.html_render_parts.specs.declared.table.cells.GridCell.{GridCell}
 use Rattle.html_render_parts.specs.declared.table.placement.PositionedCell.{PositionedCell}
 use Rattle.html_render_layout_nodes.specs.declared.tree.NodeKind.{NodeKind}
 use Rattle.html_render_layout_nodes.specs.declared.tree.NodeKind.TheVariants.{Table, TableRow, TableCell}
-use Rattle.html_render_tree_convert.specs.Results.{Nodes, in_first}
+use Rattle.html_render_tree_convert.specs.Results.{in_first}
+use Rattle.html_render_tree_convert.specs.Held.{Nodes}
 use Rattle.html_render_tree.specs.GoodTrees.{TreePlace, Anywhere, Nowhere, InTable, InRow, is_leaf, places_around, are_good_below, are_good}
 
 -- two tests, each of which follows from another

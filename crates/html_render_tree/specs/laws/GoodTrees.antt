@@ -28,15 +28,17 @@ use Rattle.html_render_tree_convert.specs.declared.plans.Element.{Element}
 use Rattle.html_render_tree_convert.specs.declared.plans.Plan.{Plan}
 use Rattle.html_render_tree_convert.specs.declared.plans.Plan.TheVariants as plan
 use Rattle.html_render_tree_convert.specs.declared.tables.Part.TheVariants as part
-use Rattle.html_render_tree_convert.specs.Plans.{inserts, plan_of, insertion_of, text_nodes, displayed_plan, mark_plan}
-use Rattle.html_render_tree_convert.specs.Results.{Nodes, Result, beside, nodes_of, of_role, stands_alone}
+use Rattle.html_render_tree_convert.specs.Plans.{inserts, plan_of, insertion_of, text_nodes, displayed_plan}
+use Rattle.html_render_tree_convert.specs.Held.{Nodes}
+use Rattle.html_render_tree_convert.specs.Results.{Result, beside, nodes_of, of_role, stands_alone}
 use Rattle.html_render_tree_convert.specs.Results.{is_caption, any_stray, has_stray, are_rows, cell_of, row_of, spans_of, table_over, captioned}
-use Rattle.html_render_tree_convert.specs.Results.{keeps, built, captions_in, is_nothing, left_of, level_in, made, others_in, over, over_children}
-use Rattle.html_render_tree_convert.specs.Results.{result_of, results, render_tree_of, alone, trees, inserted}
+use Rattle.html_render_tree_convert.specs.Results.{keeps, built, children_in, is_nothing, left_of, level_in, made, over, over_children}
+use Rattle.html_render_tree_convert.specs.Results.{result_of, results, render_tree_of, all_alone, alone, inserted}
 use Rattle.html_render_tree.specs.GoodTrees.{TreePlace, Anywhere, InTable, InRow, is_leaf, is_over, are_good, places_around, are_good_below}
 use Rattle.html_render_tree.specs.laws.GoodPlaces.{cells_like, rows_like, own_rows-alike, rows-good-same, spanned_in-alike, followed-anywhere}
 use Rattle.html_render_tree.specs.laws.GoodPlaces.{followed-rows, into_cell-good, into_row-good, between-good}
 use Rattle.std.specs.List.{list_any, AllByRecursion}
+use Rattle.std.specs.Option.{option_map_or}
 use Rattle.html_render_layout_nodes.specs.laws.Splits.{followed_by-none}
 use Rattle.html_render_layout_nodes.specs.Kinds.{holds_insertions}
 use Rattle.html_render_dom.specs.declared.style.computed.ComputedStyle.{ComputedStyle}
@@ -210,7 +212,7 @@ module _ (mark : Option (List ℕ)) (style : ComputedStyle) where
   fits-if false x y = refl
 
   fits-nothing : fits Nothing ≡ true
-  fits-nothing = elim mark as (λ m. is_good_plan (mark_plan m) ≡ true) [ None ↦ refl | Some name ↦ refl ]
+  fits-nothing = elim mark as (λ m. is_good_plan (option_map_or (λ name. plan.Alone (without_style (FragmentStart name))) m plan.Nothing) ≡ true) [ None ↦ refl | Some name ↦ refl ]
 
   fits-link : (target : Option (List ℕ)) → fits (link_mapping target) ≡ true
   fits-link None = refl
@@ -232,17 +234,22 @@ plan-good rules content below = refl
 
 -- ---- what is inserted
 
-front-good : (mark before : Option (List ℕ)) → are_good Anywhere (trees (text_nodes FragmentStart mark ++ text_nodes Text before)) ≡ true
-front-good None None = refl
-front-good (Some name) None = refl
-front-good mark before = refl
+front-good : (mark before : Option (List ℕ)) → AllGood (all_alone (text_nodes FragmentStart mark ++ text_nodes Text before))
+front-good None None = tt
+front-good (Some name) None = (λ s. refl, tt)
+front-good None (Some text) = (λ s. refl, tt)
+front-good (Some name) (Some text) = (λ s. refl, (λ s. refl, tt))
 
-back-good : (after : Option (List ℕ)) → are_good Anywhere (trees (text_nodes Text after)) ≡ true
-back-good None = refl
-back-good after = refl
+back-good : (after : Option (List ℕ)) → AllGood (all_alone (text_nodes Text after))
+back-good None = tt
+back-good (Some text) = (λ s. refl, tt)
+
+alone-strays : (ns : List RenderNode) → has_stray (all_alone ns) ≡ false
+alone-strays [] = refl
+alone-strays (n ∷ ns) = alone-strays ns
 
 no-texts : (mark before after : Option (List ℕ)) → (is_some mark || (is_some before || is_some after)) ≡ false → (t : Nodes) →
-    followed_by (trees (text_nodes FragmentStart mark ++ text_nodes Text before)) (followed_by t (trees (text_nodes Text after))) ≡ t
+    followed_by (beside (all_alone (text_nodes FragmentStart mark ++ text_nodes Text before))) (followed_by t (beside (all_alone (text_nodes Text after)))) ≡ t
 no-texts None None None h t = followed_by-none t
 no-texts mark before after h t = cc
 
@@ -255,17 +262,23 @@ grid-alike spans =
     (λ e. own_rows-alike (edges_of (placed_rows spans)) 0 [] spans) (λ e. tt)
 
 module _ (e : Element) where
+  abbrev in_front : List Result
+  in_front = all_alone (insertion_of e).front
+
+  abbrev at_back : List Result
+  at_back = all_alone (insertion_of e).back
+
   abbrev front : Nodes
-  front = trees (insertion_of e).front
+  front = beside in_front
 
   abbrev back : Nodes
-  back = trees (insertion_of e).back
+  back = beside at_back
 
   f : are_good Anywhere front ≡ true
-  f = front-good e.texts.mark e.texts.before
+  f = alone-good in_front (front-good e.texts.mark e.texts.before) (alone-strays (insertion_of e).front)
 
   b : are_good Anywhere back ≡ true
-  b = back-good e.texts.after
+  b = alone-good at_back (back-good e.texts.after) (alone-strays (insertion_of e).back)
 
   -- whether a result is good with what the element inserts as one of a kind
   abbrev IsGoodAs : ElementKind → (has_captions : Bool) → Result → Type 0
@@ -284,10 +297,11 @@ module _ (e : Element) where
 
       by : (has_texts inside : Bool) → inserts e ≡ has_texts → holds_insertions kind ≡ inside →
           IsGoodResult (inserted (if not has_texts || inside then Some 0 else None) e r)
-      by true false x i = λ s.
-          and_from _ _
-          (followed-anywhere front (node r.node r.below back) f
-          (followed-anywhere (node r.node r.below none) back (whole (alone-good rs g s)) b)) refl
+      by true false x i =
+          let all = in_front ++ r ∷ at_back in
+          let good = append-good in_front (r ∷ at_back) (front-good e.texts.mark e.texts.before)
+          (λ s. whole (alone-good rs g s), back-good e.texts.after) in
+          λ s. plain-good (without_style Container) (beside all) none refl (alone-good all good s) refl
       by false false x i = λ s. rw (no-texts e.texts.mark e.texts.before e.texts.after x r.below) (whole (alone-good rs g s))
       by true true x i = within i
       by false true x i = within i
@@ -339,22 +353,22 @@ module _ (e : Element) where
 -- ---- documents
 
 module _ (inside : Pick → Option (List Result)) (g : (pick : Pick) → IfSome (inside pick) AllGood) where
-  captions-good : (kind : ElementKind) → IfSome (captions_in kind inside) (λ rs. AllGood (map as_block rs))
-  captions-good (Part part.Table) = good-map _ _ (inside Captions) (g Captions) blocks-good
-  captions-good kind = tt
+  abbrev AreGood : List Result × List Result → Type 0
+  AreGood children = AllGood (map as_block children.0) × AllGood children.1
 
-  others-good : (kind : ElementKind) → IfSome (others_in kind inside) AllGood
-  others-good (Part part.Table) =
-      good-then _ _ (inside Others) (g Others) (λ others h. good-then _ _ (inside Feet) (g Feet) (λ feet k. append-good others feet h k))
-  others-good kind = g All
+  children-good : (kind : ElementKind) → IfSome (children_in kind inside) AreGood
+  children-good (Part part.Table) =
+      good-then AreGood _ (inside Captions) (g Captions)
+      (λ captions c. good-then AreGood _ (inside Others) (g Others)
+      (λ others h. good-then AreGood _ (inside Feet) (g Feet) (λ feet k. (blocks-good captions c, append-good others feet h k))))
+  children-good kind = good-map AreGood _ (inside All) (g All) (λ others h. (tt, h))
 
   node-good : (p : Plan) → is_good_plan p ≡ true → IfSome (result_of p inside) IsGoodIfAny
   node-good plan.Nothing h = tt
   node-good (plan.Alone n) h = (λ s. h, tt)
   node-good (plan.Over e true) h =
-      good-then _ _ (captions_in e.kind inside) (captions-good e.kind)
-      (λ captions c. good-then _ _ (others_in e.kind inside) (others-good e.kind)
-      (λ others o. made-good e captions others (built-good e e.kind e.style captions others h c o)))
+      good-then _ _ (children_in e.kind inside) (children-good e.kind)
+      (λ c good. made-good e c.0 c.1 (built-good e e.kind e.style c.0 c.1 h good.0 good.1))
   node-good (plan.Over e false) h = by e.kind h
     where
       by : (kind : ElementKind) → is_inner false kind ≡ true → IfSome (over_children (record e { kind = kind }) (λ pick. Some [])) IsGoodIfAny
