@@ -1,5 +1,6 @@
 -- Good trees beside each other, insertions into them, and the numbers of rows and cells of a grid.
-use Rattle.std.proofs.Common.{◌≡◌, ℕ, ◌+◌, ◌-◌, Bool, true, ◌&&◌, if◌then◌else◌, List, [], ◌∷◌, ◌++◌, map, refl, ap, ◌∙◌}
+use Rattle.std.proofs.Common.{◌≡◌, ℕ, ◌+◌, ◌-◌, Bool, true, ◌&&◌, false, if◌then◌else◌, List, [], ◌∷◌, ◌++◌, map, Option, refl, ap, ◌∙◌}
+use Rattle.std.specs.Option.{option_map_or}
 use Rattle.std.proofs.lemmas.Bool.{and_from, and_parts}
 use Rattle.html_render_dom_values.specs.Forest.{none, node, followed_by}
 use Rattle.html_render_parts.specs.Placement.{own_from, own_rows_from, due_end, not_due, hanging}
@@ -12,7 +13,7 @@ use Rattle.html_render_layout_nodes.specs.declared.tree.NodeKind.{NodeKind}
 use Rattle.html_render_layout_nodes.specs.declared.tree.NodeKind.TheVariants.{Table, TableRow, TableCell}
 use Rattle.html_render_tree_convert.specs.Results.{in_first}
 use Rattle.html_render_tree_convert.specs.Held.{Nodes}
-use Rattle.html_render_tree.specs.GoodTrees.{TreePlace, Anywhere, Nowhere, InTable, InRow, is_leaf, places_around, are_good_below, are_good}
+use Rattle.html_render_tree.specs.GoodTrees.{TreePlace, Anywhere, InTable, InRow, is_leaf, places_around, are_good}
 
 -- two tests, each of which follows from another
 and-map : {a b a' b' : Bool} → (a ≡ true → a' ≡ true) → (b ≡ true → b' ≡ true) → (a && b) ≡ true → (a' && b') ≡ true
@@ -54,6 +55,10 @@ own_rows-alike edges row hung (cells ∷ rows) =
 
 -- ---- a first tree and its later siblings
 
+-- whether children and later siblings are good in the places around a node, if it is allowed where it is
+abbrev pub are_good_below : (below beside : TreePlace → Bool) → Option (TreePlace × TreePlace) → Bool
+are_good_below below beside around = option_map_or (λ p. below p.0 && beside p.1) around false
+
 abbrev good_over : TreePlace → NodeKind → (children others : Nodes) → Bool
 good_over place kind children others = are_good_below (λ p. are_good p children) (λ p. are_good p others) (places_around place kind)
 
@@ -63,7 +68,7 @@ at-anywhere : (kind : NodeKind) (t u u' : Nodes) → (are_good Anywhere u ≡ tr
 at-anywhere (Table grid) t u u' outer h = and-map {a = are_good (InTable grid.cells.rows) t} (λ e. e) outer h
 at-anywhere TableRow t u u' outer h = cc
 at-anywhere TableCell t u u' outer h = cc
-at-anywhere kind t u u' outer h = and-map {a = are_good (if is_leaf kind then Nowhere else Anywhere) t} (λ e. e) outer h
+at-anywhere kind t u u' outer h = and-map {a = are_good (if is_leaf kind then InRow [] else Anywhere) t} (λ e. e) outer h
 
 -- in a row the children may be others, and in a table both
 at-row : (kind : NodeKind) (c : GridCell) (cs : List GridCell) (t t' u : Nodes) → (are_good Anywhere t ≡ true → are_good Anywhere t' ≡ true) →

@@ -34,8 +34,8 @@ use Rattle.html_render_tree_convert.specs.Results.{Result, beside, nodes_of, of_
 use Rattle.html_render_tree_convert.specs.Results.{is_caption, any_stray, has_stray, are_rows, cell_of, row_of, spans_of, table_over, captioned}
 use Rattle.html_render_tree_convert.specs.Results.{keeps, built, children_in, is_nothing, left_of, level_in, made, over, over_children}
 use Rattle.html_render_tree_convert.specs.Results.{result_of, results, render_tree_of, all_alone, alone, inserted}
-use Rattle.html_render_tree.specs.GoodTrees.{TreePlace, Anywhere, InTable, InRow, is_leaf, is_over, are_good, places_around, are_good_below}
-use Rattle.html_render_tree.specs.laws.GoodPlaces.{cells_like, rows_like, own_rows-alike, rows-good-same, spanned_in-alike, followed-anywhere}
+use Rattle.html_render_tree.specs.GoodTrees.{TreePlace, Anywhere, InTable, InRow, is_leaf, is_over, are_good, places_around}
+use Rattle.html_render_tree.specs.laws.GoodPlaces.{are_good_below, cells_like, rows_like, own_rows-alike, rows-good-same, spanned_in-alike, followed-anywhere}
 use Rattle.html_render_tree.specs.laws.GoodPlaces.{followed-rows, into_cell-good, into_row-good, between-good}
 use Rattle.std.specs.List.{list_any, AllByRecursion}
 use Rattle.std.specs.Option.{option_map_or}
@@ -55,7 +55,7 @@ as_block r = record r { node = record r.node { kind = Block } }
 
 -- whether a node may have children, and is no table and no part of one
 abbrev IsPlain : NodeKind → Type 0
-IsPlain kind = places_around Anywhere kind ≡ Some (record { below = Anywhere; beside = Anywhere })
+IsPlain kind = places_around Anywhere kind ≡ Some (Anywhere, Anywhere)
 
 -- whether a result is good in the place of its role: its node over the trees below it; of `Rows` the trees alone
 abbrev IsGood : Role → RenderNode → Nodes → Type 0

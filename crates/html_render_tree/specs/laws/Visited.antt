@@ -30,7 +30,8 @@ use Rattle.html_render_parts.specs.Decoration.{Decoration}
 use Rattle.html_render_layout.specs.Layout.{Algebra, Write, Shape, Steps, Around, Items, Cells, digits_of, raised, superscript, block_of, shape_of, style_steps}
 use Rattle.html_render_layout.specs.Layout.{perform_all, block_place, shape_layout, kind_layout, layout_of}
 use Rattle.html_render_layout.specs.Layout.{by_stacks, defined, empty_state, estimated, layout_lines}
-use Rattle.html_render_tree.specs.GoodTrees.{TreePlace, Anywhere, Nowhere, InTable, InRow, is_leaf, places_around, are_good_below, are_good}
+use Rattle.html_render_tree.specs.GoodTrees.{TreePlace, Anywhere, InTable, InRow, is_leaf, places_around, are_good}
+use Rattle.html_render_tree.specs.laws.GoodPlaces.{are_good_below}
 use Rattle.html_render_tree.specs.Visited.{all_nodes, VisitedNode, visits_at, is_raised, leaves_out, with_left_out, left_out, VisitsAllBut}
 
 -- ---- trees whose leaves have no children
@@ -39,7 +40,7 @@ abbrev pub LeavesBare : Forest RenderNode → Type 0
 LeavesBare none = Unit {0}
 LeavesBare (node n children beside) = (is_leaf n.kind ≡ true → children ≡ none) × (LeavesBare children × LeavesBare beside)
 
-nothing-below : (t : Forest RenderNode) → are_good Nowhere t ≡ true → t ≡ none
+nothing-below : (t : Forest RenderNode) → are_good (InRow []) t ≡ true → t ≡ none
 nothing-below none h = refl
 nothing-below (node n children beside) h = cc
 
@@ -57,7 +58,7 @@ record Places_of (p : TreePlace) (kind : NodeKind) (children others : Forest Ren
   beside : TreePlace
   children_good : are_good below children ≡ true
   others_good : are_good beside others ≡ true
-  leaf : is_leaf kind ≡ true → below ≡ Nowhere
+  leaf : is_leaf kind ≡ true → below ≡ InRow []
   row_below : is_row_kind kind ≡ true → is_row_place below ≡ true
   row_beside : is_row_place p ≡ true → is_row_place beside ≡ true
 
@@ -69,13 +70,13 @@ places-good Anywhere (Table grid) children others h =
 places-good Anywhere TableRow children others h = cc
 places-good Anywhere TableCell children others h = cc
 places-good Anywhere kind children others h =
-    let below = if is_leaf kind then Nowhere else Anywhere in
+    let below = if is_leaf kind then InRow [] else Anywhere in
     let both = and_parts (are_good below children) (are_good Anywhere others) h in record {
       below = below;
       beside = Anywhere;
       children_good = both.0;
       others_good = both.1;
-      leaf = λ l. ap (λ b. if b then Nowhere else Anywhere) l;
+      leaf = λ l. ap (λ b. if b then InRow [] else Anywhere) l;
       row_below = λ e. cc;
       row_beside = λ e. cc;
     }
