@@ -30,7 +30,7 @@ use Rattle.html_render_layout_nodes.specs.declared.tree.RenderNode.{RenderNode}
 use Rattle.html_render_layout_nodes.specs.Visitor.{NodePlace, Bare, Skipped, Within, bare, Visit, Leaf, Inner, Visits, followed, placed, run}
 use Rattle.html_render_layout_blocks.specs.declared.block.BlockSetting.{BlockSetting}
 use Rattle.html_render_layout_blocks.specs.Operations.{Operations, DocumentEnd}
-use Rattle.html_render_layout_blocks.specs.Block.{empty_block}
+use Rattle.html_render_layout_blocks.specs.Block.{empty_block, ending}
 use Rattle.html_render_layout_blocks.specs.Definition as definition
 use Rattle.html_render_layout_blocks.specs.Definition.{definition as defined_parts, DefinedBlock}
 use Rattle.html_render_layout_estimates.specs.Estimates.{prefix_columns, number_columns, measured}
@@ -96,14 +96,14 @@ padded columns prefix = prefix ++ spaces (columns - prefix_columns prefix)
 abbrev pub raised : ℕ → ℕ
 raised digit = slice_index_or (8304 ∷ (185 ∷ (178 ∷ (179 ∷ (8308 ∷ (8309 ∷ (8310 ∷ (8311 ∷ (8312 ∷ (8313 ∷ [])))))))))) (digit - 48) 0
 
--- digits of a text of ASCII digits alone, which may be empty; none for anything else
-abbrev pub digits_of_kind : NodeKind → Option (List ℕ)
-digits_of_kind (Text t) = if list_all is_ascii_digit t then Some t else None
-digits_of_kind _ = None
+-- text of a node that is a text; none for any other kind
+abbrev pub kind_text : NodeKind → Option (List ℕ)
+kind_text (Text t) = Some t
+kind_text _ = None
 
--- digits of trees that are one text without children, of ASCII digits alone
+-- digits of trees that are one text without children, of ASCII digits alone, which may be empty
 abbrev pub digits_of : Forest RenderNode → Option (List ℕ)
-digits_of (node n none none) = digits_of_kind n.kind
+digits_of (node n none none) = option_and_then (λ t. if list_all is_ascii_digit t then Some t else None) (kind_text n.kind)
 digits_of _ = None
 
 module _ {S A : Type 0} (d : Decoration S A) where
@@ -306,8 +306,8 @@ module _ {S A K T B : Type 0} (m : Algebra S A K T B) where
   -- view of the state after all trees are laid out and the document is closed under the tag of the first texts; none where
   -- it is too narrow
   abbrev pub shown_after : {L : Type 0} → DocumentEnd B T → (State → L) → Forest RenderNode → State → Option L
-  shown_after ending shown t s =
-      run layout_of t s >>= λ r. option_map shown (ended m.decoration ending s.settings.link_footnotes s.settings.wrap_links s.text.tag r)
+  shown_after end shown t s =
+      run layout_of t s >>= λ r. option_map shown (ended m.decoration end s.settings.link_footnotes s.settings.wrap_links s.text.tag r)
 
 -- state of the definition's layout: tags are annotation stacks, blocks keep all that was fed, and marks are indices of names
 abbrev pub Defined : Type 0 → Type 0 → Type 0
@@ -320,28 +320,21 @@ by_stacks d = record { decoration = d; push = λ k stack a. (k, stack ++ a ∷ [
 abbrev pub defined : {S A : Type 0} → Decoration S A → Visits RenderNode (Defined S A)
 defined d = layout_of (by_stacks d)
 
--- state in which a layout begins, with white space `Normal`
-abbrev pub begin_with : {S K T B : Type 0} → LayoutSettings → S → K → T → B → LayoutState S K T B
-begin_with settings decorator stacks tag block =
-    record {
-      settings = settings;
-      decorator = decorator;
-      stacks = stacks;
-      text = record { tag = tag; mode = Normal; preformatted = false; struck_out = false };
-      block = block;
-      blank = tag;
-      in_table = false;
-      targets = [];
-      names = [];
-    }
-
 module _ {S A : Type 0} (d : Decoration S A) (settings : LayoutSettings) where
-  -- state in an empty block, with the decorator's sub-block decorator and no annotations; lines are padded under
-  -- `pad_block_width`
+  -- state in which a layout begins: an empty block, with the decorator's sub-block decorator, no annotations and white space
+  -- `Normal`; lines are padded under `pad_block_width`
   abbrev pub empty_state : S → BlockSetting → Defined S A
-  empty_state decorator block =
-      let padding : Option (List A) = if settings.pad_block_width then Some [] else None in
-      begin_with settings (d.subblock decorator) tt [] (empty_block defined_parts block padding)
+  empty_state decorator block = record {
+    settings = settings;
+    decorator = d.subblock decorator;
+    stacks = tt;
+    text = record { tag = []; mode = Normal; preformatted = false; struck_out = false };
+    block = empty_block defined_parts block (if settings.pad_block_width then Some [] else None);
+    blank = [];
+    in_table = false;
+    targets = [];
+    names = [];
+  }
 
   -- trees with the estimate of each node; prefixes are those of a sub-block of the document's block, and the minimum width
   -- of a text is `min_wrap_width`, or its own columns if these are fewer. Under `whole_words` the columns of tables have their
@@ -352,7 +345,7 @@ module _ {S A : Type 0} (d : Decoration S A) (settings : LayoutSettings) where
   -- THE LAYOUT of a render tree in a block: a view of the state after it; none where it is too narrow, as at width 0
   abbrev pub layout : {L : Type 0} → (Defined S A → L) → Forest RenderNode → S → BlockSetting → Option L
   layout shown t decorator block =
-      if block.width == 0 then None else shown_after (by_stacks d) definition.ending shown (estimated decorator t) (empty_state decorator block)
+      if block.width == 0 then None else shown_after (by_stacks d) (ending defined_parts) shown (estimated decorator t) (empty_state decorator block)
 
   -- lines of the layout, each character with its annotation stack
   abbrev pub layout_lines : Forest RenderNode → S → BlockSetting → Option (List (Line (List A) ℕ))

@@ -1,5 +1,7 @@
 -- The walk's machine: opening and closing a node, with the pending work as data.
-use Rattle.std.specs.Prelude.{Bool, ℕ, ℤ, pos, ◌+◌, ◌-◌, ◌+ℤ◌, List, length, Option, Some, None, option_map}
+use Rattle.std.specs.Prelude.{Bool, ℕ, ℤ, pos, ◌+◌, ◌-◌, ◌+ℤ◌, List, length, Option, Some, None, option_map, option_and_then, if◌then◌else◌}
+use Rattle.std.specs.Char.{is_ascii_digit}
+use Rattle.std.specs.List.{list_all}
 use Rattle.std.specs.Int.{saturate_signed, w64}
 use Rattle.std.specs.Str.{chars}
 use Rattle.html_render_dom_values.specs.Forest.{Forest}
@@ -25,13 +27,17 @@ use Rattle.html_render_layout.specs.declared.state.CloseAction.TheVariants.{Bull
 use Rattle.html_render_layout.specs.declared.state.CloseAction.TheVariants.{EndStrikeout, EndSuperscript, EndLink, EndTable, EndRow}
 use Rattle.html_render_layout.specs.declared.state.Outer.{Outer}
 use Rattle.html_render_layout.specs.declared.state.TextContext.{TextContext}
-use Rattle.html_render_layout.specs.Layout.{Algebra, State, write_number, spaces, padded, emphasis_decoration}
+use Rattle.html_render_layout.specs.Layout.{Algebra, State, kind_text, write_number, spaces, padded, emphasis_decoration}
 use Rattle.html_render_layout.specs.Layout.{block_of, shape_of, style_steps, layout_of}
 use Rattle.html_render_layout.specs.Layout.{on_block, write, within, nested, appended_block, block_place, cell_place, Fence, perform, shape_layout, perform_all}
 
 -- number of an item, by the list's first number and the item's index from 0; it saturates
 abbrev pub number_from : (first : ℤ) → ℕ → ℤ
 number_from first n = saturate_signed w64 (first +ℤ pos n)
+
+-- digits of the text of a node, of ASCII digits alone; none for any other node
+abbrev pub digits_of_kind : NodeKind → Option (List ℕ)
+digits_of_kind kind = option_and_then (λ t. if list_all is_ascii_digit t then Some t else None) (kind_text kind)
 
 module _ {S A K T B : Type 0} (m : Algebra S A K T B) where
   -- suspended block of the state, for a sub-block after this prefix

@@ -1,6 +1,7 @@
 -- The code's layout, on blocks that are fed character by character: with tags that are indices of stacks, and without tags.
-use Rattle.std.specs.Prelude.{ℕ, List, [], ◌∷◌, ◌++◌, length, Option, Some, None, if◌then◌else◌}
+use Rattle.std.specs.Prelude.{ℕ, false, List, [], ◌∷◌, ◌++◌, length, Option, Some, None, if◌then◌else◌}
 use Rattle.html_render_dom_values.specs.Forest.{Forest}
+use Rattle.html_render_dom_values.specs.declared.white_space.WhiteSpace.TheVariants.{Normal}
 use Rattle.html_render_parts.specs.Decoration.{Decoration}
 use Rattle.html_render_layout_lines.specs.Line.{Line}
 use Rattle.html_render_layout_nodes.specs.declared.tree.RenderNode.{RenderNode}
@@ -11,6 +12,21 @@ use Rattle.html_render_layout_blocks.specs.Machine.{MachineBlock}
 use Rattle.html_render_layout_tagged.specs.Stacks.{stack_at}
 use Rattle.html_render_layout_tagged.specs.LaidOut.{tagged}
 use Rattle.html_render_layout.specs.Layout.{Algebra, shown_after}
+
+-- state in which a layout begins, with white space `Normal`
+abbrev pub begin_with : {S K T B : Type 0} → LayoutSettings → S → K → T → B → LayoutState S K T B
+begin_with settings decorator stacks tag block =
+    record {
+      settings = settings;
+      decorator = decorator;
+      stacks = stacks;
+      text = record { tag = tag; mode = Normal; preformatted = false; struck_out = false };
+      block = block;
+      blank = tag;
+      in_table = false;
+      targets = [];
+      names = [];
+    }
 
 -- tag of padding spaces; none without padding
 abbrev pub padding : {T : Type 0} → LayoutSettings → T → Option T

@@ -11,12 +11,12 @@ ghost use Rattle.html_render_layout_blocks.specs.Machine.{machine};
 ghost use Rattle.html_render_layout_nodes.specs.Counts.{CountsNodes};
 ghost use Rattle.html_render_layout_nodes.specs.Visitor.{run};
 ghost use Rattle.html_render_layout_estimates.specs.Passes.{with_needed_sizes};
-ghost use Rattle.html_render_layout.specs.Layout.{layout_of, begin_with, shown_after, defined, empty_state};
+ghost use Rattle.html_render_layout.specs.Layout.{layout_of, shown_after, defined, empty_state};
 ghost use Rattle.html_render_layout.specs.Layout.{estimated, layout_lines, mark_names, unannotated};
 ghost use Rattle.html_render_layout.specs.Promises.{AreLines, Lines, HasLines, LeavesTexts};
 ghost use Rattle.html_render_layout.specs.Opening.{walk_visits, walk_below, walk_opened, walk_closed};
 ghost use Rattle.html_render_layout.specs.laws.Opening.{walk-told};
-ghost use Rattle.html_render_layout.specs.Working.{padding, by_tags, tabled, work_lines, work_names, untagged_work};
+ghost use Rattle.html_render_layout.specs.Working.{begin_with, padding, by_tags, tabled, work_lines, work_names, untagged_work};
 ghost use Rattle.html_render_layout_tagged.specs.LaidOut.{laid_out};
 
 use crate::state::{LayoutState, TextContext};

@@ -5,7 +5,8 @@ use Rattle.std.proofs.lemmas.List.{take-append-drop, take_min, drop_min, reverse
 use Rattle.std.proofs.lemmas.List.Sums.{sum_by-append}
 use Rattle.html_render_parts.specs.declared.table.PlacedCell.{PlacedCell}
 use Rattle.html_render_layout_blocks.specs.declared.block.rows.RowPlace.{RowPlace}
-use Rattle.html_render_layout_blocks.specs.OpenRows.{is_own_cell, cell_width, places, next_width, before_cell, empty_cells}
+use Rattle.html_render_parts.specs.TableCells.{is_cell}
+use Rattle.html_render_layout_blocks.specs.OpenRows.{cell_width, places, next_width, before_cell, empty_cells}
 
 pub ruleset columns_at = (take_min, drop_min)
 
@@ -53,21 +54,21 @@ before-reversed xs before p stands e is =
 -- ---- Places of cells
 
 pub places-more : (widths : List ℕ) (cells : List PlacedCell) (i : ℕ) (d : PlacedCell) → i < length cells → places widths (drop i cells)
-    ≡ record { is_cell = is_own_cell (get_or cells i d).kind; width = cell_width (take (get_or cells i d).columns widths) }
+    ≡ record { is_cell = is_cell (get_or cells i d).kind; width = cell_width (take (get_or cells i d).columns widths) }
     ∷ places (drop (get_or cells i d).columns widths) (drop (i + 1) cells)
 places-more widths cells i d h = at_drop_more (places widths) cells i d h
 
 -- One more place.
 pub places-step : (all : List RowPlace) (rest own behind : List ℕ) (cells : List PlacedCell) (i : ℕ) (d : PlacedCell) (row more : List RowPlace) (is : Bool)
     (width : Option ℕ) → all ≡ row ++ places rest (drop i cells) → i < length cells → own ≡ take (get_or cells i d).columns rest →
-    behind ≡ drop (get_or cells i d).columns rest → is ≡ is_own_cell (get_or cells i d).kind → width ≡ cell_width own →
+    behind ≡ drop (get_or cells i d).columns rest → is ≡ is_cell (get_or cells i d).kind → width ≡ cell_width own →
     more ≡ row ++ record { is_cell = is; width = width } ∷ [] → all ≡ more ++ places behind (drop (i + 1) cells)
 places-step all rest own behind cells i d row more is width whole inside own_is behind_is is_is width_is more_is =
     let s : PlacedCell = get_or cells i d in
-    let here : RowPlace = record { is_cell = is_own_cell s.kind; width = cell_width (take s.columns rest) } in
+    let here : RowPlace = record { is_cell = is_cell s.kind; width = cell_width (take s.columns rest) } in
     let step : more ≡ row ++ here ∷ [] = more_is
     ∙ ap (λ b. row ++ record { is_cell = b; width = width } ∷ []) is_is
-    ∙ ap (λ w. row ++ record { is_cell = is_own_cell s.kind; width = w } ∷ []) (width_is ∙ ap cell_width own_is) in
+    ∙ ap (λ w. row ++ record { is_cell = is_cell s.kind; width = w } ∷ []) (width_is ∙ ap cell_width own_is) in
     whole
     ∙ ap (λ ps. row ++ ps) (places-more rest cells i d inside)
     ∙ sym (append_assoc row (here ∷ []) (places (drop s.columns rest) (drop (i + 1) cells)))

@@ -3,8 +3,9 @@ use Rattle.std.specs.Prelude.{ℕ, suc, ◌+◌, ◌-◌, ◌==◌, Bool, true, 
 use Rattle.std.specs.Prelude.{Option, Some, None, flat_map, if◌then◌else◌}
 use Rattle.std.specs.List.{list_any}
 use Rattle.html_render_parts.specs.declared.table.CellKind.{CellKind}
-use Rattle.html_render_parts.specs.declared.table.CellKind.TheVariants.{Cell, Placeholder}
+use Rattle.html_render_parts.specs.declared.table.CellKind.TheVariants.{Placeholder}
 use Rattle.html_render_parts.specs.declared.table.PlacedCell.{PlacedCell}
+use Rattle.html_render_parts.specs.TableCells.{is_cell}
 use Rattle.html_render_layout_pictures.specs.Picture.{KeptCell, TableRow}
 use Rattle.html_render_layout_blocks.specs.declared.block.rows.RowPlace.{RowPlace}
 
@@ -12,11 +13,6 @@ use Rattle.html_render_layout_blocks.specs.declared.block.rows.RowPlace.{RowPlac
 -- width.
 abbrev pub cell_width : List ℕ → Option ℕ
 cell_width columns = if sum columns == 0 then None else Some (sum columns + (length columns - 1))
-
--- Whether a place has a cell of the row itself.
-abbrev pub is_own_cell : CellKind → Bool
-is_own_cell Cell = true
-is_own_cell _ = false
 
 -- Whether a place has a cell of an earlier row.
 abbrev pub is_placeholder : CellKind → Bool
@@ -26,7 +22,7 @@ is_placeholder _ = false
 -- Places of a row over columns of these widths.
 abbrev pub places : (widths : List ℕ) → List PlacedCell → List RowPlace
 places widths [] = []
-places widths (s ∷ ss) = record { is_cell = is_own_cell s.kind; width = cell_width (take s.columns widths) } ∷ places (drop s.columns widths) ss
+places widths (s ∷ ss) = record { is_cell = is_cell s.kind; width = cell_width (take s.columns widths) } ∷ places (drop s.columns widths) ss
 
 -- Columns of the next cell of a row. None if it is skipped or there is none.
 abbrev pub next_width : List RowPlace → Option ℕ

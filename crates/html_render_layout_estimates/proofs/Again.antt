@@ -15,7 +15,8 @@ use Rattle.html_render_layout_nodes.specs.declared.tree.RenderNode.{RenderNode}
 use Rattle.html_render_layout_nodes.specs.Preorder.{flatten, forest_of}
 use Rattle.html_render_layout_nodes.specs.laws.Preorder.{forest_of-flatten, IsPreorderOf, IsPreorderOf-flatten}
 use Rattle.html_render_layout_estimates.specs.declared.settings.LayoutSettings.{LayoutSettings}
-use Rattle.html_render_layout_estimates.specs.Estimates.{trees, greatest_least, measured_kind, estimate_of, measured}
+use Rattle.html_render_layout_estimates.specs.Estimates.{measured_kind, estimate_of, measured}
+use Rattle.html_render_layout_estimates.specs.Children.{trees, greatest_least}
 use Rattle.html_render_layout_estimates.specs.Passes.{is_table, has_table, with_needs, sized_if, without_sizes, with_needed_sizes}
 use Rattle.html_render_layout_estimates.specs.Words.{with_words}
 use Rattle.html_render_layout_estimates.specs.laws.Least.{tables-measured}

@@ -17,20 +17,14 @@ use Rattle.html_render_layout_estimates.specs.declared.settings.LayoutSettings.{
 use Rattle.html_render_layout_estimates.specs.TextSize.{size_of, saturated}
 use Rattle.html_render_layout_estimates.specs.Cells.{cell_needs}
 
--- the number of trees in a forest
-abbrev pub trees : {K : Type 0} → Forest K → ℕ
-trees none = 0
-trees (node k children beside) = trees beside + 1
-
--- the greatest minimum width of a tree of a forest; 0 without trees
-abbrev pub greatest_least : Forest RenderNode → ℕ
-greatest_least none = 0
-greatest_least (node n children beside) = max n.estimate.min_width (greatest_least beside)
-
--- the sum of the trees' preferred widths, up to the greatest number
-abbrev pub total_size : Forest RenderNode → ℕ
-total_size none = 0
-total_size (node n children beside) = saturated (n.estimate.preferred_width + total_size beside)
+-- the estimate of siblings together: the greatest of their minimum widths, the sum of their preferred widths, up to the
+-- greatest number, and how many they are
+abbrev pub siblings : Forest RenderNode → Estimate
+siblings none = record { min_width = 0; preferred_width = 0; prefix = 0; children = 0 }
+siblings (node n children beside) =
+    let all = siblings beside in
+    let preferred_width = saturated (n.estimate.preferred_width + all.preferred_width) in
+    record { min_width = max n.estimate.min_width all.min_width; preferred_width = preferred_width; prefix = 0; children = all.children + 1 }
 
 -- the estimate of a node with these widths after a prefix: the prefix's columns are added to both
 abbrev pub behind : (prefix min_width preferred_width children : ℕ) → Estimate
@@ -88,10 +82,10 @@ module _ {D A : Type 0} (decoration : Decoration D A) (decorator : D) where
     estimate_of (Svg title) children = piece (text_size title)
     estimate_of (FragmentStart name) children = record { min_width = 0; preferred_width = 0; prefix = 0; children = 0 }
     estimate_of (Link target) children =
-        record { min_width = max (greatest_least children) 5; preferred_width = saturated (total_size children + 5); prefix = 0; children = trees children }
-    estimate_of (Table grid) children =
-        table_estimate (columns_of grid.cells) (cell_needs grid.cells.rows children) (prefix_of (Table grid) (trees children)) (trees children)
-    estimate_of kind children = behind (prefix_of kind (trees children)) (greatest_least children) (total_size children) (trees children)
+        let all = siblings children in
+        record { min_width = max all.min_width 5; preferred_width = saturated (all.preferred_width + 5); prefix = 0; children = all.children }
+    estimate_of (Table grid) children = table_estimate (columns_of grid.cells) (cell_needs grid.cells.rows children) 0 (siblings children).children
+    estimate_of kind children = let all = siblings children in behind (prefix_of kind all.children) all.min_width all.preferred_width all.children
 
     -- THE MEASURED TREES: each node with its estimate
     abbrev pub measured : Forest RenderNode → Forest RenderNode

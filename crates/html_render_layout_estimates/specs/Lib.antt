@@ -8,9 +8,13 @@ pub mod Cells
 pub mod Columns
 -- THE DEFINITION of estimates
 pub mod Estimates
+-- the estimate of siblings, part by part
+pub mod Children
 -- the result of the code's pass
 pub mod Passes
 -- the words of nodes, and the longest ones of a table's columns
 pub mod Words
+-- the shape of a text, word by word
+pub mod WordSteps
 -- laws of these definitions
 pub mod laws

@@ -1,5 +1,5 @@
 -- The words of nodes: the columns between places where a line may break.
-use Rattle.std.specs.Prelude.{ℕ, ◌+◌, ◌-◌, ◌/◌, ◌==◌, ◌||◌, ◌&&◌, max, sum, map, length, List, [], ◌∷◌, ◌++◌, if◌then◌else◌}
+use Rattle.std.specs.Prelude.{ℕ, ◌+◌, ◌-◌, ◌/◌, ◌==◌, ◌||◌, ◌&&◌, max, sum, map, fold, length, List, [], ◌∷◌, ◌++◌, if◌then◌else◌}
 use Rattle.std.specs.List.{range_with_len}
 use Rattle.std.specs.Str.{chars}
 use Rattle.html_render_dom_values.specs.Forest.{Forest, none, node}
@@ -55,13 +55,9 @@ enclosed prefix s = Broken 0 (saturated (longest_word s + prefix)) 0
 abbrev pub character_shape : ℕ → WordShape
 character_shape c = if is_collapsible c || c == 0x200B then word_break else Part (width_of c)
 
-abbrev pub shape_after : WordShape → List ℕ → WordShape
-shape_after s [] = s
-shape_after s (c ∷ cs) = shape_after (joined_shapes s (character_shape c)) cs
-
 -- the shape of characters
 abbrev pub text_shape : List ℕ → WordShape
-text_shape cs = shape_after (Part 0) cs
+text_shape cs = fold (λ s c. joined_shapes s (character_shape c)) (Part 0) cs
 
 -- the shape of an image or a drawing by its title in UTF-8, with one column on each side of it; without a title it shows nothing
 abbrev pub title_shape : List ℕ → WordShape

@@ -8,7 +8,8 @@ ghost use Rattle.std.specs.Prelude.{◌≡◌, ◌+◌, ◌+ℤ◌, ◌-ℤ◌, 
 ghost use Rattle.std.specs.Int.{saturate_signed, w64};
 ghost use Rattle.html_render_dom_values.specs.Outcome.{OnlyOutOfMemory};
 ghost use Rattle.html_render_layout_nodes.specs.Preorder.{flatten, forest_of};
-ghost use Rattle.html_render_layout_estimates.specs.Estimates.{trees, greatest_least, total_size, text_size, number_columns, prefix_of, behind};
+ghost use Rattle.html_render_layout_estimates.specs.Estimates.{text_size, number_columns, prefix_of, behind};
+ghost use Rattle.html_render_layout_estimates.specs.Children.{trees, greatest_least, total_size};
 ghost use Rattle.html_render_layout_estimates.specs.TextSize.{saturated};
 ghost use Rattle.html_render_layout_estimates.specs.Estimates.{measured_kind, estimate_of, measured};
 ghost use Rattle.html_render_layout_estimates.specs.Passes.{is_table, has_table, with_needs, sized_if, with_needed_sizes};

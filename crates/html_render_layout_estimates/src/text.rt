@@ -9,7 +9,8 @@ ghost use Rattle.std.specs.Str.{chars, IsUtf8};
 ghost use Rattle.html_render_layout_lines.specs.Character.{is_collapsible, width_of};
 ghost use Rattle.html_render_layout_lines.specs.TaggedText.{text_columns};
 ghost use Rattle.html_render_layout_estimates.specs.TextSize.{size_of, inner_columns, collapsed_columns, saturated, IsPlainBetween};
-ghost use Rattle.html_render_layout_estimates.specs.Words.{word_break, joined_shapes, shape_after};
+ghost use Rattle.html_render_layout_estimates.specs.Words.{word_break, joined_shapes};
+ghost use Rattle.html_render_layout_estimates.specs.WordSteps.{shape_after};
 ghost use Rattle.html_render_layout_estimates.specs.declared.words.WordShape.{WordShape};
 ghost use Rattle.html_render_layout_estimates.specs.declared.words.WordShape.TheVariants.{Part};
 

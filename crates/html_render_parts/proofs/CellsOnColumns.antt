@@ -1,5 +1,5 @@
 -- The spans of a table's cells follow from the cells on the columns of their grid.
-use Rattle.std.proofs.Common.{◌≡◌, ℕ, ◌+◌, ◌-◌, ◌^◌, ◌<◌, ◌≤◌, true, List, [], ◌∷◌, ◌++◌, Some, length, get_or, map, All, Contains, refl, sym, ap}
+use Rattle.std.proofs.Common.{◌≡◌, ◌∙◌, ℕ, ◌+◌, ◌-◌, ◌^◌, ◌<◌, ◌≤◌, true, List, [], ◌∷◌, ◌++◌, Some, length, get_or, map, All, Contains, refl, sym, ap}
 use Rattle.std.proofs.Common.{subst, arith, inl, inr, nat_lt}
 use Rattle.std.specs.List.Sorted.{IsStrictlyIncreasing}
 use Rattle.std.proofs.lemmas.Bool.{cases_Bool, ltb-true}
@@ -8,10 +8,12 @@ use Rattle.html_render_parts.specs.declared.table.Span.{Span}
 use Rattle.html_render_parts.specs.declared.table.cells.GridCell.{GridCell}
 use Rattle.html_render_parts.specs.declared.table.placement.Place.{Place}
 use Rattle.html_render_parts.specs.declared.table.placement.PositionedCell.{PositionedCell}
-use Rattle.html_render_parts.specs.Placement.{due_end, hanging, not_due, own_from, own_rows_from, placed_rows, row_from, rows_from}
+use Rattle.html_render_parts.specs.Placement.{hanging, own_from, placed_rows, row_from, rows_from, due_end, not_due}
 use Rattle.html_render_parts.specs.PlacementSteps.{row_fits}
+use Rattle.html_render_parts.specs.laws.OwnCells.{cells-own}
+use Rattle.html_render_parts.specs.OwnCells.{cells_of, own_rows_from, on_columns}
 use Rattle.html_render_parts.specs.Grid.{AreValid, edges_of, ends, positions_fit, rank}
-use Rattle.html_render_parts.specs.TableCells.{CellGrid, IsCellGrid, cell_grid_of, columns_of, on_columns, span_on, spans_on}
+use Rattle.html_render_parts.specs.TableCells.{CellGrid, IsCellGrid, cell_grid_of, columns_of, span_on, spans_on}
 use Rattle.html_render_parts.proofs.EdgeRanks.{Contains-here, Contains-rising, Contains-there, IsStrictlyIncreasing-rising, rank-below, rank-gets}
 use Rattle.html_render_parts.proofs.EdgeRanks.{rank-less, rank-mono}
 use Rattle.html_render_parts.proofs.GatheringEnds.{Between, EndsIn, own-between}
@@ -111,18 +113,14 @@ rows-back es rising row hung (cells ∷ more) b =
 
 -- ---- the cells of a table
 
--- cells of these rows on the columns of their grid, if they fit
-abbrev pub cells_of : List (List Span) → CellGrid
-cells_of rows =
-    let edges = edges_of (placed_rows rows) in
-    record { edges = edges; rows = map (map (on_columns edges)) (own_rows_from 0 [] rows) }
-
 pub cells-are : (rows : List (List Span)) (g : CellGrid) → cell_grid_of rows ≡ Some g →
     (positions_fit (placed_rows rows) ≡ true) × (cells_of rows ≡ g)
-cells-are rows g e = elim (cases_Bool (positions_fit (placed_rows rows))) [
-  | inl t ↦ let f = rw t at e in (t, cc)
-  | inr t ↦ let f = rw t at e in cc
-]
+cells-are rows g e =
+    let is = sym (cells-own rows) ∙ e in
+    elim (cases_Bool (positions_fit (placed_rows rows))) [
+      | inl t ↦ let f = rw t at is in (t, cc)
+      | inr t ↦ let f = rw t at is in cc
+    ]
 
 -- the cells of these rows have the rows' spans
 pub spans-back : (rows : List (List Span)) → spans_on (cells_of rows) ≡ rows
@@ -133,7 +131,7 @@ spans-back rows =
 pub cells-valid : (rows : List (List Span)) → AreValid rows → positions_fit (placed_rows rows) ≡ true → IsCellGrid (cells_of rows)
 cells-valid rows valid fits = record {
   valid = subst AreValid (sym (spans-back rows)) valid;
-  own = subst (λ r. cell_grid_of r ≡ Some (cells_of rows)) (sym (spans-back rows)) (rw fits refl);
+  own = subst (λ r. cell_grid_of r ≡ Some (cells_of rows)) (sym (spans-back rows)) (cells-own rows ∙ (rw fits refl));
 }
 
 -- ---- properties of each table's cells

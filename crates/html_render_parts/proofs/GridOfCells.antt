@@ -1,25 +1,24 @@
 -- The cells of a table on the columns of its grid agree with the grid.
 use Rattle.std.proofs.Common.{◌≡◌, ℕ, ◌+◌, ◌-◌, ◌<◌, ◌≤◌, List, [], ◌∷◌, ◌++◌, Some, length, filter, map, drop, take, All, nat_le}
-use Rattle.std.proofs.Common.{max, refl, sym, ap, ◌∙◌, subst, arith, inl, inr, ◌⊎◌}
+use Rattle.std.proofs.Common.{refl, sym, ap, ◌∙◌, subst, arith, inl, inr, ◌⊎◌}
 use Rattle.std.specs.Prelude.{Any, Contains, option_map, sum_by}
 use Rattle.std.specs.List.Sorted.{IsStrictlyIncreasing}
 use Rattle.std.proofs.lemmas.Bool.{cases_Bool}
-use Rattle.std.proofs.lemmas.Bool.Decides.{leb_tells}
-use Rattle.std.proofs.lemmas.List.Elements.{All-nil, All-cons, All-weaker, filter-append}
+use Rattle.std.proofs.lemmas.List.Elements.{All-nil, All-cons, All-weaker}
 use Rattle.html_render_parts.specs.declared.table.Span.{Span}
-use Rattle.html_render_parts.specs.declared.table.CellKind.TheVariants.{Cell, Placeholder}
 use Rattle.html_render_parts.specs.declared.table.PlacedCell.{PlacedCell}
 use Rattle.html_render_parts.specs.declared.table.placement.Place.{Place}
 use Rattle.html_render_parts.specs.declared.table.placement.PositionedCell.{PositionedCell}
-use Rattle.html_render_parts.specs.Placement.{due_end, due_places, end_of, gap_to, hanging, not_due, own_from, own_rows_from, place_from}
+use Rattle.html_render_parts.specs.Placement.{end_of, hanging, own_from}
+use Rattle.html_render_parts.specs.OwnCells.{own_grid_of, own_rows_from, on_columns, cells_of}
 use Rattle.html_render_parts.specs.Placement.{placed_rows, rest_from, rising, row_from, rows_from}
 use Rattle.html_render_parts.specs.Grid.{AreSideBySide, edges_of, ends, grid_of, numbered, positions_fit, rank, IsLeastNumbering, IsNumbering}
-use Rattle.html_render_parts.specs.TableCells.{CellGrid, IsCellGrid, cell_grid_of, columns_of, on_columns, rows_on, spans_on}
-use Rattle.html_render_parts.specs.CellsInRows.{cells_in, columns_taken, is_cell}
-use Rattle.html_render_parts.proofs.CellsOnColumns.{cells-are, cells_of, spans-back}
+use Rattle.html_render_parts.specs.TableCells.{CellGrid, IsCellGrid, cell_grid_of, columns_of, rows_on, spans_on, is_cell}
+use Rattle.html_render_parts.specs.CellsInRows.{cells_in, columns_taken}
+use Rattle.html_render_parts.specs.laws.OwnCells.{cells_at, cells-own, none-rest, own_place, row-cells}
+use Rattle.html_render_parts.proofs.CellsOnColumns.{cells-are, spans-back}
 use Rattle.html_render_parts.proofs.EdgeRanks.{IsStrictlyIncreasing-rising, rank-least, rank-less}
 use Rattle.html_render_parts.proofs.EdgesOfCells.{edge-is, is-edge}
-use Rattle.html_render_parts.proofs.NumberTests.{ltb-tells}
 use Rattle.html_render_parts.proofs.SideBySide.{fit-columns, have-columns, stand-side_by_side}
 
 -- ---- the whole grid
@@ -34,11 +33,14 @@ on-cells : (rows : List (List Span)) →
 on-cells rows =
     ap (λ r. (edges_of (placed_rows rows), map (map (numbered (edges_of (placed_rows rows)))) (placed_rows r))) (spans-back rows)
 
-pub same-grid : (rows : List (List Span)) → grid_of rows ≡ option_map grid_on_cells (cell_grid_of rows)
-same-grid rows = elim (cases_Bool (positions_fit (placed_rows rows))) [
+same-own : (rows : List (List Span)) → grid_of rows ≡ option_map grid_on_cells (own_grid_of rows)
+same-own rows = elim (cases_Bool (positions_fit (placed_rows rows))) [
   | inl t ↦ rw t (ap (λ g. Some g) (sym (on-cells rows)))
   | inr t ↦ rw t refl
 ]
+
+pub same-grid : (rows : List (List Span)) → grid_of rows ≡ option_map grid_on_cells (cell_grid_of rows)
+same-grid rows = same-own rows ∙ ap (option_map grid_on_cells) (sym (cells-own rows))
 
 pub grid-of_table : (g : CellGrid) → IsCellGrid g → grid_of (spans_on g) ≡ Some (grid_on_cells g)
 grid-of_table g h = same-grid (spans_on g) ∙ ap (option_map grid_on_cells) h.own
@@ -103,36 +105,6 @@ cells-in_table g h =
 
 -- ---- the cells of each row
 
-abbrev cells_at : List Place → List Place
-cells_at ps = filter (λ (p : Place). is_cell p.kind) ps
-
-abbrev cell_at : PositionedCell → Place
-cell_at c = place_from Cell c.column c.span.colspan
-
-none-due : (cursor : ℕ) (hs : List PositionedCell) → cells_at (due_places cursor hs) ≡ []
-none-due cursor [] = refl
-none-due cursor (h ∷ hs) = elim (leb_tells h.column cursor) [ inl t ↦ rw t.0 (none-due (cursor + h.span.colspan) hs) | inr t ↦ rw t.0 refl ]
-
-none-gap : (cursor column : ℕ) → cells_at (gap_to cursor column) ≡ []
-none-gap cursor column = elim (ltb-tells cursor column) [ inl t ↦ rw t.0 refl | inr t ↦ rw t.0 refl ]
-
-pub none-rest : (cursor : ℕ) (hs : List PositionedCell) → cells_at (rest_from cursor hs) ≡ []
-none-rest cursor [] = refl
-none-rest cursor (h ∷ hs) =
-    let column = max cursor h.column in
-    filter-append (λ (p : Place). is_cell p.kind) (gap_to cursor h.column) (place_from Placeholder column h.span.colspan ∷ rest_from (column + h.span.colspan) hs)
-    ∙ ap (λ ps. ps ++ cells_at (rest_from (column + h.span.colspan) hs)) (none-gap cursor h.column)
-    ∙ none-rest (column + h.span.colspan) hs
-
-row-cells : (row cursor : ℕ) (hs : List PositionedCell) (ss : List Span) → cells_at (row_from cursor hs ss) ≡ map cell_at (own_from row cursor hs ss)
-row-cells row cursor hs [] = none-rest cursor hs
-row-cells row cursor hs (s ∷ ss) =
-    let column = due_end cursor hs in
-    let rest = row_from (column + s.colspan) (not_due cursor hs) ss in
-    filter-append (λ (p : Place). is_cell p.kind) (due_places cursor hs) (place_from Cell column s.colspan ∷ rest)
-    ∙ ap (λ ps. ps ++ place_from Cell column s.colspan ∷ cells_at rest) (none-due cursor hs)
-    ∙ ap (λ ps. place_from Cell column s.colspan ∷ ps) (row-cells row (column + s.colspan) (not_due cursor hs) ss)
-
 -- first column and number of columns of a place
 abbrev taken_by : List ℕ → Place → ℕ × ℕ
 taken_by es p = (rank es p.start, rank es p.end - rank es p.start)
@@ -144,9 +116,9 @@ in-places es (p ∷ ps) = elim (cases_Bool (is_cell p.kind)) [
   | inr t ↦ rw t (in-places es ps)
 ]
 
-taken-own : (es : List ℕ) (cs : List PositionedCell) → map (taken_by es) (map cell_at cs) ≡ columns_taken (map (on_columns es) cs)
+taken-own : (es : List ℕ) (cs : List PositionedCell) → map (taken_by es) (map own_place cs) ≡ columns_taken (map (on_columns es) cs)
 taken-own es [] = refl
-taken-own es (c ∷ cs) = ap (λ r. taken_by es (cell_at c) ∷ r) (taken-own es cs)
+taken-own es (c ∷ cs) = ap (λ r. taken_by es (own_place c) ∷ r) (taken-own es cs)
 
 all-cells : (es : List ℕ) (row : ℕ) (hung : List PositionedCell) (rows : List (List Span)) →
     map columns_taken (map (map (on_columns es)) (own_rows_from row hung rows))

@@ -10,9 +10,10 @@ use Rattle.std.proofs.lemmas.List.Sums.{sum_by-cons}
 use Rattle.html_render_parts.specs.declared.table.Span.{Span}
 use Rattle.html_render_parts.specs.declared.table.placement.Place.{Place}
 use Rattle.html_render_parts.specs.declared.table.placement.PositionedCell.{PositionedCell}
-use Rattle.html_render_parts.specs.Placement.{bottom_rows, by_column, by_column_with, due_end, end_of, hanging, hangs_into, not_due, own_from, own_rows_from}
-use Rattle.html_render_parts.specs.Placement.{placed_rows, row_from, rows_from}
+use Rattle.html_render_parts.specs.Placement.{bottom_rows, by_column, by_column_with, end_of, hanging, hangs_into, own_from, due_end, not_due}
 use Rattle.html_render_parts.specs.PlacementSteps.{AllFrom, IsByColumn}
+use Rattle.html_render_parts.specs.OwnCells.{own_rows_from}
+use Rattle.html_render_parts.specs.Placement.{placed_rows, row_from, rows_from}
 use Rattle.html_render_parts.specs.CellsAbove.{cells_above, own_rows}
 use Rattle.html_render_parts.proofs.EdgeRanks.{Contains-cons, Contains-here, Contains-nil, Contains-there}
 use Rattle.html_render_parts.proofs.HangingOrder.{AllFrom-filter, AllFrom-less, IsByColumn-by_column, IsByColumn-filter, by_column-append, by_column-own, merged}

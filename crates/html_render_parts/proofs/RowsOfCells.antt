@@ -8,7 +8,8 @@ use Rattle.html_render_dom_values.specs.declared.errors.Error.TheVariants.{TooNa
 use Rattle.html_render_parts.specs.declared.table.cells.GridCell.{GridCell}
 use Rattle.html_render_parts.specs.declared.table.placement.Place.{Place}
 use Rattle.html_render_parts.specs.declared.table.placement.PositionedCell.{PositionedCell}
-use Rattle.html_render_parts.specs.Placement.{bottom_rows, own_from, own_rows_from, rows_from}
+use Rattle.html_render_parts.specs.Placement.{bottom_rows, own_from, rows_from}
+use Rattle.html_render_parts.specs.OwnCells.{own_rows_from}
 use Rattle.html_render_parts.specs.PlacementSteps.{AreAhead, IsNextBottom, Placing, places_ahead, with_next_row}
 use Rattle.html_render_parts.specs.Grid.{positions_fit}
 use Rattle.html_render_parts.specs.TableCells.{CellGrid, IsCellGrid, columns_of, span_on, spans_on}

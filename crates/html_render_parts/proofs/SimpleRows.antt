@@ -8,10 +8,11 @@ use Rattle.std.proofs.lemmas.List.Elements.{All-nil, All-cons, All-drop, All-hea
 use Rattle.html_render_parts.specs.declared.table.Span.{Span}
 use Rattle.html_render_parts.specs.declared.table.cells.GridCell.{GridCell}
 use Rattle.html_render_parts.specs.declared.table.placement.PositionedCell.{PositionedCell}
-use Rattle.html_render_parts.specs.Placement.{hanging, hangs_into, own_from, own_rows_from, placed_rows, row_from}
+use Rattle.html_render_parts.specs.Placement.{hanging, hangs_into, own_from, placed_rows, row_from}
+use Rattle.html_render_parts.specs.OwnCells.{own_rows_from, on_columns}
 use Rattle.html_render_parts.specs.PlacementSteps.{AreAhead, Placing, row_fits, row_told, rows_ahead, with_next_row}
 use Rattle.html_render_parts.specs.Grid.{edges_of, numbered}
-use Rattle.html_render_parts.specs.TableCells.{CellGrid, on_columns, span_on, spans_on}
+use Rattle.html_render_parts.specs.TableCells.{CellGrid, span_on, spans_on}
 use Rattle.html_render_parts.specs.SimpleRows.{AllStoredFit, StoredFit, cells_from, own_or_simple, own_rows_on, own_with_simple, place_on, row_on}
 use Rattle.html_render_parts.proofs.CellsOnColumns.{cells-are, edge_behind, edges-rise, own-in_edges}
 use Rattle.html_render_parts.proofs.EdgeRanks.{rank-gets}

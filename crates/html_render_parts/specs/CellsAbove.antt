@@ -2,7 +2,7 @@
 use Rattle.std.specs.Prelude.{ℕ, List, [], take, flat_map}
 use Rattle.html_render_parts.specs.declared.table.Span.{Span}
 use Rattle.html_render_parts.specs.declared.table.placement.PositionedCell.{PositionedCell}
-use Rattle.html_render_parts.specs.Placement.{own_rows_from}
+use Rattle.html_render_parts.specs.OwnCells.{own_rows_from}
 
 -- own cells of each row of a table, at their own columns
 abbrev pub own_rows : List (List Span) → List (List PositionedCell)

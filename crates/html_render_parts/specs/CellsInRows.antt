@@ -1,16 +1,9 @@
 -- Own cells of a table in the rows of its grid.
-use Rattle.std.specs.Prelude.{ℕ, Bool, true, false, List, filter, map}
-use Rattle.html_render_parts.specs.declared.table.CellKind.{CellKind}
-use Rattle.html_render_parts.specs.declared.table.CellKind.TheVariants.{Cell, Placeholder, Gap}
+use Rattle.std.specs.Prelude.{ℕ, List, filter, map}
 use Rattle.html_render_parts.specs.declared.table.PlacedCell.{PlacedCell}
 use Rattle.html_render_parts.specs.declared.table.cells.GridCell.{GridCell}
 use Rattle.html_render_parts.specs.Grid.{rank}
-
--- whether a place holds an own cell of its row
-abbrev pub is_cell : CellKind → Bool
-is_cell Cell = true
-is_cell Placeholder = false
-is_cell Gap = false
+use Rattle.html_render_parts.specs.TableCells.{is_cell}
 
 -- first column and number of columns of each own cell among the places of a row
 abbrev pub cells_in : (edges : List ℕ) → List PlacedCell → List (ℕ × ℕ)

@@ -111,8 +111,3 @@ rows_from row hung (cells ∷ more) = row_from 0 hung cells ∷ rows_from (row +
 -- places of all rows of a table, and of the rows below the last one
 abbrev pub placed_rows : List (List Span) → List (List Place)
 placed_rows rows = rows_from 0 [] rows
-
--- own cells of the rows from `row` on, at their own columns
-abbrev pub own_rows_from : ℕ → (hung : List PositionedCell) → List (List Span) → List (List PositionedCell)
-own_rows_from row hung [] = []
-own_rows_from row hung (cells ∷ more) = let own = own_from row 0 hung cells in own ∷ own_rows_from (row + 1) (hanging (row + 1) (hung ++ own)) more

@@ -9,7 +9,7 @@ use Rattle.html_render_parts.specs.declared.table.placement.Place.{Place}
 use Rattle.html_render_parts.specs.declared.table.placement.PositionedCell.{PositionedCell}
 use Rattle.html_render_parts.specs.Placement.{own_from}
 use Rattle.html_render_parts.specs.PlacementSteps.{row_fits, row_told}
-use Rattle.html_render_parts.specs.TableCells.{cell_at, on_columns}
+use Rattle.html_render_parts.specs.OwnCells.{cell_at, on_columns}
 
 -- places of a row; `None` if one would end past 2^128 - 1
 abbrev pub fitting_row : List Place → Option (List Place)

@@ -1,11 +1,12 @@
 -- The cells of a table on the columns of its grid, and the places in each of its rows.
-use Rattle.std.specs.Prelude.{◌≡◌, ℕ, ◌+◌, ◌-◌, List, [], length, map, Option, Some, None, slice_index_or, if◌then◌else◌}
+use Rattle.std.specs.Prelude.{◌≡◌, ℕ, ◌+◌, ◌-◌, Bool, true, false, List, length, map, filter, zip, Option, Some, option_map, slice_index_or}
 use Rattle.html_render_parts.specs.declared.table.Span.{Span}
 use Rattle.html_render_parts.specs.declared.table.PlacedCell.{PlacedCell}
 use Rattle.html_render_parts.specs.declared.table.cells.GridCell.{GridCell}
-use Rattle.html_render_parts.specs.declared.table.placement.PositionedCell.{PositionedCell}
-use Rattle.html_render_parts.specs.Placement.{placed_rows, own_rows_from}
-use Rattle.html_render_parts.specs.Grid.{AreValid, edges_of, rank, numbered, positions_fit}
+use Rattle.html_render_parts.specs.declared.table.CellKind.{CellKind}
+use Rattle.html_render_parts.specs.declared.table.CellKind.TheVariants.{Cell}
+use Rattle.html_render_parts.specs.Placement.{placed_rows}
+use Rattle.html_render_parts.specs.Grid.{AreValid, grid_of, rank, numbered}
 
 -- edges of a table, and its own cells row by row
 pub record CellGrid : Type 0 where
@@ -16,21 +17,20 @@ pub record CellGrid : Type 0 where
 abbrev pub columns_of : CellGrid → ℕ
 columns_of g = length g.edges - 1
 
--- a cell of this span on the columns between its own column and its end: their first and their number, and its rowspan
-abbrev pub cell_at : (edges : List ℕ) → (column : ℕ) → Span → GridCell
-cell_at edges column s =
-    let first = rank edges column in
-    record { rowspan = s.rowspan; first = first; columns = rank edges (column + s.colspan) - first }
+-- whether a place holds an own cell of its row
+abbrev pub is_cell : CellKind → Bool
+is_cell Cell = true
+is_cell _ = false
 
--- a cell on the columns of its grid
-abbrev pub on_columns : (edges : List ℕ) → PositionedCell → GridCell
-on_columns edges c = cell_at edges c.column c.span
+-- own cells of a row on its columns, by the row's places and the cells' spans
+abbrev pub cells_on : (edges : List ℕ) → List PlacedCell → List Span → List GridCell
+cells_on edges places spans =
+    map (λ (x : PlacedCell × Span). record { rowspan = x.1.rowspan; first = rank edges x.0.start; columns = x.0.columns })
+    (zip (filter (λ p. is_cell p.kind) places) spans)
 
--- cells of these rows on the columns of their grid; `None` if a place would end past 2^128 - 1
+-- the grid of these rows with its own cells; `None` if a place would end past 2^128 - 1
 abbrev pub cell_grid_of : List (List Span) → Option CellGrid
-cell_grid_of rows =
-    let edges = edges_of (placed_rows rows) in
-    if positions_fit (placed_rows rows) then Some (record { edges = edges; rows = map (map (on_columns edges)) (own_rows_from 0 [] rows) }) else None
+cell_grid_of rows = option_map (λ g. record { edges = g.0; rows = map (λ x. cells_on g.0 x.0 x.1) (zip g.1 rows) }) (grid_of rows)
 
 -- span of a cell: its colspan is the distance of its edges
 abbrev pub span_on : (edges : List ℕ) → GridCell → Span

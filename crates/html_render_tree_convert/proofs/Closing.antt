@@ -3,7 +3,7 @@ use Rattle.std.proofs.Common.{◌≡◌, ℕ, Bool, true, false, not, ◌&&◌, 
 use Rattle.std.proofs.Math.Seq.{take-append-add, take-append_seam, drop-append-add, drop-append_seam}
 use Rattle.std.proofs.Math.Bool.{and-false, and-true, or-false, or-true}
 use Rattle.std.proofs.lemmas.Bool.{cases_Bool}
-use Rattle.std.specs.Prelude.{filter, flat_map, option_to_list}
+use Rattle.std.specs.Prelude.{filter, flat_map, option_to_list, zip}
 use Rattle.std.specs.List.{list_any}
 use Rattle.html_render_dom_values.specs.Forest.{followed_by, none, node}
 use Rattle.html_render_dom_values.specs.Outcome.{◌>>=◌}
@@ -16,7 +16,10 @@ use Rattle.html_render_layout_nodes.specs.declared.tree.NodeKind.{NodeKind}
 use Rattle.html_render_layout_nodes.specs.declared.tree.NodeKind.TheVariants.{Container, Dl, FragmentStart, Link, Ol, TableCell, TableRow}
 use Rattle.html_render_layout_nodes.specs.declared.tree.NodeStyle.{NodeStyle}
 use Rattle.html_render_layout_nodes.specs.declared.tree.RenderNode.{RenderNode}
-use Rattle.html_render_parts.specs.TableCells.{cell_grid_of}
+use Rattle.html_render_parts.specs.Grid.{grid_of}
+use Rattle.html_render_parts.specs.TableCells.{CellGrid, cell_grid_of, cells_on}
+use Rattle.html_render_parts.specs.declared.table.PlacedCell.{PlacedCell}
+use Rattle.html_render_parts.specs.declared.table.Span.{Span}
 use Rattle.html_render_tree_convert.specs.Conversion.{vanishes}
 use Rattle.html_render_tree_convert.specs.Results.{Result, Role, all_alone, alone, are_rows, beside, captioned, cell_of, has_stray, inserted, is_caption, left_of, level_in, made, over, row_of, row_over, rows_over, spans_of, stands_alone, table_of, table_over}
 use Rattle.html_render_tree_convert.specs.Results as role
@@ -335,6 +338,10 @@ any-filter f g (x ∷ xs) = elim (cases_Bool (g x)) [
 abbrev parts : List Result → List Result
 parts rs = kept (open_kind.Parts []) rs
 
+-- own cells of rows on a grid
+abbrev with_cells : List (List Span) → List ℕ × List (List PlacedCell) → CellGrid
+with_cells rows g = record { edges = g.0; rows = map (λ (x : List PlacedCell × List Span). cells_on g.0 x.0 x.1) (zip g.1 rows) }
+
 abbrev grid_over : List Result → Option TableParts
 grid_over rs = option_map unmeasured_table (cell_grid_of (flat_map (λ r. spans_of r.role) (parts rs)))
 
@@ -346,7 +353,8 @@ parts-left style f m i c rs q ps =
     seam rs (created (open_kind.Parts []) (record { mark = m; own = i; given = nothing }) f c) (leaf (node_in style Container) ∷ []) q ps
     ∙ simp map-map
     (ap (λ b. option_map (λ g. outside ps (come (if vanishes f b then mark_left m
-    else Some (closed_result (record (table_over style (unmeasured_table g) (parts rs)) { below = filled 2 i (beside (parts rs)) }))) q)) (cell_grid_of (flat_map (λ r. spans_of r.role) (parts rs))))
+    else Some (closed_result (record (table_over style (unmeasured_table (with_cells (flat_map (λ r. spans_of r.role) (parts rs)) g)) (parts rs))
+    { below = filled 2 i (beside (parts rs)) }))) q)) (grid_of (flat_map (λ r. spans_of r.role) (parts rs))))
     (any-filter (λ r. r.has_children) (λ r. are_rows r.role) rs))
 
 any-map : {X Y : Type 0} (p : Y → Bool) (f : X → Y) (xs : List X) → list_any p (map f xs) ≡ list_any (λ x. p (f x)) xs

@@ -11,7 +11,7 @@ use Rattle.html_render_dom_styles.specs.Selectors.{is_filled}
 use Rattle.html_render_parts.specs.TableCells.{cell_grid_of}
 use Rattle.html_render_parts.specs.declared.table.Span.{Span}
 use Rattle.html_render_layout_nodes.specs.declared.tree.NodeKind.{NodeKind}
-use Rattle.html_render_layout_nodes.specs.declared.tree.NodeKind.TheVariants.{Text, Container, Break, Block, Ol, ListItem, Dl, Dt, Dd, Link}
+use Rattle.html_render_layout_nodes.specs.declared.tree.NodeKind.TheVariants.{Text, Container, Block, Ol, ListItem, Dl, Dt, Dd, Link}
 use Rattle.html_render_layout_nodes.specs.declared.tree.NodeKind.TheVariants.{Image, Svg, FragmentStart, Table, TableRow, TableCell}
 use Rattle.html_render_layout_nodes.specs.declared.tree.NodeStyle.{NodeStyle}
 use Rattle.html_render_layout_nodes.specs.declared.tree.RenderNode.{RenderNode}

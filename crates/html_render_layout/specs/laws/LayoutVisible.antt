@@ -1,5 +1,6 @@
 -- A layout loses no visible character of the texts that it visits, and restores the treatment of texts and the decorator.
 use Rattle.std.specs.Fmt.{decimal}
+use Rattle.std.specs.Option.{option_map_or}
 use Rattle.std.specs.Str.{chars}
 use Rattle.std.proofs.Common.{◌≡◌, ℕ, ◌+◌, ◌≤◌, ◌==◌, false, List, [], ◌∷◌, ◌++◌, length, codes, Option, Some, None, option_and_then}
 use Rattle.std.proofs.Common.{IfSome, map, refl, ap, sym, ◌∙◌, subst, arith}
@@ -33,13 +34,17 @@ use Rattle.html_render_layout.specs.Layout.{OwnBlock}
 use Rattle.html_render_layout.specs.Layout.{Shared, Prefixed, Indented}
 use Rattle.html_render_layout.specs.declared.state.LayoutState.{LayoutState}
 use Rattle.html_render_layout_estimates.specs.declared.settings.LayoutSettings.{LayoutSettings}
-use Rattle.html_render_layout.specs.Kept.{visited_nodes, node_characters, KeepsTexts}
-use Rattle.html_render_layout.specs.Layout.{Algebra, Step, Write, WriteNumber, Annotate, Treat, Strike, Unstrike, Restore, NewLine, NewLineHard}
+use Rattle.html_render_layout.specs.Kept.{visited_nodes, KeepsTexts}
+use Rattle.html_render_layout.specs.Layout.{Algebra, kind_text, Step, Write, WriteNumber, Annotate, Treat, Strike, Unstrike, Restore, NewLine, NewLineHard}
 use Rattle.html_render_layout.specs.Layout.{StartBlock, EndBlock, Fence, BeginTable, EndTable, AddTarget, AddMark}
 use Rattle.html_render_layout.specs.Layout.{Shape, Steps, Around, Items, Cells, block_of, shape_of, style_steps}
 use Rattle.html_render_layout.specs.Layout.{annotated, struck, on_block, text_style, write, perform, perform_all, joined, appended, appended_block}
 use Rattle.html_render_layout.specs.Layout.{block_place, cell_place, shape_layout, kind_layout, layout_of, Defined, defined, by_stacks, empty_state, estimated, layout_lines}
 use Rattle.html_render_layout.specs.Ending.{closing_texts, ended}
+
+-- characters of a text; none for any other kind of node
+abbrev node_characters : NodeKind → List ℕ
+node_characters kind = option_map_or chars (kind_text kind) []
 
 -- v counts in a block, and w in a text. Adding a text adds at least its count, and no operation lowers a count. w counts no
 -- less in a struck-out text than in the text.

@@ -29,11 +29,11 @@ use Rattle.html_render_layout_nodes.specs.Counts.{CountsNodes}
 use Rattle.html_render_layout_nodes.specs.Visitor.{visited, most_open}
 use Rattle.html_render_layout_nodes.specs.laws.Counts.{counts-same}
 use Rattle.html_render_layout_estimates.specs.declared.settings.LayoutSettings.{LayoutSettings}
-use Rattle.html_render_layout.specs.Layout.{by_stacks, layout_of, shown_after, Defined, defined, begin_with, empty_state}
+use Rattle.html_render_layout.specs.Layout.{by_stacks, layout_of, shown_after, Defined, defined, empty_state}
 use Rattle.html_render_layout.specs.Layout.{estimated, layout, layout_lines, mark_names, unannotated}
 use Rattle.html_render_layout.specs.laws.Related.{Other}
 use Rattle.html_render_layout.specs.laws.Sizes.{shown-needed, counts-needed}
-use Rattle.html_render_layout.specs.Working.{padding, by_tags, Worked, tabled, work_lines, work_names, Untagged, untagged, untagged_work}
+use Rattle.html_render_layout.specs.Working.{begin_with, padding, by_tags, Worked, tabled, work_lines, work_names, Untagged, untagged, untagged_work}
 use Rattle.html_render_layout.specs.laws.Representation.{Represents, walk-represented, lines-represented, names-represented}
 
 -- ---- a map of tags that changes none

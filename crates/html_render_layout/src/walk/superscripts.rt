@@ -6,7 +6,8 @@ ghost use Rattle.std.specs.List.{list_all};
 ghost use Rattle.std.specs.Str.{chars};
 ghost use Rattle.html_render_dom_values.specs.Outcome.{Refuses};
 ghost use Rattle.html_render_layout_nodes.specs.Preorder.{flatten, forest_of};
-ghost use Rattle.html_render_layout.specs.Layout.{write, digits_of_kind, digits_of, raised};
+ghost use Rattle.html_render_layout.specs.Layout.{write, digits_of, raised};
+ghost use Rattle.html_render_layout.specs.Opening.{digits_of_kind};
 ghost use Rattle.html_render_layout.specs.Working.{by_tags};
 
 use super::texts::add_text;

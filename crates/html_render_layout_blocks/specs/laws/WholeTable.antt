@@ -20,7 +20,7 @@ use Rattle.html_render_layout_pictures.specs.laws.Rows.{drawn_is}
 use Rattle.html_render_layout_blocks.specs.declared.block.rows.RowPlace.{RowPlace}
 use Rattle.html_render_layout_blocks.specs.declared.block.tables.OpenTable.{OpenTable}
 use Rattle.html_render_layout_blocks.specs.declared.block.tables.OpenTable.TheVariants.{Across, Stacked}
-use Rattle.html_render_layout_blocks.specs.Block.{Block, flush, feed, mark_items, put_lines, add_border, put_stacked, stacked_begun, cell_added}
+use Rattle.html_render_layout_blocks.specs.Block.{flush, feed, mark_items, put_lines, add_border, put_stacked, stacked_begun, cell_added}
 use Rattle.html_render_layout_blocks.specs.Block.{paragraph_setting, inner_block, with_table_begun, row_ended, end_table, operations}
 use Rattle.html_render_layout_blocks.specs.Machine.{machine, MachineBlock}
 use Rattle.html_render_layout_blocks.specs.CellByCell.{finished_of, with_finished, added_cell, added_cells, added_row, added_rows, inside_row, added_table}

@@ -4,6 +4,7 @@ ghost use Rattle.std.specs.Prelude.{◌≡◌, suc, ◌+◌, ◌-◌, ◌^◌, �
 ghost use Rattle.std.specs.List.{list_any};
 ghost use Rattle.html_render_dom_values.specs.Outcome.{OnlyOutOfMemory};
 ghost use Rattle.html_render_parts_widths.specs.Shares.{widths_across};
+ghost use Rattle.html_render_parts.specs.TableCells.{is_cell};
 ghost use Rattle.html_render_layout_blocks.specs.OpenRows as rows;
 
 use html_render_dom_values::Error;
@@ -72,7 +73,7 @@ impl Model for Widths {
 
 /// Reports whether a place has a cell of the row itself.
 fn is_cell(kind: CellKind) -> bool
-    ensures { result ≡ rows.is_own_cell kind }
+    ensures { result ≡ is_cell kind }
 {
     matches!(kind, CellKind::Cell)
 }

@@ -17,7 +17,8 @@ use Rattle.html_render_parts.specs.declared.table.cells.GridCell.{GridCell}
 use Rattle.html_render_parts_widths.specs.declared.needs.CellNeed.{CellNeed}
 use Rattle.html_render_layout_estimates.specs.declared.settings.LayoutSettings.{LayoutSettings}
 use Rattle.html_render_layout_estimates.specs.Cells.{row_needs, cell_needs}
-use Rattle.html_render_layout_estimates.specs.Estimates.{trees, greatest_least, total_size, prefix_of, measured_kind, estimate_of, measured}
+use Rattle.html_render_layout_estimates.specs.Estimates.{prefix_of, measured_kind, estimate_of, measured}
+use Rattle.html_render_layout_estimates.specs.Children.{trees, greatest_least, total_size}
 use Rattle.html_render_layout_estimates.specs.Passes.{is_table, has_table, without_sizes, with_needed_sizes}
 use Rattle.html_render_layout_estimates.specs.Words.{with_words, column_words, shapes, with_longest, worded, worded_kind}
 use Rattle.html_render_layout_estimates.specs.laws.Words.{words-plain}

@@ -6,7 +6,7 @@ ghost use Rattle.std.specs.List.Sorted.{IsStrictlyIncreasing};
 ghost use Rattle.html_render_parts.specs.Placement.{row_from};
 ghost use Rattle.html_render_parts.specs.PlacementSteps.{row_fits, row_told};
 ghost use Rattle.html_render_parts.specs.SimpleRows.{cells_from, fitting_row, place_on};
-ghost use Rattle.html_render_parts.specs.TableCells.{cell_at};
+ghost use Rattle.html_render_parts.specs.OwnCells.{cell_at};
 ghost use Rattle.html_render_parts.specs.Refusal.{Fails};
 
 use crate::table::cells::GridCell;

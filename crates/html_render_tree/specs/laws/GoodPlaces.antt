@@ -3,9 +3,9 @@ use Rattle.std.proofs.Common.{◌≡◌, ℕ, ◌+◌, ◌-◌, Bool, true, ◌&
 use Rattle.std.specs.Option.{option_map_or}
 use Rattle.std.proofs.lemmas.Bool.{and_from, and_parts}
 use Rattle.html_render_dom_values.specs.Forest.{none, node, followed_by}
-use Rattle.html_render_parts.specs.Placement.{own_from, own_rows_from, due_end, not_due, hanging}
+use Rattle.html_render_parts.specs.Placement.{own_from, hanging, due_end, not_due}
+use Rattle.html_render_parts.specs.OwnCells.{own_rows_from, on_columns}
 use Rattle.html_render_parts.specs.Spans.{spanned, spanned_in, width_of}
-use Rattle.html_render_parts.specs.TableCells.{on_columns}
 use Rattle.html_render_parts.specs.declared.table.Span.{Span}
 use Rattle.html_render_parts.specs.declared.table.cells.GridCell.{GridCell}
 use Rattle.html_render_parts.specs.declared.table.placement.PositionedCell.{PositionedCell}

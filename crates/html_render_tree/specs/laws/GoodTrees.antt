@@ -10,6 +10,7 @@ use Rattle.html_render_dom_styles.specs.Selectors.{is_filled}
 use Rattle.html_render_parts.specs.Grid.{edges_of, positions_fit}
 use Rattle.html_render_parts.specs.Placement.{placed_rows}
 use Rattle.html_render_parts.specs.TableCells.{CellGrid, cell_grid_of}
+use Rattle.html_render_parts.specs.laws.OwnCells.{cells-own}
 use Rattle.html_render_parts.specs.declared.table.Span.{Span}
 use Rattle.html_render_layout_nodes.specs.Tables.{TableParts, unmeasured_table}
 use Rattle.html_render_layout_nodes.specs.declared.tree.NodeKind.{NodeKind}
@@ -256,10 +257,10 @@ no-texts mark before after h t = cc
 -- the grid of a table has its rows
 grid-alike : (spans : List (List Span)) →
     IfSome (option_map unmeasured_table (cell_grid_of spans)) (λ grid. rows_like grid.cells.rows ≡ rows_like spans)
-grid-alike spans =
-    cond_both (positions_fit (placed_rows spans)) _ None
+grid-alike spans = rw (cells-own spans)
+    (cond_both (positions_fit (placed_rows spans)) _ None
     (λ (o : Option CellGrid). IfSome (option_map unmeasured_table o) (λ grid. rows_like grid.cells.rows ≡ rows_like spans))
-    (λ e. own_rows-alike (edges_of (placed_rows spans)) 0 [] spans) (λ e. tt)
+    (λ e. own_rows-alike (edges_of (placed_rows spans)) 0 [] spans) (λ e. tt))
 
 module _ (e : Element) where
   abbrev in_front : List Result

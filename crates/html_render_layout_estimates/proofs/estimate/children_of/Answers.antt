@@ -1,5 +1,5 @@
 use Rattle.std.proofs.Common.{ap, arith}
-use Rattle.html_render_layout_estimates.specs.Estimates.{trees, greatest_least, total_size}
+use Rattle.html_render_layout_estimates.specs.Children.{trees, greatest_least, total_size}
 use Rattle.html_render_layout_estimates.proofs.estimate.children_of.Goals as goal
 
 pub returns-clause-count : goal.returns-clause-count

@@ -1,7 +1,7 @@
 use Rattle.std.proofs.Common.{◌≡◌, ◌+◌, ◌^◌, ◌≤◌, ◌<◌, max, length}
 use Rattle.html_render_layout_nodes.specs.Preorder.{flatten, forest_of}
 use Rattle.html_render_layout_estimates.specs.TextSize.{saturated}
-use Rattle.html_render_layout_estimates.specs.Estimates.{trees, greatest_least, total_size}
+use Rattle.html_render_layout_estimates.specs.Children.{trees, greatest_least, total_size}
 use Rattle.html_render_layout_estimates.proofs.estimate.children_of.Given as goal
 
 abbrev pub invariant-loop-first : goal.invariant-loop-first

@@ -1,7 +1,8 @@
 use Rattle.std.proofs.Common.{◌+◌, cond, false, sym, ap, ◌∙◌, arith}
 use Rattle.std.specs.Str.{chars}
 use Rattle.html_render_layout_estimates.specs.TextSize.{collapsed_columns}
-use Rattle.html_render_layout_estimates.specs.Words.{joined_shapes, shape_after}
+use Rattle.html_render_layout_estimates.specs.Words.{joined_shapes}
+use Rattle.html_render_layout_estimates.specs.WordSteps.{shape_after}
 use Rattle.html_render_layout_estimates.specs.declared.words.WordShape.TheVariants.{Part}
 use Rattle.html_render_layout_estimates.proofs.Sizes.{letters-columns}
 use Rattle.html_render_layout_estimates.proofs.Shapes.{letters-shape}

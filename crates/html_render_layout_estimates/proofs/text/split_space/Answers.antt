@@ -2,7 +2,8 @@ use Rattle.std.proofs.Common.{◌≡◌, ◌==◌, ◌<◌, ℕ, zero, suc, true
 use Rattle.std.proofs.lemmas.Bool.{true≢false}
 use Rattle.std.specs.Str.{chars}
 use Rattle.html_render_layout_estimates.specs.TextSize.{collapsed_columns}
-use Rattle.html_render_layout_estimates.specs.Words.{word_break, joined_shapes, shape_after}
+use Rattle.html_render_layout_estimates.specs.Words.{word_break, joined_shapes}
+use Rattle.html_render_layout_estimates.specs.WordSteps.{shape_after}
 use Rattle.html_render_layout_estimates.proofs.Sizes.{space-columns}
 use Rattle.html_render_layout_estimates.proofs.Shapes.{space-shape}
 use Rattle.html_render_layout_estimates.proofs.text.split_space.Goals as goal

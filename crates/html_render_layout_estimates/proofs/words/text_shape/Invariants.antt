@@ -2,7 +2,8 @@ use Rattle.std.proofs.Common.{◌≡◌, length}
 use denote.Text.{Utf8}
 use denote.Shadow.{shadow}
 use Rattle.std.specs.Str.{chars}
-use Rattle.html_render_layout_estimates.specs.Words.{shape_after, text_shape}
+use Rattle.html_render_layout_estimates.specs.Words.{text_shape}
+use Rattle.html_render_layout_estimates.specs.WordSteps.{shape_after}
 use Rattle.html_render_layout_estimates.proofs.words.text_shape.Given as goal
 
 abbrev pub invariant-loop-c : goal.invariant-loop-c

@@ -1,6 +1,7 @@
 use Rattle.std.proofs.Common.{◌≡◌, ◌++◌, [], List, drop, length}
 use Rattle.html_render_parts.specs.declared.table.placement.PositionedCell.{PositionedCell}
-use Rattle.html_render_parts.specs.Placement.{bottom_rows, lists, own_rows_from, placed_rows, rows_from}
+use Rattle.html_render_parts.specs.Placement.{bottom_rows, lists, placed_rows, rows_from}
+use Rattle.html_render_parts.specs.OwnCells.{own_rows_from}
 use Rattle.html_render_parts.specs.SimpleRows.{own_with_simple}
 use Rattle.html_render_parts.proofs.GatheringEnds.{IsGathered}
 use Rattle.html_render_parts.proofs.table.cells.place_cells.Given as goal

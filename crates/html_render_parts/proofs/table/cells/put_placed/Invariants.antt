@@ -1,5 +1,5 @@
 use Rattle.std.proofs.Common.{◌≡◌, map, take}
-use Rattle.html_render_parts.specs.TableCells.{on_columns}
+use Rattle.html_render_parts.specs.OwnCells.{on_columns}
 use Rattle.html_render_parts.proofs.table.cells.put_placed.Given as goal
 
 abbrev pub invariant-loop-cell : goal.invariant-loop-cell

@@ -1,7 +1,8 @@
 use Rattle.std.proofs.Common.{◌≡◌, ◌+◌, ◌<◌, ◌^◌, ◌∷◌, [], All, ap, map, refl, subst, sym, ◌∙◌}
-use Rattle.html_render_parts.specs.Placement.{lists, own_rows_from, placed_rows}
+use Rattle.html_render_parts.specs.Placement.{lists, placed_rows}
+use Rattle.html_render_parts.specs.OwnCells.{own_rows_from, on_columns}
 use Rattle.html_render_parts.specs.Grid.{edges_of, ends}
-use Rattle.html_render_parts.specs.TableCells.{on_columns}
+use Rattle.html_render_parts.specs.laws.OwnCells.{cells-own}
 use Rattle.html_render_parts.proofs.CellsOnColumns.{cells-valid, own-within}
 use Rattle.html_render_parts.proofs.EdgeRanks.{IsStrictlyIncreasing-rising}
 use Rattle.html_render_parts.proofs.SimpleRows.{all-stored_fit, rows-own}
@@ -38,4 +39,4 @@ returns-clause-ok c =
     let cells : c.in_ok-rows.rows ≡ map (map (on_columns es)) (own_rows_from 0 [] rows) =
     (rw (c.deref.ensures.value, c.in_ok-placed.ensures.edges) at c.in_ok-rows.ensures)
     ∙ rows-own es 0 rows own ∙ ap (map (map (on_columns es))) c.in_ok-placed.ensures.own in
-    rw (c.in_ok-shared.ensures.ok, c.in_ok-placed.ensures.edges, cells, c.in_ok-placed.ensures.fits) refl
+    cells-own rows ∙ (rw (c.in_ok-shared.ensures.ok, c.in_ok-placed.ensures.edges, cells, c.in_ok-placed.ensures.fits) refl)
