@@ -238,17 +238,34 @@ fn padding<T: Tag>(settings: &LayoutSettings, tag: T) -> Option<T>
     }
 }
 
-/// Returns the empty block of a document, under the tag without annotations.
+/// Number of bytes of text for which memory is reserved for each node of a tree: those of a short line and part of its borders.
+const NODE_BYTES: usize = 64;
+
+/// Returns the number of nodes for whose lines memory is reserved: all if a measured tree has a table, and otherwise none.
+fn reserved_nodes(tree: &PreorderForest<RenderNode>) -> usize {
+    let entries = tree.entries();
+    match entries.first() {
+        // without a table, no preferred width is measured
+        Some(entry) if entry.node.estimate.preferred_width > 0 => entries.len(),
+        _ => 0,
+    }
+}
+
+/// Returns the empty block of a document, under the tag without annotations. Reserves memory for the lines of `nodes` nodes, a line
+/// for each, so that the memory of many lines isn't copied as it grows.
 fn document_block<T: Tag>(
     alloc: Global,
     setting: BlockSetting,
     padding: Option<T>,
     tag: T,
+    nodes: usize,
 ) -> Result<CurrentBlock<T, usize>, Error>
     ensures ok { IfOk result (λ held. held ≡ empty_block machine setting padding) }
     ensures err { OnlyOutOfMemory result }
 {
-    CurrentBlock::new(alloc, Block::new(alloc, setting, padding), tag)
+    let mut block = Block::new(alloc, setting, padding);
+    block.reserve(nodes.saturating_mul(NODE_BYTES), nodes)?;
+    CurrentBlock::new(alloc, block, tag)
 }
 
 /// Lays out a tree in a block. Returns its lines with their annotation stacks and the names of their marks.
@@ -298,7 +315,8 @@ pub fn lay_out<D: TextDecorator>(
         return Err(Error::TooNarrow);
     }
     let own = prepare(alloc, decorator, settings, tree)?;
-    let block = document_block(alloc, block, padding(settings, 0), 0)?;
+    let nodes = reserved_nodes(&own.tree);
+    let block = document_block(alloc, block, padding(settings, 0), 0, nodes)?;
     let state = begin_with(
         alloc,
         own.settings,
@@ -350,7 +368,8 @@ pub fn lay_out_untagged<D: TextDecorator>(
         return Err(Error::TooNarrow);
     }
     let own = prepare(alloc, decorator, settings, tree)?;
-    let block = document_block(alloc, block, padding(settings, ()), ())?;
+    let nodes = reserved_nodes(&own.tree);
+    let block = document_block(alloc, block, padding(settings, ()), (), nodes)?;
     let state = begin_with(alloc, own.settings, own.decorator, Untagged, (), block);
     untagged_lines_from(alloc, &own.tree, state)
 }

@@ -161,6 +161,19 @@ impl<T: Tag, M: Copy> Block<T, M> {
         }
     }
 
+    /// Reserves memory for `bytes` more bytes of text and `lines` more lines.
+    ///
+    /// # Errors
+    ///
+    /// `OutOfMemory`.
+    pub fn reserve(&mut self, bytes: usize, lines: usize) -> Result<(), Error>
+        ensures same { self.new ≡ self.old }
+        ensures err { OnlyOutOfMemory result }
+    {
+        self.lines.reserve(bytes, lines)?;
+        Ok(())
+    }
+
     /// Returns the allocator.
     pub(crate) fn alloc(&self) -> Global {
         self.alloc

@@ -68,6 +68,17 @@ impl<T: Tag, M: Copy> FinishedLines<T, M> {
         }
     }
 
+    /// Reserves memory for `bytes` more bytes of text and `lines` more lines, after the last lines.
+    ///
+    /// # Errors
+    ///
+    /// `AllocError`.
+    pub fn reserve(&mut self, bytes: usize, lines: usize) -> Result<(), AllocError>
+        ensures { self.new ≡ self.old }
+    {
+        self.last.reserve(bytes, lines)
+    }
+
     /// Removes all lines, and keeps the memory of the last ones.
     pub fn clear(&mut self)
         ensures { self.new ≡ [] }
@@ -152,6 +163,20 @@ impl<T: Tag, M: Copy> FinishedLines<T, M> {
     {
         let none = LineBuffer::new(self.last.alloc());
         mem::replace(&mut self.last, none)
+    }
+
+    /// Moves lines to the end with their memory. They are those that [`FinishedLines::take_last`] moved out, and more.
+    ///
+    /// # Errors
+    ///
+    /// `AllocError`. Lines may be lost.
+    pub fn put_last(&mut self, lines: LineBuffer<T, M>) -> Result<(), AllocError>
+        requires { lines.line ≡ [] }
+        ensures { OnOk result (self.new ≡ self.old ++ lines.lines) }
+    {
+        settle(&mut self.pieces, &mut self.last)?;
+        self.last = lines;
+        Ok(())
     }
 
     /// Moves the lines of a buffer, whose open line must be empty, to the end.

@@ -88,7 +88,8 @@ impl<T: Tag, M: Copy> Block<T, M> {
         last.push_marks(marks.as_slice())?;
         push_fillers(&mut last, filler, width, tag)?;
         last.end_line()?;
-        self.lines.append_buffer(&mut last)
+        self.lines.put_last(last)?;
+        Ok(())
     }
 
     /// Makes a stacked table the open one.

@@ -19,9 +19,12 @@ use html_render_layout_lines::tag::Tag;
 use std::alloc::AllocError;
 use std::mem;
 
-/// Maximum length, in bytes, of a text that is copied to a buffer whose memory is too small for it. The memory of a longer text
-/// is taken instead.
+/// Maximum length, in bytes, of a text that is copied to a buffer without lines. The memory of a longer text is taken instead.
 const FEW: usize = 1024;
+
+/// Maximum memory, in bytes, that a buffer without lines gives away for the text of a few bytes. A larger one is kept, since lines of
+/// this buffer needed it.
+const MUCH: usize = 16_384;
 
 impl<T: Tag, M: Copy> LineBuffer<T, M> {
     /// Appends copies of another buffer's lines. Its open line becomes the open line.
@@ -194,10 +197,12 @@ impl<T: Tag, M: Copy> LineBuffer<T, M> {
         Ok(())
     }
 
-    /// Reports whether the memory of this buffer is large enough for another one's text, or that is too long to be copied.
-    fn is_as_large(&self, other: &LineBuffer<T, M>) -> bool {
+    /// Reports whether another buffer's text is too long to be copied, or the memory of this buffer is large enough for it and
+    /// not so large that this buffer keeps it.
+    fn exchanges_memory(&self, other: &LineBuffer<T, M>) -> bool {
         let bytes = other.byte_count();
-        self.text.capacity() >= bytes || bytes > FEW
+        let memory = self.text.capacity();
+        bytes > FEW || (bytes <= memory && memory <= MUCH)
     }
 
     /// Exchanges the lines and the memory of two buffers. Field by field this takes no call.
@@ -216,8 +221,9 @@ impl<T: Tag, M: Copy> LineBuffer<T, M> {
 
     /// Moves another buffer's lines to the end of this one. Its open line becomes the open line.
     ///
-    /// If this buffer has no lines, the two exchange their memory, unless this one's is too small for the other text and that has
-    /// at most [`FEW`] bytes. In all other cases the lines are copied.
+    /// If this buffer has no lines and the other text has more than [`FEW`] bytes, the two exchange their memory. For a shorter
+    /// text they do so if this buffer's memory is large enough for it and has at most [`MUCH`] bytes. In all other cases the lines
+    /// are copied.
     ///
     /// # Errors
     ///
@@ -229,7 +235,7 @@ impl<T: Tag, M: Copy> LineBuffer<T, M> {
         ensures err { OnErr result (self.new ≡ no_lines) }
         ensures kept { OnErr result (other.new ≡ other.old) }
     {
-        if self.line_count() == 0 && self.is_as_large(other) {
+        if self.line_count() == 0 && self.exchanges_memory(other) {
             self.exchange(other);
             return Ok(());
         }
