@@ -15,6 +15,7 @@ use crate::tagging::Tagging;
 use crate::working::{Interrupted, OuterBlock, State};
 use html_render_dom_values::Error;
 use html_render_layout_blocks::held::{BoxedBlock, CurrentBlock, PrefixText, Prefixing};
+use html_render_layout_buffer::prefix::Prefix;
 use html_render_layout_estimates::text::columns;
 use html_render_layout_lines::tag::Tag;
 use html_render_layout_pictures::gaps::{CHUNK, few_spaces};
@@ -97,11 +98,12 @@ fn append_behind<T: Tag>(
     ensures err { IfErr result (λ e. Refuses e (machine.operations.append block.old sub.block sub.tag (chars sub.prefix) (spaces sub.columns))) }
 {
     if sub.columns <= CHUNK {
-        let later = few_spaces(sub.columns);
-        return block.append(sub.block, sub.tag, sub.prefix.as_str(), later);
+        let later = Prefix::of_spaces(few_spaces(sub.columns), sub.columns, sub.tag);
+        return block.append(sub.block, sub.prefix.as_str(), &later);
     }
-    let later = many_spaces(alloc, sub.columns)?;
-    block.append(sub.block, sub.tag, sub.prefix.as_str(), later.as_str())
+    let text = many_spaces(alloc, sub.columns)?;
+    let later = Prefix::of_spaces(text.as_str(), sub.columns, sub.tag);
+    block.append(sub.block, sub.prefix.as_str(), &later)
 }
 
 /// Closes an indented sub-block: resumes the outer block, and appends the lines to it.
@@ -139,10 +141,9 @@ pub fn close_quote<D: TextDecorator, G: Tagging<D::Annotation>>(
 {
     let sub = state.block.resume(outer.block);
     let prefix = sub.prefix;
+    let later = Prefix::new(prefix.as_str(), sub.tag);
     state.block.as_mut().start_block()?;
-    state
-        .block
-        .append(sub.block, sub.tag, prefix.as_str(), prefix.as_str())?;
+    state.block.append(sub.block, prefix.as_str(), &later)?;
     state.block.as_mut().end_block();
     state.decorator = outer.decorator;
     Ok(())

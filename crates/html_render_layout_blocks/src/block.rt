@@ -485,15 +485,14 @@ impl<T: Tag, M: Copy> Block<T, M> {
         &mut self,
         lines: &mut FinishedLines<T, M>,
         end: &[M],
-        tag: T,
         first: &str,
-        later: &str,
+        later: &Prefix<'_, T>,
     ) -> Result<(), Error>
         ensures ok { OnOk result (option_map (λ all. block.put_lines machine self.old all end.now) (fitting self.old.setting.width self.old.setting.overflow
-            (prefixed (under tag (chars first.now)) (under tag (chars later.now)) lines.old)) ≡ Some self.new) }
+            (prefixed (under later.now.tag (chars first.now)) (under later.now.tag (chars later.now.text.now)) lines.old)) ≡ Some self.new) }
         ensures err { IfErr result (λ e. Refuses e (option_map (λ all. block.put_lines machine self.old all end.now)
             (fitting self.old.setting.width self.old.setting.overflow
-            (prefixed (under tag (chars first.now)) (under tag (chars later.now)) lines.old)))) }
+            (prefixed (under later.now.tag (chars first.now)) (under later.now.tag (chars later.now.text.now)) lines.old)))) }
     {
         if lines.is_empty() {
             return self.add_marks(end);
@@ -503,13 +502,13 @@ impl<T: Tag, M: Copy> Block<T, M> {
         self.move_lines(
             lines,
             waiting.as_slice(),
-            &Prefix::new(first, tag),
-            &Prefix::new(later, tag),
+            &Prefix::new(first, later.tag),
+            later,
         )
     }
 
-    /// Appends the lines of a sub-block, each after a prefix under a tag: the first line after `first`, the others
-    /// after `later`.
+    /// Appends the lines of a sub-block, each after a prefix under the tag of `later`: the first line after `first`, the
+    /// others after `later`.
     ///
     /// Both blocks are flushed first, and a table that is open in the sub-block is ended. Waiting marks of this block
     /// precede the first prefix. Those of the sub-block are put at the end of its last line. If the sub-block has no
@@ -524,17 +523,16 @@ impl<T: Tag, M: Copy> Block<T, M> {
     pub fn append(
         &mut self,
         sub: &mut Block<T, M>,
-        tag: T,
         first: &str,
-        later: &str,
+        later: &Prefix<'_, T>,
     ) -> Result<(), Error>
-        ensures ok { OnOk result (machine.operations.append self.old sub.old tag (chars first.now) (chars later.now) ≡ Some self.new) }
-        ensures err { IfErr result (λ e. Refuses e (machine.operations.append self.old sub.old tag (chars first.now) (chars later.now))) }
+        ensures ok { OnOk result (machine.operations.append self.old sub.old later.now.tag (chars first.now) (chars later.now.text.now) ≡ Some self.new) }
+        ensures err { IfErr result (λ e. Refuses e (machine.operations.append self.old sub.old later.now.tag (chars first.now) (chars later.now.text.now))) }
     {
         self.flush()?;
         sub.flush_whole()?;
         let end = sub.take_waiting();
-        self.append_lines(&mut sub.lines, end.as_slice(), tag, first, later)
+        self.append_lines(&mut sub.lines, end.as_slice(), first, later)
     }
 }
 

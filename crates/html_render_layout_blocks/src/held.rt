@@ -17,6 +17,7 @@ use crate::block::Block;
 use html_render_dom_values::Error;
 use html_render_dom_values::small_text::SmallText;
 use html_render_layout_buffer::finished::FinishedLines;
+use html_render_layout_buffer::prefix::Prefix;
 use html_render_layout_lines::tag::Tag;
 use std::alloc::{AllocError, Global};
 use std::marker::Model;
@@ -301,15 +302,14 @@ impl<T: Tag, M: Copy> CurrentBlock<T, M> {
     pub fn append(
         &mut self,
         sub: BoxedBlock<T, M>,
-        tag: T,
         first: &str,
-        later: &str,
+        later: &Prefix<'_, T>,
     ) -> Result<(), Error>
-        ensures ok { OnOk result (machine.operations.append self.old sub tag (chars first.now) (chars later.now) ≡ Some self.new) }
-        ensures err { IfErr result (λ e. Refuses e (machine.operations.append self.old sub tag (chars first.now) (chars later.now))) }
+        ensures ok { OnOk result (machine.operations.append self.old sub later.now.tag (chars first.now) (chars later.now.text.now) ≡ Some self.new) }
+        ensures err { IfErr result (λ e. Refuses e (machine.operations.append self.old sub later.now.tag (chars first.now) (chars later.now.text.now))) }
     {
         let mut inner = sub.held;
-        self.held.block.append(&mut inner.block, tag, first, later)?;
+        self.held.block.append(&mut inner.block, first, later)?;
         self.keep(inner)?;
         Ok(())
     }

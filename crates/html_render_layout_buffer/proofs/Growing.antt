@@ -67,9 +67,9 @@ under-spaces {T} M tag (suc n) =
     let one : Element T M = element.Character 32 tag in
     ap (λ y. one ∷ y) (under-spaces M tag n)
 
-pub columns-spaces : (n : ℕ) → text_columns (replicate n 32) ≡ n
-columns-spaces zero = refl
-columns-spaces (suc n) = omega (arith, sum_by-cons width_of 32 (replicate n 32), width-space, columns-spaces n)
+pub spaces_width : (n : ℕ) → text_columns (replicate n 32) ≡ n
+spaces_width zero = refl
+spaces_width (suc n) = omega (arith, sum_by-cons width_of 32 (replicate n 32), width-space, spaces_width n)
 
 -- some of them, and the ones that are left, are all of them
 pub spaces_parted : {T M : Type 0} (b : BufferedLines T M) (tag : T) (next left : ℕ) → next ≤ left →
@@ -114,7 +114,7 @@ columns-text {T} {M} (element.Character c tag ∷ l) utf8 =
     let first : chars bs ≡ c ∷ chars (text_bytes l) = chars_past_char bs (text_bytes l) c utf8 refl in
     omega (arith, ap text_columns first, sum_by-cons width_of c (chars (text_bytes l)), columns-text l rest, columns-cons one l)
 
-pub ruleset few_put = (columns-spaces, under-spaces)
+pub ruleset few_put = (spaces_width, under-spaces)
 
 pub ruleset spaces_left = (spaces_parted, spaces_done)
 

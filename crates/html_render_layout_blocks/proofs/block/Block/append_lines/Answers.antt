@@ -1,4 +1,4 @@
-use Rattle.std.proofs.Common.{◌≡◌, List, length, ap, ◌∙◌, arith}
+use Rattle.std.proofs.Common.{◌≡◌, List, length, refl, ap, ◌∙◌, arith}
 use Rattle.std.proofs.lemmas.Result.{on_ok_weaker, IfErr-weaker}
 use Rattle.std.specs.Str.{chars}
 use Rattle.html_render_layout_lines.specs.TaggedText.{under}
@@ -12,10 +12,10 @@ pub returns-clause-ok : goal.returns-clause-ok
 returns-clause-ok g c =
     let h = some_lines c.args.lines.now _ c.is_empty.ensures c.if-is_empty.false in
     on_ok_weaker c.move_lines.result
-    (λ e. moved_put c.args.self.now c.take_waiting-waiting.new.self (under c.args.tag (chars c.args.first.now)) (under c.args.tag (chars c.args.later.now))
+    (λ e. moved_put c.args.self.now c.take_waiting-waiting.new.self (under c.args.later.now.tag (chars c.args.first.now)) (under c.args.later.now.tag (chars c.args.later.now.text.now))
     _ _ c.args.lines.now c.mark_last.new.self c.args.end.now c.as_slice.result.now h c.in_ok-mark_last.ensures
     (c.as_slice.ensures.value ∙ c.take_waiting-waiting.ensures.marks) c.take_waiting-waiting.ensures.after (cc (c.new.ensures.text, c.new.ensures.tag))
-    (cc (c.new-2.ensures.text, c.new-2.ensures.tag)) ∙ e)
+    refl ∙ e)
     c.move_lines.ensures.ok
 
 pub returns-clause-err : goal.returns-clause-err
@@ -23,10 +23,10 @@ returns-clause-err g c =
     let h = some_lines c.args.lines.now _ c.is_empty.ensures c.if-is_empty.false in
     IfErr-weaker c.move_lines.result _ _
     (λ e k. refused-mapped e _ _ _
-    (moved_put c.args.self.now c.take_waiting-waiting.new.self (under c.args.tag (chars c.args.first.now)) (under c.args.tag (chars c.args.later.now))
+    (moved_put c.args.self.now c.take_waiting-waiting.new.self (under c.args.later.now.tag (chars c.args.first.now)) (under c.args.later.now.tag (chars c.args.later.now.text.now))
     _ _ c.args.lines.now c.mark_last.new.self c.args.end.now c.as_slice.result.now h c.in_ok-mark_last.ensures
     (c.as_slice.ensures.value ∙ c.take_waiting-waiting.ensures.marks) c.take_waiting-waiting.ensures.after (cc (c.new.ensures.text, c.new.ensures.tag))
-    (cc (c.new-2.ensures.text, c.new-2.ensures.tag))) k)
+    refl) k)
     c.move_lines.ensures.err
 
 pub move_lines-requires : goal.move_lines-requires
