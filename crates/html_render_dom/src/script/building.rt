@@ -177,7 +177,7 @@ fn append_texts(
     alloc: Global,
     dom: &mut RcDom,
     current: Handle,
-    texts: &mut Texts,
+    texts: &mut Texts<'_>,
 ) -> Result<(), ScriptError>
     requires { IsNode dom.old current }
     ensures ok { OnOk result (record { dom = dom.new; current = current } ≡ texts_put texts.old (record { dom = dom.old; current = current })) }
@@ -219,12 +219,12 @@ fn take_call_line(
 /// Takes one line of a script, and returns the node that is then current; `None` if the line is faulty. The text of a line
 /// is kept in `texts` with those of the lines after it, so that all are appended at once.
 #[inline(always)]
-fn take_line(
+fn take_line<'a>(
     alloc: Global,
     dom: &mut RcDom,
     current: Handle,
-    texts: &mut Texts,
-    line: &str,
+    texts: &mut Texts<'a>,
+    line: &'a str,
     is_plain: bool,
 ) -> Result<Option<Handle>, ScriptError>
     requires node { IsNode dom.old current }

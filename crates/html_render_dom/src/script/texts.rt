@@ -1,6 +1,7 @@
 //! Texts of a script, whose escapes are resolved.
 
-ghost use Rattle.std.specs.Prelude.{◌≡◌, ◌<◌, ◌∷◌, [], length, IfOk, MatchOption, false, true, Some, None, if◌then◌else◌, option_map, unwrap_or, string_bytes};
+ghost use Rattle.std.specs.Prelude.{◌≡◌, ◌<◌, ◌∷◌, [], length, IfOk, IsSome, OnOk, MatchOption, false, true, Some, None, if◌then◌else◌, option_map, unwrap_or, string_bytes};
+ghost use Rattle.std.specs.Option.{option_map_or};
 ghost use Rattle.std.specs.Str.{IsUtf8};
 ghost use Rattle.html_render_dom.specs.script.Commands.{unescaped};
 ghost use Rattle.html_render_dom.specs.script.Plain.{Lacks, text_followed_by};
@@ -9,31 +10,35 @@ use super::splits::split_at_byte;
 use std::alloc::{AllocError, Global};
 use std::marker::Model;
 
-/// Texts (`"text`) of consecutive lines, to be appended as one.
+/// Texts (`"text`) of consecutive lines, to be appended as one. An only text without escapes isn't copied.
 #[derive(Drop)]
-pub struct Texts {
-    /// The texts, joined.
+pub struct Texts<'a> {
+    /// The text of the first line, if it has no escape and no other line follows.
+    only: Option<&'a str>,
+    /// The texts, joined, if there is no only one.
     gathered: String,
     /// Whether there is a text, which may be empty.
     is_any: bool,
 }
 
-impl Model for Texts {
-    ghost use Rattle.std.specs.Prelude.{ℕ, List, [], Option, Some, None, false, if◌then◌else◌, ◌≡◌, string_bytes};
+impl<'a> Model for Texts<'a> {
+    ghost use Rattle.std.specs.Prelude.{ℕ, List, [], Option, Some, None, IsSome, false, if◌then◌else◌, ◌≡◌, string_bytes};
+    ghost use Rattle.std.specs.Option.{option_map_or};
 
     ghost Value = { Option (List ℕ) };
 
-    ghost view = { λ t. if t.is_any then Some (string_bytes t.gathered) else None };
+    ghost view = { λ t. if t.is_any then Some (option_map_or (λ s. s.now) t.only (string_bytes t.gathered)) else None };
 
-    ghost invariant = { λ t. t.is_any ≡ false → string_bytes t.gathered ≡ [] };
+    ghost invariant = { λ t. (t.is_any ≡ false → (string_bytes t.gathered ≡ []) × (t.only ≡ None)) × (IsSome t.only → string_bytes t.gathered ≡ []) };
 }
 
-impl Texts {
+impl<'a> Texts<'a> {
     /// Returns no text.
-    pub fn new(alloc: Global) -> Texts
+    pub fn new(alloc: Global) -> Texts<'a>
         ensures { result ≡ None }
     {
         Texts {
+            only: None,
             gathered: String::new(alloc),
             is_any: false,
         }
@@ -42,12 +47,29 @@ impl Texts {
     /// Adds the text of a line with its escapes resolved. Returns whether all of them are known. A plain text has no
     /// backslash.
     #[inline(always)]
-    pub fn add(&mut self, text: &str, is_plain: bool) -> Result<bool, AllocError>
+    pub fn add(&mut self, text: &'a str, is_plain: bool) -> Result<bool, AllocError>
         requires { is_plain ≡ true → Lacks 92 text.now }
         ensures { IfOk result (λ known. MatchOption (text_followed_by (unwrap_or self.old []) (unescaped text.now)) (known ≡ false)
             (λ all. (known ≡ true) × (self.new ≡ Some all))) }
     {
+        if is_plain && !self.is_any {
+            self.only = Some(text);
+            self.is_any = true;
+            return Ok(true);
+        }
+        self.add_joined(text, is_plain)
+    }
+
+    /// Adds the text of a line as [`Texts::add`] does, to the joined texts.
+    fn add_joined(&mut self, text: &str, is_plain: bool) -> Result<bool, AllocError>
+        requires { is_plain ≡ true → Lacks 92 text.now }
+        ensures { IfOk result (λ known. MatchOption (text_followed_by (unwrap_or self.old []) (unescaped text.now)) (known ≡ false)
+            (λ all. (known ≡ true) × (self.new ≡ Some all))) }
+    {
+        let only = self.only;
+        self.only = None;
         self.is_any = true;
+        join(&mut self.gathered, only)?;
         if is_plain {
             self.gathered.push_str(text)?;
             return Ok(true);
@@ -61,10 +83,12 @@ impl Texts {
     pub fn as_one(&self) -> Option<&str>
         ensures { option_map (λ s. s.now) result ≡ self.now }
     {
-        if self.is_any {
-            Some(self.gathered.as_str())
-        } else {
-            None
+        if !self.is_any {
+            return None;
+        }
+        match self.only {
+            Some(text) => Some(text),
+            None => Some(self.gathered.as_str()),
         }
     }
 
@@ -73,9 +97,21 @@ impl Texts {
     pub fn clear(&mut self)
         ensures { self.new ≡ None }
     {
+        self.only = None;
         self.gathered.clear();
         self.is_any = false;
     }
+}
+
+/// Appends an only text, if there is one, to no joined text.
+fn join(gathered: &mut String, only: Option<&str>) -> Result<(), AllocError>
+    requires { IsSome only → string_bytes gathered.old ≡ [] }
+    ensures { OnOk result (string_bytes gathered.new ≡ option_map_or (λ s. s.now) only.entry (string_bytes gathered.old)) }
+{
+    if let Some(text) = only {
+        gathered.push_str(text)?;
+    }
+    Ok(())
 }
 
 /// Returns the character of an escape, by the text after its backslash, and the text after the escape: `n` is a line feed,

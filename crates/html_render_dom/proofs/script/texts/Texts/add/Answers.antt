@@ -1,28 +1,18 @@
 use Rattle.std.proofs.Common.{◌≡◌, [], ℕ, Bool, true, false, List, Option, Some, None, if◌then◌else◌, unwrap_or, MatchOption, refl, sym, ap, ◌∙◌, string_bytes}
+use Rattle.std.specs.Option.{option_map_or}
 use Rattle.html_render_dom.specs.script.Commands.{unescaped}
 use Rattle.html_render_dom.specs.script.Plain.{text_followed_by}
 use Rattle.html_render_dom.specs.laws.script.Escapes.{unescaped-plain}
 use Rattle.html_render_dom.proofs.script.texts.Texts.add.Goals as goal
 
--- the joined texts are those of the model, and none without a text
-gathered : (is_any : Bool) (bs : List ℕ) (texts : Option (List ℕ)) → (if is_any then Some bs else None) ≡ texts → (is_any ≡ false → bs ≡ []) → unwrap_or texts [] ≡ bs
-gathered true bs texts e empty = ap (λ (o : Option (List ℕ)). unwrap_or o []) (sym e)
-gathered false bs texts e empty = ap (λ (o : Option (List ℕ)). unwrap_or o []) (sym e) ∙ sym (empty refl)
+none-yet : (is_any : Bool) (bs : List ℕ) (texts : Option (List ℕ)) → is_any ≡ false → (if is_any then Some bs else None) ≡ texts → unwrap_or texts [] ≡ []
+none-yet is_any bs texts h e = ap (λ (o : Option (List ℕ)). unwrap_or o []) (sym e ∙ ap (λ b. if b then Some bs else None) h)
 
-told : (all : Option (List ℕ)) (known : Bool) (bs : List ℕ) → all ≡ (if known then Some bs else None) →
-    MatchOption all (known ≡ false) (λ bs'. (known ≡ true) × (Some bs ≡ Some bs'))
-told all true bs e = rw e (refl, refl)
-told all false bs e = rw e refl
+told : (all : Option (List ℕ)) (bs : List ℕ) → all ≡ Some bs → MatchOption all (true ≡ false) (λ bs'. (true ≡ true) × (Some bs ≡ Some bs'))
+told all bs e = rw e (refl, refl)
 
-pub returns-then-is_plain : goal.returns-then-is_plain
-returns-then-is_plain c =
-    let was = gathered c.self.inside.is_any (string_bytes c.self.inside.gathered) c.args.self.now c.self.view_is c.self.invariant in
+pub returns-then-not-self : goal.returns-then-not-self
+returns-then-not-self c =
+    let was = none-yet c.self.inside.is_any (option_map_or (λ s. s.now) c.self.inside.only (string_bytes c.self.inside.gathered)) c.args.self.now c.if-not-self.true c.self.view_is in
     let plain = unescaped-plain c.args.text.now (c.requires c.if-is_plain.true) in
-    told (text_followed_by (unwrap_or c.args.self.now []) (unescaped c.args.text.now)) true (string_bytes c.push_str.new.self)
-    (rw (was, plain) (ap Some (sym c.in_ok-push_str.ensures.bytes)))
-
-pub returns : goal.returns
-returns c =
-    let was = gathered c.self.inside.is_any (string_bytes c.self.inside.gathered) c.args.self.now c.self.view_is c.self.invariant in
-    told (text_followed_by (unwrap_or c.args.self.now []) (unescaped c.args.text.now)) c.in_ok-is_known.is_known (string_bytes c.push_unescaped.new.plain)
-    (rw was c.in_ok-is_known.ensures)
+    told (text_followed_by (unwrap_or c.args.self.now []) (unescaped c.args.text.now)) c.args.text.now (rw (was, plain) refl)
