@@ -15,8 +15,10 @@
 
 mod adapt;
 mod characters;
+mod classes;
 pub mod config;
 mod css;
+mod direct;
 mod document;
 mod edits;
 mod encoding;
@@ -44,6 +46,7 @@ mod serialized;
 mod sheets;
 mod sink;
 mod tree;
+mod watched;
 
 pub use document::{RcDom, RenderTree};
 pub use error::Error;

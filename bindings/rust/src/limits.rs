@@ -7,7 +7,7 @@
 use crate::sink::Sink;
 use crate::tree::{Id, Tree, MAX_ATTRIBUTES};
 use html5ever::interface::Tracer;
-use html5ever::tokenizer::{Tag, TagKind, TokenSink};
+use html5ever::tokenizer::TokenSink;
 use html5ever::tree_builder::TreeBuilder;
 use html5ever::{local_name, LocalName};
 use std::cell::RefCell;
@@ -116,40 +116,42 @@ pub(crate) struct OpenElements {
 }
 
 impl OpenElements {
-    /// Reports whether there is room for the element of a tag.
+    /// Reports whether too few nodes were made for the stack to be full.
     #[inline]
-    pub fn takes(&mut self, tag: &Tag, builder: &TreeBuilder<Id, Sink>) -> bool {
-        if tag.kind == TagKind::EndTag {
-            self.forget();
-            return true;
-        }
-        let nodes = builder.sink.tree.node_count();
-        nodes < self.next_count || self.has_room(nodes, tag, builder)
+    pub fn are_few(&self, tree: &Tree) -> bool {
+        tree.node_count() < self.next_count
     }
 
+    /// Reports whether there is room for the element of a start tag. The tree builder has all open elements.
     #[cold]
-    fn has_room(&mut self, nodes: usize, tag: &Tag, builder: &TreeBuilder<Id, Sink>) -> bool {
+    pub fn have_room(&mut self, name: &LocalName, builder: &TreeBuilder<Id, Sink>) -> bool {
         if !self.is_full {
             let open = open_elements(builder);
             self.is_full = open >= MAX_OPEN;
             if !self.is_full {
-                self.next_count = nodes + (MAX_OPEN - open);
+                self.next_count = builder.sink.tree.node_count() + (MAX_OPEN - open);
             }
         }
-        !self.is_full || is_never_deep(&tag.name) && !builder.adjusted_current_node_present_but_not_in_html_namespace()
+        !self.is_full || is_never_deep(name) && !builder.adjusted_current_node_present_but_not_in_html_namespace()
     }
 
-    /// Counts again before the next start tag, if the stack was full.
-    fn forget(&mut self) {
+    /// Counts again before the next start tag, if the stack was full: an element may end.
+    #[inline]
+    pub fn forget(&mut self) {
         self.is_full = false;
     }
 }
 
-/// Returns the number of distinct elements that are open or that a text reopens, and at most four more.
-fn open_elements(builder: &TreeBuilder<Id, Sink>) -> usize {
+/// Returns the handles that a tree builder holds.
+pub(crate) fn held_by(builder: &TreeBuilder<Id, Sink>) -> Vec<Id> {
     let held = Held(RefCell::new(Vec::with_capacity(64)));
     builder.trace_handles(&held);
-    let mut held = held.0.into_inner();
+    held.0.into_inner()
+}
+
+/// Returns the number of distinct elements that are open or that a text reopens, and at most four more.
+fn open_elements(builder: &TreeBuilder<Id, Sink>) -> usize {
+    let mut held = held_by(builder);
     if held.len() > MAX_OPEN {
         held.sort_unstable();
         held.dedup();

@@ -1,5 +1,6 @@
 //! Cache of the names of tags and attributes: html5ever's atoms, for which each name would be hashed.
 
+use crate::classes::{class_of, Class};
 use html5ever::{local_name, LocalName};
 
 /// Cache of recent names, with a slot for each key. The key of a name is a number of its last 8 bytes.
@@ -19,6 +20,8 @@ pub(crate) struct Known {
     pub is_formatting: bool,
     /// Whether raw text follows the start tag of an element of this name.
     is_raw: bool,
+    /// The class of HTML elements of this name.
+    pub class: Class,
 }
 
 const SLOT_BITS: u32 = 9;
@@ -79,7 +82,7 @@ impl Names {
     /// Returns an empty cache. `is_asked` says which attributes are asked for, beside those that the tree builder asks for.
     pub fn new(is_asked: fn(&LocalName) -> bool) -> Names {
         // the empty name has the key 0
-        let empty = Known { key: 0, name: local_name!(""), is_asked: false, is_formatting: false, is_raw: false };
+        let empty = Known { key: 0, name: local_name!(""), is_asked: false, is_formatting: false, is_raw: false, class: Class::Other };
         Names { slots: [(); 1 << SLOT_BITS].map(|()| empty.clone()), is_asked }
     }
 
@@ -112,7 +115,7 @@ impl Names {
     #[cold]
     fn read(&self, key: u64, name: &str) -> Known {
         let name = LocalName::from(name);
-        Known { key, is_asked: (self.is_asked)(&name) || is_asked_by_builder(&name), is_formatting: is_formatting(&name), is_raw: is_raw(&name), name }
+        Known { key, is_asked: (self.is_asked)(&name) || is_asked_by_builder(&name), is_formatting: is_formatting(&name), is_raw: is_raw(&name), class: class_of(&name), name }
     }
 }
 

@@ -6,118 +6,21 @@
 //! doctype that doesn't begin raw text: there it is back in the state in which texts and tags are read, which HTML calls the
 //! data state.
 
-use crate::limits::{self, OpenElements, Refusal, Room, FEW_ATTRIBUTES};
-use crate::names::{is_asked_by_builder, Names};
+use crate::limits::{self, Refusal, FEW_ATTRIBUTES};
+use crate::names::Names;
 use crate::sink::{Sink, Wanted};
-use crate::tree::Id;
-use html5ever::tokenizer::{BufferQueue, Tag, TagKind, Token, TokenSink, TokenSinkResult, Tokenizer, TokenizerOpts, TokenizerResult};
-use html5ever::tree_builder::{TreeBuilder, TreeBuilderOpts};
-use html5ever::{namespace_url, ns, Attribute, LocalName, QualName};
+use crate::watched::{TagName, Watched};
+use html5ever::tokenizer::{BufferQueue, Token, TokenSink, Tokenizer, TokenizerOpts, TokenizerResult};
+use html5ever::tree_builder::TreeBuilderOpts;
+use html5ever::{namespace_url, ns, Attribute, QualName};
 use memchr::{memchr, memchr2, memchr_iter, memmem};
 use tendril::StrTendril;
-
-/// A tree builder within limits, and what it was given last.
-struct Watched {
-    builder: TreeBuilder<Id, Sink>,
-    is_asked: fn(&LocalName) -> bool,
-    open: OpenElements,
-    room: Room,
-    refusal: Option<Refusal>,
-    /// Whether the last token ends in the data state.
-    is_at_end: bool,
-    /// The element whose raw text follows the last token.
-    raw: Option<LocalName>,
-    /// Number of attributes of the tag that had most.
-    #[cfg(test)]
-    most_attributes: usize,
-}
-
-impl Watched {
-    /// Drops what a tag has past the limits. Returns whether anything of it is left.
-    fn limit(&mut self, tag: &mut Tag) -> bool {
-        #[cfg(test)]
-        {
-            self.most_attributes = self.most_attributes.max(tag.attrs.len());
-        }
-        if tag.attrs.len() > FEW_ATTRIBUTES {
-            let is_asked = self.is_asked;
-            tag.attrs.retain(|attribute| is_asked(&attribute.name.local) || is_asked_by_builder(&attribute.name.local));
-        }
-        self.open.takes(tag, &self.builder)
-    }
-
-    /// Gives the tree builder a token within the limits.
-    fn take(&mut self, mut token: Token, line: u64) -> TokenSinkResult<Id> {
-        let is_dropped = match &mut token {
-            Token::TagToken(tag) => !self.limit(tag),
-            _ => false,
-        };
-        if is_dropped || self.refusal.is_some() {
-            return TokenSinkResult::Continue;
-        }
-        self.give(token, line)
-    }
-
-    /// Gives the tree builder a token that is within the limits.
-    #[inline]
-    fn give(&mut self, token: Token, line: u64) -> TokenSinkResult<Id> {
-        let result = self.builder.process_token(token, line);
-        self.look_at_size();
-        result
-    }
-
-    /// Gives the tree builder a tag of few attributes, if there is room for its element.
-    #[inline]
-    fn give_tag(&mut self, tag: Tag) {
-        if self.open.takes(&tag, &self.builder) {
-            let _ = self.give(Token::TagToken(tag), 1);
-        }
-    }
-
-    #[inline]
-    fn look_at_size(&mut self) {
-        if !self.room.is_enough(&self.builder.sink.tree) {
-            self.refusal = self.room.make(&mut self.builder.sink.tree).err();
-        }
-    }
-}
-
-impl TokenSink for Watched {
-    type Handle = Id;
-
-    fn process_token(&mut self, token: Token, line: u64) -> TokenSinkResult<Id> {
-        let (can_end, name) = match &token {
-            Token::ParseError(_) => return self.builder.process_token(token, line),
-            Token::TagToken(tag) => (true, Some(tag.name.clone())),
-            Token::CommentToken(_) | Token::DoctypeToken(_) => (true, None),
-            _ => (false, None),
-        };
-        let result = self.take(token, line);
-        let is_data = matches!(result, TokenSinkResult::Continue | TokenSinkResult::Script(_));
-        self.is_at_end = can_end && is_data;
-        if can_end {
-            self.raw = name.filter(|_| !is_data);
-        }
-        result
-    }
-
-    fn end(&mut self) {
-        self.builder.end();
-    }
-
-    fn adjusted_current_node_present_but_not_in_html_namespace(&self) -> bool {
-        self.builder.adjusted_current_node_present_but_not_in_html_namespace()
-    }
-}
 
 /// Number of bytes of a page that its tendrils share, and the most that one token or call has.
 const WINDOW: usize = if cfg!(test) { 24 } else { 1 << 16 };
 
 /// Maximum number of bytes that a tendril stores inline.
 const INLINE: usize = 8;
-
-/// Number of attributes that memory is allocated for at a tag's first one.
-const USUAL_ATTRIBUTES: usize = 4;
 
 /// A page, of which pieces become tendrils that share a copy of a part of it.
 struct Page<'a> {
@@ -180,10 +83,12 @@ impl<'a> Page<'a> {
 
 /// Takes the text of a page, and gives its tree.
 pub(crate) struct Reader<'a> {
-    tokenizer: Tokenizer<Watched>,
+    tokenizer: Tokenizer<Watched<'a>>,
     queue: BufferQueue,
     page: Page<'a>,
     names: Names,
+    /// The attributes of the tag that is read, whose memory the next one takes.
+    attributes: Vec<Attribute>,
     /// Whether the tokenizer is in the data state, with nothing that it still waits for.
     is_in_data: bool,
 }
@@ -230,8 +135,7 @@ impl<'a> Reader<'a> {
     }
 
     fn new(page: &'a str, sink: Sink, wanted: Wanted, options: TreeBuilderOpts) -> Reader<'a> {
-        let builder = TreeBuilder::new(sink, options);
-        let watched = Watched { builder, is_asked: wanted.is_asked, open: OpenElements::default(), room: Room::default(), refusal: None, is_at_end: false, raw: None, #[cfg(test)] most_attributes: 0 };
+        let watched = Watched::new(page, sink, wanted, options);
         // the tokenizer would drop a byte order mark before each piece that it is given
         let options = TokenizerOpts { discard_bom: false, ..TokenizerOpts::default() };
         Reader {
@@ -239,6 +143,7 @@ impl<'a> Reader<'a> {
             queue: BufferQueue::new(),
             page: Page::new(page),
             names: Names::new(wanted.is_asked),
+            attributes: Vec::new(),
             is_in_data: true,
         }
     }
@@ -359,7 +264,7 @@ impl<'a> Reader<'a> {
         let bytes = self.page.text.as_bytes();
         match &bytes[start..] {
             [b'<', b'!', b'-', b'-', content @ ..] => {
-                let _ = self.tokenizer.sink.give(Token::CommentToken(StrTendril::new()), 1);
+                self.tokenizer.sink.take_comment();
                 start + "<!--".len() + comment_length(content)
             }
             [b'<', ..] => self.give_plain_tag(start).unwrap_or_else(|| self.feed_in_data(start)),
@@ -376,18 +281,21 @@ impl<'a> Reader<'a> {
 
     /// Gives the tree builder a text.
     fn give_text(&mut self, start: usize, end: usize) {
+        if self.tokenizer.sink.takes_text(&self.page.text[start..end]) {
+            return;
+        }
         let mut at = start;
         while at < end && self.tokenizer.sink.refusal.is_none() {
             let next = self.page.end(at, end);
             let piece = self.page.piece(at, next);
-            let _ = self.tokenizer.sink.give(Token::CharacterTokens(piece), 1);
+            let _ = self.tokenizer.sink.give(Token::CharacterTokens(piece));
             at = next;
         }
     }
 
     /// Reads the attribute ` name="value"` that begins here into a tag's, if it is asked for. Returns where it ends; `None` where it is
     /// written in another way, or the tag has one of that name.
-    fn plain_attribute(&mut self, start: usize, is_formatting: bool, attributes: &mut Vec<Attribute>) -> Option<usize> {
+    fn plain_attribute(&mut self, start: usize, is_formatting: bool) -> Option<usize> {
         let text = self.page.text.as_bytes();
         let (known, name_end) = self.names.attribute_name(self.page.text, start + 1)?;
         if text.get(name_end..name_end + 2)? != b"=\"" {
@@ -396,14 +304,11 @@ impl<'a> Reader<'a> {
         let value = name_end + 2;
         let end = value + self.page.value_length(value)?;
         if known.is_asked || is_formatting {
-            if attributes.iter().any(|other| other.name.local == known.name) {
+            if self.attributes.iter().any(|other| other.name.local == known.name) {
                 return None;
             }
             let name = QualName::new(None, ns!(), known.name.clone());
-            if attributes.capacity() == 0 {
-                *attributes = Vec::with_capacity(USUAL_ATTRIBUTES);
-            }
-            attributes.push(Attribute { name, value: self.page.piece(value, end) });
+            self.attributes.push(Attribute { name, value: self.page.piece(value, end) });
         }
         Some(end + 1)
     }
@@ -412,25 +317,24 @@ impl<'a> Reader<'a> {
     /// The tag has the attributes that are asked for; the tree builder compares formatting elements, and they have all.
     fn give_plain_tag(&mut self, start: usize) -> Option<usize> {
         let text = self.page.text.as_bytes();
-        let (kind, name) = match text.get(start + 1)? {
-            b'/' => (TagKind::EndTag, start + 2),
-            _ => (TagKind::StartTag, start + 1),
-        };
-        let (known, mut end) = self.names.tag_name(self.page.text, name)?;
-        let (name, is_formatting) = (known.name.clone(), known.is_formatting);
-        let mut attrs = Vec::new();
+        let is_end = *text.get(start + 1)? == b'/';
+        let (known, mut end) = self.names.tag_name(self.page.text, start + 1 + usize::from(is_end))?;
+        let (tag, is_formatting) = (TagName { name: known.name.clone(), class: known.class }, known.is_formatting);
+        self.attributes.clear();
         let mut count = 0;
-        while *text.get(end)? == b' ' && kind == TagKind::StartTag {
+        while *text.get(end)? == b' ' && !is_end {
             if count == FEW_ATTRIBUTES {
                 return None;
             }
-            end = self.plain_attribute(end, is_formatting, &mut attrs)?;
+            end = self.plain_attribute(end, is_formatting)?;
             count += 1;
         }
         if text[end] != b'>' {
             return None;
         }
-        self.tokenizer.sink.give_tag(Tag { kind, name, self_closing: false, attrs });
+        let watched = &mut self.tokenizer.sink;
+        watched.learn();
+        let _ = if is_end { watched.take_end_tag(tag) } else { watched.take_start_tag(tag, &mut self.attributes, false, Some(start)) };
         Some(end + 1)
     }
 }
@@ -478,19 +382,73 @@ mod tests {
         Reader::read(page, new_sink(), WANTED, TreeBuilderOpts::default()).unwrap()
     }
 
-    /// Calls a function with random pages: so many, or as many times that as the variable HTML_RENDER_ROUNDS of the environment says.
-    fn for_random_pages(count: usize, mut look: impl FnMut(&str)) {
+    /// Calls a function with random numbers below another, and a number of rounds: the variable HTML_RENDER_ROUNDS of the environment,
+    /// or 1.
+    fn with_random(test: impl FnOnce(&mut dyn FnMut(usize) -> usize, usize)) {
         let rounds = std::env::var("HTML_RENDER_ROUNDS").ok().and_then(|rounds| rounds.parse().ok()).unwrap_or(1);
         let mut state: u64 = 1;
         let mut random = |below: usize| {
             state = state.wrapping_mul(6364136223846793005).wrapping_add(1442695040888963407);
             (state >> 33) as usize % below
         };
-        for _ in 0..count * rounds {
-            let pieces = 1 + random(30);
-            let page: String = (0..pieces).map(|_| PIECES[random(PIECES.len())]).collect();
-            look(&page);
+        test(&mut random, rounds);
+    }
+
+    /// Calls a function with random pages: so many, or a number of rounds times that.
+    fn for_random_pages(count: usize, mut look: impl FnMut(&str)) {
+        with_random(|random, rounds| {
+            for _ in 0..count * rounds {
+                let pieces = 1 + random(30);
+                let page: String = (0..pieces).map(|_| PIECES[random(PIECES.len())]).collect();
+                look(&page);
+            }
+        });
+    }
+
+    /// Names of elements that most pages have, nearly all of which are closed where they are opened.
+    const NAMES: [&str; 36] = [
+        "p", "div", "span", "a", "b", "i", "em", "font", "ul", "ol", "li", "dl", "dt", "dd", "h1", "h2", "table", "tbody", "thead", "tr", "td", "th", "caption", "section", "address",
+        "blockquote", "label", "button", "form", "pre", "object", "x-y", "nobr", "option", "select", "br",
+    ];
+
+    /// Parts of tables, in which others are.
+    const TABLE: [(&str, &str); 8] = [
+        ("<table><tbody><tr><td>", "</td></tr></tbody></table>"), ("<table><tr><th>", "</th></tr></table>"), ("<table>\n<td>", "</table>"), ("<td>", "</td>"),
+        ("</td><td>", ""), ("</td> </tr>\n<tr><td>", ""), ("</td></tr></tbody><tfoot>\n<td>", ""), ("<table><caption>", "</caption></table>"),
+    ];
+
+    /// Returns a page most of which is well-formed.
+    fn regular_page(random: &mut dyn FnMut(usize) -> usize) -> String {
+        let mut page = ["<html><body>text", "text", ""][random(3)].to_owned();
+        let mut ends = Vec::new();
+        for _ in 0..random(60) {
+            match random(20) {
+                0 => page.push_str(PIECES[random(PIECES.len())]),
+                1 | 2 => {
+                    let (start, end) = TABLE[random(TABLE.len())];
+                    page.push_str(start);
+                    ends.push(end.to_owned());
+                }
+                3..=8 => {
+                    let name = NAMES[random(NAMES.len())];
+                    page.push_str(&["<", name, [">", ">", ">", " id=\"i\">", " class='c'>", " color=\"a&amp;b\">"][random(6)]].concat());
+                    ends.push(["</", name, ">"].concat());
+                }
+                9..=12 => page.push_str(["a", " ", "\n", "a&lt;b", "<!-- c -->", "\0", "<br>", "<hr>", "<img alt=\"i\">"][random(9)]),
+                _ => page.push_str(&ends.pop().unwrap_or_default()),
+            }
         }
+        page
+    }
+
+    #[test]
+    fn as_html5ever_reads_regular_pages() {
+        with_random(|random, rounds| {
+            for _ in 0..5_000 * rounds {
+                let page = regular_page(random);
+                assert_eq!(recorded(by_reader(&page)), recorded(by_html5ever(&page)), "{page:?}");
+            }
+        });
     }
 
     #[test]

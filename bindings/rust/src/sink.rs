@@ -24,12 +24,14 @@ pub(crate) struct Sink {
     pub is_quirky: bool,
     /// The attribute `lang` of the page's root.
     pub language: Option<StrTendril>,
+    /// An element in the tree of which the tree builder is told, which makes and appends it as if it were new.
+    pub retold: Option<Id>,
     wanted: Wanted,
 }
 
 impl Sink {
     pub fn new(tree: Tree, wanted: Wanted) -> Sink {
-        Sink { tree, css: String::new(), is_quirky: false, language: None, wanted }
+        Sink { tree, css: String::new(), is_quirky: false, language: None, retold: None, wanted }
     }
 
     /// Notes the language that an attribute of the page's root says, unless an earlier one does.
@@ -37,6 +39,31 @@ impl Sink {
         if attribute.name.local == local_name!("lang") && self.language.is_none() {
             self.language = Some(attribute.value.clone());
         }
+    }
+
+    /// Appends an HTML element other than the root to the children of a node.
+    #[inline]
+    pub fn append_element(&mut self, parent: Id, name: LocalName, attributes: &mut Vec<Attribute>) -> Id {
+        let node = self.add_element(QualName::new(None, ns!(html), name), attributes);
+        self.tree.append(parent, node);
+        node
+    }
+
+    /// Appends a comment to the children of a node.
+    pub fn append_comment(&mut self, parent: Id) {
+        let node = self.tree.add(Data::Comment);
+        self.tree.append(parent, node);
+    }
+
+    /// Adds an element that has no parent.
+    #[inline]
+    fn add_element(&mut self, name: QualName, attributes: &mut Vec<Attribute>) -> Id {
+        let is_table = name.local == local_name!("table");
+        let node = self.tree.add_element(name, attributes.drain(..), self.wanted.is_asked);
+        if is_table {
+            self.tree.tables.push(node);
+        }
+        node
     }
 
     /// Inserts a node, which leaves its place, or a text before a node that has a parent.
@@ -72,15 +99,14 @@ impl TreeSink for Sink {
         }
     }
 
-    fn create_element(&mut self, name: QualName, attributes: Vec<Attribute>, flags: ElementFlags) -> Id {
-        let is_table = name.local == local_name!("table");
+    fn create_element(&mut self, name: QualName, mut attributes: Vec<Attribute>, flags: ElementFlags) -> Id {
+        if let Some(node) = self.retold {
+            return node;
+        }
         if name.local == local_name!("html") && name.ns == ns!(html) {
             attributes.iter().for_each(|attribute| self.note_language(attribute));
         }
-        let node = self.tree.add_element(name, attributes, self.wanted.is_asked);
-        if is_table {
-            self.tree.tables.push(node);
-        }
+        let node = self.add_element(name, &mut attributes);
         if flags.mathml_annotation_xml_integration_point {
             if let Some(element) = self.tree.element_mut(node) {
                 element.is_integration_point = true;
@@ -103,6 +129,7 @@ impl TreeSink for Sink {
 
     fn append(&mut self, parent: &Id, child: NodeOrText<Id>) {
         match child {
+            NodeOrText::AppendNode(_) if self.retold.take().is_some() => {}
             NodeOrText::AppendNode(node) => self.tree.append(*parent, node),
             NodeOrText::AppendText(text) => match self.tree.element(*parent) {
                 // the text of a style sheet or a script isn't shown

@@ -120,11 +120,9 @@ impl Tree {
     }
 
     /// Adds an element that has no parent, with those of the attributes that are asked for.
-    pub fn add_element(&mut self, name: QualName, attributes: Vec<Attribute>, is_asked: impl Fn(&LocalName) -> bool) -> Id {
+    #[inline]
+    pub fn add_element(&mut self, name: QualName, attributes: impl IntoIterator<Item = Attribute>, is_asked: impl Fn(&LocalName) -> bool) -> Id {
         let start = self.attributes.len();
-        if attributes.is_empty() {
-            return self.add(Data::Element(Element::new(name, start, 0)));
-        }
         let asked = attributes.into_iter().filter(|attribute| is_asked(&attribute.name.local));
         self.attributes.extend(asked.take(MAX_ATTRIBUTES).map(|attribute| Attr { name: attribute.name.local, value: attribute.value }));
         self.add(Data::Element(Element::new(name, start, self.attributes.len() - start)))
@@ -287,6 +285,12 @@ impl Tree {
         }
         self.nodes[to as usize].last = last;
         (self.nodes[from as usize].first, self.nodes[from as usize].last) = (NONE, NONE);
+    }
+
+    /// Appends a text to the children of a node. It joins one that is the last of these.
+    #[inline]
+    pub fn append_text(&mut self, parent: Id, text: &str) {
+        self.insert_text(parent, NONE, text);
     }
 
     /// Appends a text to the children of a node, or inserts it before one of these. It joins a text directly before its place.

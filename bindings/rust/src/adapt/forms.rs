@@ -90,7 +90,7 @@ mod tests {
     fn shown(attributes: &[(LocalName, &str)]) -> Option<String> {
         let mut tree = Tree::new(Filter::default());
         let attributes = attributes.iter().map(|(name, value)| Attribute { name: QualName::new(None, ns!(), name.clone()), value: (*value).into() });
-        let node = tree.add_element(QualName::new(None, ns!(html), local_name!("input")), attributes.collect(), |_| true);
+        let node = tree.add_element(QualName::new(None, ns!(html), local_name!("input")), attributes, |_| true);
         input(&tree, node)
     }
 
