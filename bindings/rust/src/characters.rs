@@ -4,6 +4,7 @@
 //! text other than it is. Tab and newline stay, and so do the marks U+200E, U+200F and U+061C, which only say how text runs.
 
 use memchr::memchr_iter;
+use std::borrow::Cow;
 
 /// What is dropped of texts and attributes.
 #[derive(Clone, Copy, Debug, Default, PartialEq, Eq)]
@@ -96,11 +97,11 @@ impl Filter {
     }
 
     /// Returns a text without what is dropped.
-    pub fn filtered(self, text: &str) -> String {
+    pub fn filtered(self, text: &str) -> Cow<'_, str> {
         if self.drops_something_of(text) {
             text.chars().filter(|&c| !self.drops(c)).collect()
         } else {
-            text.to_owned()
+            text.into()
         }
     }
 }

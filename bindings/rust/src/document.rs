@@ -72,7 +72,7 @@ impl Parsed {
         let Sink { tree, css, is_quirky, language, .. } = sink;
         let shows_title = reading.options.as_ref().map_or(false, |options| options.shows_title);
         let title = if beside.title || shows_title { adapt::title(&tree) } else { None };
-        let language = language.map(|language| tree.filter.filtered(language.trim())).filter(|language| !language.is_empty());
+        let language = language.map(|language| tree.filter.filtered(language.trim()).into_owned()).filter(|language| !language.is_empty());
         Ok(Parsed { tree, css, is_quirky, title, language, reading: reading.clone() })
     }
 

@@ -2,6 +2,7 @@
 
 use crate::error::Error;
 use crate::lines::TaggedLine;
+use std::fmt::Write;
 use std::rc::Rc;
 use unicode_width::UnicodeWidthChar;
 
@@ -15,16 +16,29 @@ pub(crate) struct Footnotes {
     pub columns: Option<usize>,
 }
 
+/// Maximum number of bytes of a line of fewer than 10 billion, beside its target and with its end.
+const NUMBER: usize = 16;
+
 impl Footnotes {
     /// Returns the lines of all targets, in order.
     pub fn lines(&self) -> impl Iterator<Item = String> + '_ {
         self.targets.iter().enumerate().flat_map(move |(place, target)| {
-            let line = if self.are_numbered { format!("[{}]: {target}", place + 1) } else { target.to_string() };
+            let mut line = String::with_capacity(NUMBER + target.len());
+            self.push_line(place, target, &mut line);
             match self.columns {
                 Some(columns) => cut(&line, columns),
                 None => vec![line],
             }
         })
+    }
+
+    /// Appends the line of a target to a text.
+    fn push_line(&self, place: usize, target: &str, text: &mut String) {
+        if self.are_numbered {
+            // a `String` takes all that is written
+            let _ = write!(text, "[{}]: ", place + 1);
+        }
+        text.push_str(target);
     }
 
     /// Appends an empty line and the lines to others, or the lines alone if there are no others.
@@ -40,9 +54,23 @@ impl Footnotes {
         if !text.is_empty() && !self.targets.is_empty() {
             text.push('\n');
         }
+        if self.columns.is_none() {
+            return self.append_uncut(text);
+        }
         for line in self.lines() {
             text.try_reserve(line.len() + 1).map_err(|_| Error::OutOfMemory)?;
             text.push_str(&line);
+            text.push('\n');
+        }
+        Ok(())
+    }
+
+    /// Appends the lines to a text, where they aren't cut.
+    fn append_uncut(&self, text: &mut String) -> Result<(), Error> {
+        let length = self.targets.iter().map(|target| NUMBER + target.len()).sum();
+        text.try_reserve(length).map_err(|_| Error::OutOfMemory)?;
+        for (place, target) in self.targets.iter().enumerate() {
+            self.push_line(place, target, text);
             text.push('\n');
         }
         Ok(())

@@ -4,6 +4,7 @@ use crate::characters::Filter;
 use crate::records::Step;
 use crate::tree::Piece;
 use html5ever::{local_name, namespace_url, ns, LocalName, Namespace};
+use std::borrow::Cow;
 
 /// The kinds of steps, by their numbers.
 pub(crate) mod kind {
@@ -109,7 +110,7 @@ impl Recorder {
     }
 
     /// Returns a text without what the filter drops.
-    pub fn filtered(&self, text: &str) -> String {
+    pub fn filtered<'a>(&self, text: &'a str) -> Cow<'a, str> {
         self.filter.filtered(text)
     }
 

@@ -33,14 +33,15 @@ fn source(tree: &Tree, node: Id) -> Option<&StrTendril> {
 pub(crate) fn image_name(tree: &Tree, image: Id, link: Id) -> String {
     let source = tree.attribute(image, &local_name!("src")).filter(|source| can_be_followed(source));
     let name = source.or_else(|| tree.attribute(link, &local_name!("href"))).map_or("", |address| file_name(address));
-    tree.filter.filtered(name)
+    tree.filter.filtered(name).into_owned()
 }
 
 /// Returns the scheme of an address, if it states one.
 pub(crate) fn scheme(address: &str) -> Option<&str> {
-    let (scheme, _) = address.trim_start().split_once(':')?;
-    let is_scheme = scheme.starts_with(|c: char| c.is_ascii_alphabetic()) && scheme.chars().all(|c| c.is_ascii_alphanumeric() || "+-.".contains(c));
-    is_scheme.then(|| scheme)
+    let address = address.trim_start();
+    let length = address.bytes().position(|byte| !byte.is_ascii_alphanumeric() && !matches!(byte, b'+' | b'-' | b'.'))?;
+    let is_scheme = address.as_bytes()[length] == b':' && address.starts_with(|c: char| c.is_ascii_alphabetic());
+    is_scheme.then(|| &address[..length])
 }
 
 /// Reports whether an address leads out of the page.

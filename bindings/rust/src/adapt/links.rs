@@ -9,11 +9,15 @@ use crate::options::LinkMode;
 use crate::record::Handle;
 use crate::tree::{Id, Tree};
 use std::collections::HashMap;
+use std::fmt::Write;
 use std::rc::Rc;
 use url::Url;
 
 /// Number of bytes of a link's text that are looked at beyond the length of its target: for a slash and white space.
 const MORE: usize = 4;
+
+/// Number of bytes that memory is allocated for at the sign of a number.
+const NOTE: usize = 16;
 
 /// The links of a page.
 pub(crate) struct Links {
@@ -94,7 +98,7 @@ impl Links {
             None | Some(LinkMode::None) => None,
             Some(_) => Some(targets::written(href)).filter(|written| targets::leads_out(written)),
         };
-        let target = target.map(|written| self.resolved(tree, &written).unwrap_or(written));
+        let target = target.map(|written| self.resolved(tree, &written).unwrap_or_else(|| written.into_owned()));
         self.text.clear();
         self.open.push(OpenLink { node, step, target, is_shown: false, differs: false, image: None, is_line_open: false, last_block: None });
     }
@@ -188,7 +192,7 @@ impl Links {
     pub fn sign(&mut self, link: EndedLink) -> Option<String> {
         let target = link.target?;
         match self.mode? {
-            LinkMode::Notes => Some(format!("[{}]", self.number(target))),
+            LinkMode::Notes => Some(note(self.number(target))),
             LinkMode::Inline => Some(format!(" <{target}>")),
             LinkMode::List => {
                 self.number(target);
@@ -213,4 +217,12 @@ impl Links {
     pub fn into_targets(self) -> Vec<Rc<str>> {
         self.targets
     }
+}
+
+/// Returns the sign of a target's number.
+fn note(number: usize) -> String {
+    let mut sign = String::with_capacity(NOTE);
+    // a `String` takes all that is written
+    let _ = write!(sign, "[{number}]");
+    sign
 }

@@ -3,15 +3,17 @@
 use super::embedded::scheme;
 use crate::tree::{Id, Tree};
 use html5ever::{local_name, namespace_url, ns};
+use memchr::memchr3;
+use std::borrow::Cow;
 use url::Url;
 
 /// Returns a target as it is written, without the white space that a browser drops.
-pub(crate) fn written(href: &str) -> String {
+pub(crate) fn written(href: &str) -> Cow<'_, str> {
     let trimmed = href.trim_matches(|c: char| c.is_ascii_whitespace());
-    if trimmed.contains(|c| matches!(c, '\t' | '\n' | '\r')) {
+    if memchr3(b'\t', b'\n', b'\r', trimmed.as_bytes()).is_some() {
         trimmed.chars().filter(|c| !matches!(c, '\t' | '\n' | '\r')).collect()
     } else {
-        trimmed.to_owned()
+        trimmed.into()
     }
 }
 
