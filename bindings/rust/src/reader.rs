@@ -19,6 +19,12 @@ use tendril::StrTendril;
 /// Number of bytes of a page that its tendrils share, and the most that one token or call has.
 const WINDOW: usize = if cfg!(test) { 24 } else { 1 << 16 };
 
+/// The reference to an ampersand, the most usual one in attributes.
+const AMPERSAND: &str = "&amp;";
+
+/// Maximum number of bytes of a usual reference.
+const LONGEST_REFERENCE: usize = 8;
+
 /// Maximum number of bytes that a tendril stores inline.
 const INLINE: usize = 8;
 
@@ -50,11 +56,17 @@ impl<'a> Page<'a> {
         self.find(b'<', rest).unwrap_or(rest.len())
     }
 
-    /// Returns the number of bytes of the quoted value at an offset; `None` if it is longer than `WINDOW`, or the tokenizer changes a byte
-    /// of it.
-    fn value_length(&self, start: usize) -> Option<usize> {
-        let rest = &self.text.as_bytes()[start..];
-        self.find(b'"', rest).filter(|&length| rest[length] == b'"' && length <= WINDOW)
+    /// Returns where the quoted value at an offset ends, and whether it has `&amp;`; `None` if it is longer than `WINDOW`, or the tokenizer
+    /// changes something else of it.
+    fn value_end(&self, start: usize) -> Option<(usize, bool)> {
+        let bytes = self.text.as_bytes();
+        let mut end = start + self.find(b'"', &bytes[start..])?;
+        let has_references = bytes[end] == b'&';
+        while bytes[end..].starts_with(AMPERSAND.as_bytes()) {
+            end += AMPERSAND.len();
+            end += self.find(b'"', &bytes[end..])?;
+        }
+        (bytes[end] == b'"' && end - start <= WINDOW).then(|| (end, has_references))
     }
 
     /// Returns the position of the first byte that is `end`, or that the tokenizer changes.
@@ -96,6 +108,34 @@ pub(crate) struct Reader<'a> {
 /// Reports whether the tokenizer changes a byte of a text or value: it begins a character reference, or is a carriage return or zero.
 fn is_special(byte: u8) -> bool {
     matches!(byte, b'&' | b'\r' | 0)
+}
+
+/// Returns a value whose only references are `&amp;`.
+pub(crate) fn without_references(value: &str) -> StrTendril {
+    value.replace(AMPERSAND, "&").into()
+}
+
+/// Returns the character of the reference that a text begins with, and its number of bytes, if it is a usual one and has a semicolon.
+/// html5ever drops a carriage return after some.
+fn usual_reference(text: &[u8]) -> Option<(char, usize)> {
+    let length = text.iter().take(LONGEST_REFERENCE).position(|&byte| byte == b';')?;
+    let referred = match &text[1..length] {
+        b"amp" => '&',
+        b"lt" => '<',
+        b"gt" => '>',
+        b"quot" => '"',
+        b"nbsp" => '\u{a0}',
+        [b'#', digits @ ..] => numbered(digits)?,
+        _ => return None,
+    };
+    (text.get(length + 1) != Some(&b'\r')).then(|| (referred, length + 1))
+}
+
+/// Returns the character of a decimal number, if HTML says nothing else of it.
+fn numbered(digits: &[u8]) -> Option<char> {
+    let digit = |number: u32, &digit: &u8| digit.is_ascii_digit().then(|| number * 10 + u32::from(digit - b'0'));
+    let number = digits.iter().try_fold(0, digit)?;
+    char::from_u32(number).filter(|referred| ('\u{a0}'..='\u{d7ff}').contains(referred))
 }
 
 /// Returns the number of bytes of a comment's content and its end, which may be that of the page.
@@ -268,15 +308,23 @@ impl<'a> Reader<'a> {
                 start + "<!--".len() + comment_length(content)
             }
             [b'<', ..] => self.give_plain_tag(start).unwrap_or_else(|| self.feed_in_data(start)),
+            [b'&', ..] => self.give_reference(start).unwrap_or_else(|| self.feed_in_data(start)),
             _ => {
                 let end = start + self.page.text_length(start);
-                if end < bytes.len() && bytes[end] != b'<' {
+                if end == start {
                     return self.feed_in_data(start);
                 }
                 self.give_text(start, end);
                 end
             }
         }
+    }
+
+    /// Gives the tree builder the character of the reference that begins here, if it is a usual one. Returns its end.
+    fn give_reference(&mut self, start: usize) -> Option<usize> {
+        let (referred, length) = usual_reference(&self.page.text.as_bytes()[start..])?;
+        self.tokenizer.sink.take_char(referred);
+        Some(start + length)
     }
 
     /// Gives the tree builder a text.
@@ -302,13 +350,15 @@ impl<'a> Reader<'a> {
             return None;
         }
         let value = name_end + 2;
-        let end = value + self.page.value_length(value)?;
+        let (end, has_references) = self.page.value_end(value)?;
         if known.is_asked || is_formatting {
             if self.attributes.iter().any(|other| other.name.local == known.name) {
                 return None;
             }
             let name = QualName::new(None, ns!(), known.name.clone());
-            self.attributes.push(Attribute { name, value: self.page.piece(value, end) });
+            let value = &self.page.text[value..end];
+            let value = if has_references { without_references(value) } else { value.into() };
+            self.attributes.push(Attribute { name, value });
         }
         Some(end + 1)
     }
@@ -323,18 +373,24 @@ impl<'a> Reader<'a> {
         self.attributes.clear();
         let mut count = 0;
         while *text.get(end)? == b' ' && !is_end {
+            if text.get(end + 1) == Some(&b'/') {
+                end += 1;
+                break;
+            }
             if count == FEW_ATTRIBUTES {
                 return None;
             }
             end = self.plain_attribute(end, is_formatting)?;
             count += 1;
         }
-        if text[end] != b'>' {
+        let self_closing = text[end] == b'/' && !is_end;
+        end += usize::from(self_closing);
+        if *text.get(end)? != b'>' {
             return None;
         }
         let watched = &mut self.tokenizer.sink;
         watched.learn();
-        let _ = if is_end { watched.take_end_tag(tag) } else { watched.take_start_tag(tag, &mut self.attributes, false, Some(start)) };
+        let _ = if is_end { watched.take_end_tag(tag) } else { watched.take_start_tag(tag, &mut self.attributes, self_closing, Some(start)) };
         Some(end + 1)
     }
 }
@@ -352,9 +408,9 @@ mod tests {
     use html5ever::driver::ParseOpts;
     use tendril::{SliceExt, TendrilSink};
 
-    const PIECES: [&str; 76] = [
-        "<p>", "</p>", "<td>", "</td>", "<table>", "</table>", "<tr>", "<b>", "</b>", "<i>", "</i>", "<a href=\"x\">", "</a>", "<a href='y'>", "<img src=\"a&amp;b\" alt=\"t\">",
-        "<br/>", "<br />", "<BR>", "<div class=\"c\" class=\"d\">", "</div>", "<div id=\"i\" title=\"a>b\">", "text", " ", "\n", "\r\n", "\r", "\0", "&amp;", "&am", "&lt", "&#x41;", "&",
+    const PIECES: [&str; 88] = [
+        "<p>", "</p>", "<td>", "</td>", "<table>", "</table>", "<tr>", "<b>", "</b>", "<i>", "</i>", "<a href=\"x\">", "</a>", "<a href='y'>", "<img src=\"a&amp;b\" alt=\"t\">", "<img alt=\"&amp;&amp;\">", "<b id=\"&amp;c\">", "<u class=\"a&amp;b&lt\">",
+        "<br/>", "<br />", "<b id=\"i\" />", "<path d=\"m\"/>", "</p/>", "<BR>", "<div class=\"c\" class=\"d\">", "</div>", "<div id=\"i\" title=\"a>b\">", "text", " ", "\n", "\r\n", "\r", "\0", "&amp;", "&nbsp;", "&#233;", "&#x;", "&#150;", "&#55296;", "&#;", "&am", "&lt", "&#x41;", "&",
         "<", ">", "<!-- c -->", "<!--", "-->", "-", "!>", "<!DOCTYPE html>", "<!x>", "</>", "<script>", "</script>", "<style>", "</style>", "<title>", "</title>", "<textarea>", "</textarea>",
         "<svg>", "</svg>", "<![CDATA[x]]>", "<math>", "<template>", "</template>", "<select>", "<pre>", "\n<li>", "<h1>", "\u{feff}", "\u{e9}\u{754c}", "<ul>", "<ol start=\"3\">",
         "<font color='a'>", "<body class=x>", "<html id=y>", "</body>", "<caption>", "<th>", "<option>", "<noscript>", "<mtext>", "<annotation-xml encoding='text/html'>", "</p a='>' b>", "<foreignObject>",

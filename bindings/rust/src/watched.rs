@@ -4,6 +4,7 @@ use crate::classes::{class_of, Class};
 use crate::direct::{Direct, Opening, Written};
 use crate::limits::{self, OpenElements, Refusal, Room, FEW_ATTRIBUTES};
 use crate::names::is_asked_by_builder;
+use crate::reader::without_references;
 use crate::sink::{Sink, Wanted};
 use crate::tree::Id;
 use html5ever::tokenizer::{Tag, TagKind, Token, TokenSink, TokenSinkResult};
@@ -185,6 +186,17 @@ impl<'a> Watched<'a> {
         false
     }
 
+    /// Takes a character that isn't white space.
+    pub fn take_char(&mut self, referred: char) {
+        self.learn();
+        if self.is_in_flow() {
+            self.put_text(referred.encode_utf8(&mut [0; 4]));
+        } else {
+            self.has_text = true;
+            let _ = self.give(Token::CharacterTokens(StrTendril::from_char(referred)));
+        }
+    }
+
     /// Reports whether texts belong to the innermost element, which is known.
     #[inline]
     fn is_in_flow(&self) -> bool {
@@ -359,8 +371,8 @@ fn is_blank(text: &str) -> bool {
 fn plain_attributes(tag: &str) -> Vec<Attribute> {
     let mut rest = tag[1..].trim_start_matches(|c: char| c.is_ascii_lowercase() || c.is_ascii_digit());
     let mut attributes = Vec::new();
-    while let Some((name, value, end)) = rest.strip_prefix(' ').and_then(plain_attribute) {
-        attributes.push(Attribute { name: QualName::new(None, ns!(), name.into()), value: value.into() });
+    while let Some((name, value, end)) = rest.strip_prefix(' ').filter(|rest| !rest.starts_with('/')).and_then(plain_attribute) {
+        attributes.push(Attribute { name: QualName::new(None, ns!(), name.into()), value: without_references(value) });
         rest = end;
     }
     attributes
