@@ -150,35 +150,58 @@ pub(crate) fn class_of(name: &LocalName) -> Class {
     }
 }
 
-/// What HTML's rules look up among the open elements, for the innermost one.
+/// What HTML's rules look up among the open elements, for the innermost one: bits of a number, and above them the number of formatting
+/// elements that a text would reopen.
 #[derive(Clone, Copy, Debug, Default, PartialEq, Eq)]
-pub(crate) struct Scope {
-    /// Whether a `p` is "in button scope".
-    pub has_paragraph: bool,
-    /// Whether an `li` closes another one.
-    pub has_item: bool,
-    /// Whether a `dt` or a `dd` closes another one.
-    pub has_term: bool,
-    /// Whether an `a` closes another one.
-    pub has_anchor: bool,
-    /// Number of formatting elements that a text would reopen.
-    pub formatting: u16,
-}
+pub(crate) struct Scope(u32);
 
 impl Scope {
+    /// A `p` is "in button scope".
+    const PARAGRAPH: u32 = 1;
+    /// An `li` closes another one.
+    const ITEM: u32 = 2;
+    /// A `dt` or a `dd` closes another one.
+    const TERM: u32 = 4;
+    /// An `a` closes another one.
+    const ANCHOR: u32 = 8;
+    /// A formatting element.
+    const FORMATTING: u32 = 16;
+
+    pub fn has_paragraph(self) -> bool {
+        self.0 & Scope::PARAGRAPH != 0
+    }
+
+    pub fn has_item(self) -> bool {
+        self.0 & Scope::ITEM != 0
+    }
+
+    pub fn has_term(self) -> bool {
+        self.0 & Scope::TERM != 0
+    }
+
+    pub fn has_anchor(self) -> bool {
+        self.0 & Scope::ANCHOR != 0
+    }
+
+    /// Returns the number of formatting elements that a text would reopen.
+    pub fn formatting(self) -> u32 {
+        self.0 / Scope::FORMATTING
+    }
+
     /// Returns the scope in an element of a class that is in an element of this one.
+    #[inline]
     pub fn inside(self, class: Class) -> Scope {
-        let special = Scope { has_item: false, has_term: false, ..self };
-        match class {
-            Class::Phrase | Class::Void | Class::Ordinary | Class::Other | Class::Division => self,
-            Class::Formatting => Scope { formatting: self.formatting + 1, ..self },
-            Class::Anchor => Scope { formatting: self.formatting + 1, has_anchor: true, ..self },
-            Class::Paragraph => Scope { has_paragraph: true, ..self },
-            Class::Item => Scope { has_item: true, ..special },
-            Class::Term => Scope { has_term: true, ..special },
+        let special = self.0 & !(Scope::ITEM | Scope::TERM);
+        Scope(match class {
+            Class::Phrase | Class::Void | Class::Ordinary | Class::Other | Class::Division => self.0,
+            Class::Formatting => self.0 + Scope::FORMATTING,
+            Class::Anchor => (self.0 | Scope::ANCHOR) + Scope::FORMATTING,
+            Class::Paragraph => self.0 | Scope::PARAGRAPH,
+            Class::Item => special | Scope::ITEM,
+            Class::Term => special | Scope::TERM,
             Class::Rule | Class::Block | Class::Heading | Class::Section | Class::Row | Class::Special => special,
-            Class::Table | Class::Button => Scope { has_paragraph: false, ..special },
-            Class::Cell | Class::Caption | Class::Boundary => Scope::default(),
-        }
+            Class::Table | Class::Button => special & !Scope::PARAGRAPH,
+            Class::Cell | Class::Caption | Class::Boundary => 0,
+        })
     }
 }

@@ -6,27 +6,17 @@
 
 use crate::classes::{class_of, Class, Scope};
 use crate::tree::{Id, Tree};
-use html5ever::{local_name, namespace_url, ns, Attribute, LocalName};
-
-/// How the start tag of an open element is written, for its attributes.
-#[derive(Debug)]
-pub(crate) enum Written {
-    /// They don't matter: only formatting elements are compared by them.
-    Anyhow,
-    /// At an offset of the page, in the plainest form.
-    At(usize),
-    /// In another form, with these attributes.
-    Read(Vec<Attribute>),
-}
+use html5ever::{local_name, namespace_url, ns, LocalName};
 
 /// An open element.
-#[derive(Debug)]
+#[derive(Clone, Copy, Debug)]
 pub(crate) struct Open {
     pub node: Id,
     pub class: Class,
     /// What is open where it is the innermost element.
     scope: Scope,
-    pub written: Written,
+    /// Offset of its tag in the page, if it has one.
+    pub start: usize,
 }
 
 /// What a start tag does, before its own element is opened or inserted.
@@ -64,6 +54,8 @@ pub(crate) struct Direct {
     open: Vec<Open>,
     /// Number of elements that the tree builder was told of.
     told: usize,
+    /// Number of elements that were learned from the tree builder, whose formatting elements it has in an order of its own.
+    learned: usize,
     is_known: bool,
 }
 
@@ -90,7 +82,7 @@ impl Direct {
     pub fn learn(&mut self, held: &[Id], tree: &Tree) -> bool {
         self.open.clear();
         self.is_known = self.try_to_learn(held, tree).is_some();
-        self.told = self.open.len();
+        (self.told, self.learned) = (self.open.len(), self.open.len());
         self.is_known
     }
 
@@ -130,7 +122,7 @@ impl Direct {
             Class::Caption => outer == Class::Table,
             _ => !outer.is_table_part(),
         };
-        self.open.push(Open { node, class, scope: scope.inside(class), written: Written::Anyhow });
+        self.open.push(Open { node, class, scope: scope.inside(class), start: 0 });
         fits.then(|| ())
     }
 
@@ -138,7 +130,7 @@ impl Direct {
     #[inline]
     pub fn opening(&self, class: Class, name: &LocalName, is_quirky: bool, tree: &Tree) -> Option<Opening> {
         let top = self.innermost()?;
-        let opening = match (top.class, class) {
+        match (top.class, class) {
             (Class::Row, Class::Cell) | (Class::Section, Class::Row) | (Class::Table, Class::Section | Class::Caption) => Opening::after(0),
             (Class::Row, Class::Row) | (Class::Section, Class::Section) | (Class::Cell, Class::Cell) => Opening::after(1),
             (Class::Row, Class::Section) | (Class::Cell, Class::Row) => Opening::after(2),
@@ -147,8 +139,7 @@ impl Direct {
             (Class::Section, Class::Cell) => Opening::with_parents(false, true),
             (Class::Table | Class::Section | Class::Row, _) => None,
             _ => self.opening_in_flow(top, class, name, is_quirky, tree),
-        }?;
-        (self.open.len() - opening.closed >= self.told).then(|| opening)
+        }
     }
 
     /// Returns what a start tag does that isn't directly in a table or a part of it.
@@ -157,12 +148,12 @@ impl Direct {
         match class {
             Class::Phrase | Class::Void => Opening::after(0),
             Class::Formatting if self.takes_formatting(top.scope, name, tree) => Opening::after(0),
-            Class::Anchor if !top.scope.has_anchor => Opening::after(0),
+            Class::Anchor if !top.scope.has_anchor() => Opening::after(0),
             Class::Table if is_quirky => Opening::after(0),
             Class::Division | Class::Block | Class::Paragraph | Class::Rule | Class::Table => self.past_paragraph(0),
             Class::Heading => self.past_paragraph(0).filter(|opening| self.class_below(opening.closed) != Some(Class::Heading)),
-            Class::Item => self.past_like(top.scope.has_item, class),
-            Class::Term => self.past_like(top.scope.has_term, class),
+            Class::Item => self.past_like(top.scope.has_item(), class),
+            Class::Term => self.past_like(top.scope.has_term(), class),
             _ => None,
         }
     }
@@ -178,7 +169,7 @@ impl Direct {
         let top = self.open.iter().rev().nth(closed)?;
         match top.class {
             Class::Paragraph => Opening::after(closed + 1),
-            _ if top.scope.has_paragraph => None,
+            _ if top.scope.has_paragraph() => None,
             _ => Opening::after(closed),
         }
     }
@@ -196,7 +187,7 @@ impl Direct {
     fn takes_formatting(&self, scope: Scope, name: &LocalName, tree: &Tree) -> bool {
         let since_marker = || self.open.iter().rev().take_while(|open| !matches!(open.class, Class::Cell | Class::Caption | Class::Boundary));
         let has_name = |open: &&Open| open.class == Class::Formatting && tree.element(open.node).map_or(false, |element| element.name == *name);
-        usize::from(scope.formatting) < EQUAL_FORMATTING || since_marker().filter(has_name).count() < EQUAL_FORMATTING
+        scope.formatting() < EQUAL_FORMATTING as u32 || since_marker().filter(has_name).count() < EQUAL_FORMATTING
     }
 
     /// Returns the number of elements that an end tag closes; `None` if the tree builder has to see it.
@@ -212,6 +203,9 @@ impl Direct {
         if !self.is_known || matches!(class, Class::Button | Class::Boundary | Class::Special | Class::Ordinary | Class::Other) {
             return None;
         }
+        if matches!(class, Class::Formatting | Class::Anchor) && self.open.len() == self.learned {
+            return None;
+        }
         for (place, open) in self.open.iter().rev().enumerate() {
             if open.class == class && tree.element(open.node)?.name == *name {
                 return Some(place + 1);
@@ -223,33 +217,36 @@ impl Direct {
         None
     }
 
-    /// Reports whether the tree builder was told of none of the innermost elements, so many of them.
-    #[inline]
-    pub fn are_untold(&self, count: usize) -> bool {
-        self.open.len() - count >= self.told
-    }
-
     /// Opens an element in the innermost one.
     #[inline]
-    pub fn push(&mut self, node: Id, class: Class, written: Written) {
+    pub fn push(&mut self, node: Id, class: Class, start: usize) {
         let scope = self.open.last().map_or_else(Scope::default, |open| open.scope);
-        self.open.push(Open { node, class, scope: scope.inside(class), written });
+        self.open.push(Open { node, class, scope: scope.inside(class), start });
     }
 
-    /// Closes the innermost elements, so many of them.
+    /// Closes the innermost element. Returns it if the tree builder was told of it, as of all around it.
     #[inline]
-    pub fn close(&mut self, count: usize) {
-        self.open.truncate(self.open.len() - count);
-        self.told = self.told.min(self.open.len());
+    pub fn close(&mut self) -> Option<Id> {
+        let closed = self.open.pop()?;
+        if self.told <= self.open.len() {
+            return None;
+        }
+        self.told = self.open.len();
+        self.learned = self.learned.min(self.told);
+        Some(closed.node)
     }
 
     /// Returns the outermost element that the tree builder wasn't told of, and notes that it is.
-    pub fn tell(&mut self) -> Option<&mut Open> {
-        if !self.is_known || self.told == self.open.len() {
-            return None;
-        }
+    pub fn tell(&mut self) -> Option<Open> {
+        let open = self.open.get(self.told).filter(|_| self.is_known)?;
         self.told += 1;
-        self.open.get_mut(self.told - 1)
+        Some(*open)
+    }
+
+    /// Opens an element in the innermost one of which the tree builder was told, as of all around it.
+    pub fn push_told(&mut self, node: Id, class: Class) {
+        self.push(node, class, 0);
+        self.told = self.open.len();
     }
 
     #[cfg(test)]

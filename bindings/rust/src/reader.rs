@@ -1,7 +1,7 @@
 //! Reads HTML into a tree builder: html5ever's tokenizer, but for texts and tags that are written in the plainest way.
 //!
 //! html5ever's tokenizer goes over the name of a tag character by character, at some 300 instructions each. Most of a page is
-//! text without character references, tags as `<td>`, `</td>` and `<a href="x">`, and comments. These become the same tokens
+//! text, usual character references, tags as `<td>`, `</td>` and `<a href="x">`, and comments. These become the same tokens
 //! here, comments without their contents. All else goes through html5ever's tokenizer, up to the end of a tag, a comment or a
 //! doctype that doesn't begin raw text: there it is back in the state in which texts and tags are read, which HTML calls the
 //! data state.

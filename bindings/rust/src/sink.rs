@@ -44,6 +44,10 @@ impl Sink {
     /// Appends an HTML element other than the root to the children of a node.
     #[inline]
     pub fn append_element(&mut self, parent: Id, name: LocalName, attributes: &mut Vec<Attribute>) -> Id {
+        let is_table = name == local_name!("table");
+        if attributes.is_empty() && !is_table {
+            return self.tree.append_plain(parent, name);
+        }
         let node = self.add_element(QualName::new(None, ns!(html), name), attributes);
         self.tree.append(parent, node);
         node
@@ -56,7 +60,6 @@ impl Sink {
     }
 
     /// Adds an element that has no parent.
-    #[inline]
     fn add_element(&mut self, name: QualName, attributes: &mut Vec<Attribute>) -> Id {
         let is_table = name.local == local_name!("table");
         let node = self.tree.add_element(name, attributes.drain(..), self.wanted.is_asked);

@@ -5,7 +5,7 @@
 //! it. A text that is appended to one whose bytes aren't the vector's last becomes a piece of its own, which continues that one.
 
 use crate::characters::Filter;
-use html5ever::{Attribute, LocalName, Namespace, QualName};
+use html5ever::{namespace_url, ns, Attribute, LocalName, Namespace, QualName};
 use tendril::StrTendril;
 
 /// Number of a node.
@@ -40,8 +40,9 @@ pub(crate) struct Element {
 
 impl Element {
     /// Returns an element whose attributes are `count` of the tree's, from the one at `attributes` on.
-    fn new(name: QualName, attributes: usize, count: usize) -> Element {
-        Element { space: name.ns, name: name.local, attributes: attributes as u32, attribute_count: count as u16, is_integration_point: false }
+    #[inline]
+    fn new(space: Namespace, name: LocalName, attributes: usize, count: usize) -> Element {
+        Element { space, name, attributes: attributes as u32, attribute_count: count as u16, is_integration_point: false }
     }
 }
 
@@ -102,6 +103,11 @@ impl Tree {
         self.attributes.len()
     }
 
+    /// Returns the number of the node that was added last.
+    pub fn last_id(&self) -> Id {
+        self.nodes.len() as Id - 1
+    }
+
     /// Returns the numbers of nodes and attributes that memory is allocated for.
     pub fn capacity(&self) -> (usize, usize) {
         (self.nodes.capacity(), self.attributes.capacity())
@@ -113,6 +119,7 @@ impl Tree {
     }
 
     /// Adds a node that has no parent.
+    #[inline]
     pub fn add(&mut self, data: Data) -> Id {
         let node = self.nodes.len() as Id;
         self.nodes.push(Node { parent: NONE, previous: NONE, next: NONE, first: NONE, last: NONE, data });
@@ -125,7 +132,15 @@ impl Tree {
         let start = self.attributes.len();
         let asked = attributes.into_iter().filter(|attribute| is_asked(&attribute.name.local));
         self.attributes.extend(asked.take(MAX_ATTRIBUTES).map(|attribute| Attr { name: attribute.name.local, value: attribute.value }));
-        self.add(Data::Element(Element::new(name, start, self.attributes.len() - start)))
+        self.add(Data::Element(Element::new(name.ns, name.local, start, self.attributes.len() - start)))
+    }
+
+    /// Appends an HTML element without attributes to the children of a node.
+    #[inline]
+    pub fn append_plain(&mut self, parent: Id, name: LocalName) -> Id {
+        let node = self.add(Data::Element(Element::new(ns!(html), name, self.attributes.len(), 0)));
+        self.append(parent, node);
+        node
     }
 
     /// Gives an element an attribute, unless it has one of that name or `MAX_ATTRIBUTES`.
@@ -224,6 +239,7 @@ impl Tree {
     }
 
     /// Appends a node, which has no parent, to the children of another.
+    #[inline]
     pub fn append(&mut self, parent: Id, node: Id) {
         let previous = std::mem::replace(&mut self.nodes[parent as usize].last, node);
         let links = &mut self.nodes[node as usize];
@@ -290,7 +306,25 @@ impl Tree {
     /// Appends a text to the children of a node. It joins one that is the last of these.
     #[inline]
     pub fn append_text(&mut self, parent: Id, text: &str) {
-        self.insert_text(parent, NONE, text);
+        let (start, length) = self.keep(text);
+        let last = self.nodes[parent as usize].last;
+        if length > 0 && !self.join_text(last, start, length) {
+            let continues = last != NONE && matches!(self.nodes[last as usize].data, Data::Text { .. });
+            let node = self.add(Data::Text { start, length, continues });
+            self.append(parent, node);
+        }
+    }
+
+    /// Adds a piece to a text that it is directly after in the vector. Returns whether the node is such a text.
+    #[inline]
+    fn join_text(&mut self, node: Id, piece: u32, more: u32) -> bool {
+        match self.nodes.get_mut(node as usize).map(|node| &mut node.data) {
+            Some(Data::Text { start, length, .. }) if *start + *length == piece => {
+                *length += more;
+                true
+            }
+            _ => false,
+        }
     }
 
     /// Appends a text to the children of a node, or inserts it before one of these. It joins a text directly before its place.
@@ -301,16 +335,10 @@ impl Tree {
             return;
         }
         let previous = if before == NONE { self.nodes[parent as usize].last } else { self.nodes[before as usize].previous };
-        let mut continues = false;
-        if previous != NONE {
-            if let Data::Text { start: other, length: other_length, .. } = &mut self.nodes[previous as usize].data {
-                if *other + *other_length == start {
-                    *other_length += length;
-                    return;
-                }
-                continues = true;
-            }
+        if self.join_text(previous, start, length) {
+            return;
         }
+        let continues = previous != NONE && matches!(self.nodes[previous as usize].data, Data::Text { .. });
         let node = self.add(Data::Text { start, length, continues });
         self.insert(parent, before, node);
     }
@@ -339,7 +367,7 @@ impl Tree {
 #[cfg(test)]
 mod tests {
     use super::*;
-    use html5ever::{local_name, namespace_url, ns};
+    use html5ever::local_name;
 
     fn element(tree: &mut Tree) -> Id {
         tree.add_element(QualName::new(None, ns!(html), local_name!("p")), Vec::new(), |_| true)

@@ -1,7 +1,7 @@
 //! A tree builder within limits. The regular parts of a page are put into its tree directly; html5ever's tree builder takes the rest.
 
 use crate::classes::{class_of, Class};
-use crate::direct::{Direct, Opening, Written};
+use crate::direct::{Direct, Opening};
 use crate::limits::{self, OpenElements, Refusal, Room, FEW_ATTRIBUTES};
 use crate::names::is_asked_by_builder;
 use crate::reader::without_references;
@@ -13,8 +13,9 @@ use html5ever::{local_name, Attribute, LocalName, QualName};
 use html5ever::{namespace_url, ns};
 use tendril::StrTendril;
 
-/// Number of held handles that are looked up for each token that html5ever's tree builder takes.
-const LOOKED_UP: usize = 8;
+/// Number of held handles that are looked up for each node that is put into the tree without html5ever's tree builder, or else for each
+/// token that it takes.
+const LOOKED_UP: usize = 2;
 
 /// The name of a tag, and the class of its elements.
 #[derive(Clone, Debug)]
@@ -46,6 +47,8 @@ pub(crate) struct Watched<'a> {
     is_settled: bool,
     /// Number of tokens that html5ever's tree builder takes before its handles are looked up again.
     wait: usize,
+    /// Number of nodes that the tree has to have, where html5ever's tree builder is needed again, for the last look-up to have paid.
+    paid_at: usize,
     /// Number of attributes of the tag that had most.
     #[cfg(test)]
     pub most_attributes: usize,
@@ -68,6 +71,7 @@ impl<'a> Watched<'a> {
             is_over: false,
             is_settled: false,
             wait: 0,
+            paid_at: 0,
             #[cfg(test)]
             most_attributes: 0,
         }
@@ -130,33 +134,43 @@ impl<'a> Watched<'a> {
             return TokenSinkResult::Continue;
         }
         let Sink { is_quirky, tree, .. } = &self.builder.sink;
-        if let Some(opening) = self.direct.opening(tag.class, &tag.name, *is_quirky, tree) {
-            let written = match start {
-                _ if !matches!(tag.class, Class::Formatting | Class::Anchor) => Written::Anyhow,
-                Some(start) => Written::At(start),
-                None => Written::Read(attributes.clone()),
-            };
-            self.open(opening, tag, attributes, written);
-            return TokenSinkResult::Continue;
+        let opening = self.direct.opening(tag.class, &tag.name, *is_quirky, tree);
+        let is_formatting = matches!(tag.class, Class::Formatting | Class::Anchor);
+        match (opening, start) {
+            (Some(opening), Some(start)) => self.open(opening, tag, attributes, start),
+            (Some(opening), None) if !is_formatting => self.open(opening, tag, attributes, 0),
+            (opening, _) => {
+                let token = Token::TagToken(Tag { kind: TagKind::StartTag, name: tag.name, self_closing, attrs: std::mem::take(attributes) });
+                return match opening {
+                    Some(_) => self.open_formatting(token, tag.class),
+                    None => self.give(token),
+                };
+            }
         }
-        let attrs = std::mem::take(attributes);
-        self.give(Token::TagToken(Tag { kind: TagKind::StartTag, name: tag.name, self_closing, attrs }))
+        TokenSinkResult::Continue
+    }
+
+    /// Has html5ever's tree builder open a formatting element, which it compares with others by attributes, in the innermost one.
+    fn open_formatting(&mut self, token: Token, class: Class) -> TokenSinkResult<Id> {
+        self.tell();
+        let result = self.builder.process_token(token, 1);
+        self.direct.push_told(self.builder.sink.tree.last_id(), class);
+        self.look_at_size();
+        result
     }
 
     /// Takes an end tag.
     #[inline]
     pub fn take_end_tag(&mut self, tag: TagName) -> TokenSinkResult<Id> {
         self.open.forget();
-        let closed = self.direct.closing(tag.class, &tag.name, &self.builder.sink.tree);
-        match closed {
-            Some(count) if self.direct.are_untold(count) => self.close(count),
-            Some(1) if !matches!(tag.class, Class::Formatting | Class::Anchor) => {
-                self.close(1);
-                let _ = self.builder.process_token(end_tag(tag.name), 1);
+        match self.direct.closing(tag.class, &tag.name, &self.builder.sink.tree) {
+            Some(count) => {
+                self.put_spaces();
+                self.close(count);
+                TokenSinkResult::Continue
             }
-            _ => return self.give(end_tag(tag.name)),
+            None => self.give(end_tag(tag.name)),
         }
-        TokenSinkResult::Continue
     }
 
     /// Takes a comment.
@@ -232,34 +246,45 @@ impl<'a> Watched<'a> {
 
     /// Opens the element of a start tag.
     #[inline]
-    fn open(&mut self, opening: Opening, tag: TagName, attributes: &mut Vec<Attribute>, written: Written) {
+    fn open(&mut self, opening: Opening, tag: TagName, attributes: &mut Vec<Attribute>, start: usize) {
         self.put_spaces();
-        self.direct.close(opening.closed);
+        self.close(opening.closed);
         if opening.opens_section {
-            self.open_element(TagName { name: local_name!("tbody"), class: Class::Section }, &mut Vec::new(), Written::Anyhow);
+            self.open_element(TagName { name: local_name!("tbody"), class: Class::Section }, &mut Vec::new(), 0);
         }
         if opening.opens_row {
-            self.open_element(TagName { name: local_name!("tr"), class: Class::Row }, &mut Vec::new(), Written::Anyhow);
+            self.open_element(TagName { name: local_name!("tr"), class: Class::Row }, &mut Vec::new(), 0);
         }
-        self.open_element(tag, attributes, written);
+        self.open_element(tag, attributes, start);
         self.look_at_size();
     }
 
     #[inline]
-    fn open_element(&mut self, tag: TagName, attributes: &mut Vec<Attribute>, written: Written) {
+    fn open_element(&mut self, tag: TagName, attributes: &mut Vec<Attribute>, start: usize) {
         if let Some(open) = self.direct.innermost() {
             let node = self.builder.sink.append_element(open.node, tag.name, attributes);
             if !matches!(tag.class, Class::Void | Class::Rule) {
-                self.direct.push(node, tag.class, written);
+                self.direct.push(node, tag.class, start);
             }
         }
     }
 
-    /// Closes the innermost elements, so many of them.
+    /// Closes the innermost elements, so many of them. Html5ever's tree builder closes those that it was told of.
     #[inline]
     fn close(&mut self, count: usize) {
-        self.put_spaces();
-        self.direct.close(count);
+        for _ in 0..count {
+            if let Some(node) = self.direct.close() {
+                self.close_told(node);
+            }
+        }
+    }
+
+    #[cold]
+    fn close_told(&mut self, node: Id) {
+        if let Some(element) = self.builder.sink.tree.element(node) {
+            let name = element.name.clone();
+            let _ = self.builder.process_token(end_tag(name), 1);
+        }
     }
 
     /// Reports whether there is room for the element of a start tag.
@@ -299,16 +324,17 @@ impl<'a> Watched<'a> {
             let _ = self.builder.process_token(Token::CharacterTokens(spaces), 1);
         }
         self.direct.forget();
+        if self.builder.sink.tree.node_count() >= self.paid_at {
+            self.wait = 0;
+        }
     }
 
     /// Tells html5ever's tree builder of all open elements.
     fn tell(&mut self) {
         while let Some(open) = self.direct.tell() {
-            let attrs = match std::mem::replace(&mut open.written, Written::Anyhow) {
-                Written::Anyhow => Vec::new(),
-                Written::At(start) => plain_attributes(&self.page[start..]),
-                Written::Read(attributes) => attributes,
-            };
+            // other elements aren't compared by their attributes
+            let is_formatting = matches!(open.class, Class::Formatting | Class::Anchor);
+            let attrs = if is_formatting { plain_attributes(&self.page[open.start..]) } else { Vec::new() };
             let sink = &mut self.builder.sink;
             if let Some(element) = sink.tree.element(open.node) {
                 let name = element.name.clone();
@@ -333,6 +359,7 @@ impl<'a> Watched<'a> {
         let held = limits::held_by(&self.builder);
         self.direct.learn(&held, &self.builder.sink.tree);
         self.wait = held.len() / LOOKED_UP;
+        self.paid_at = self.builder.sink.tree.node_count() + self.wait;
     }
 
     /// Checks that html5ever's tree builder has the elements open that it was told of.

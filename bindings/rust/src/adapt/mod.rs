@@ -937,11 +937,18 @@ impl<'a> Adapter<'a> {
         self.inline.end(anchor, Run::Apart);
     }
 
-    #[inline]
+    /// Returns what an element's attributes say of it.
+    #[inline(always)]
     fn said_by(&mut self, attributes: &[Attr], is_html: bool) -> Said {
         if attributes.is_empty() {
-            return Said::default();
+            Said::default()
+        } else {
+            self.said_by_some(attributes, is_html)
         }
+    }
+
+    #[inline(never)]
+    fn said_by_some(&mut self, attributes: &[Attr], is_html: bool) -> Said {
         said_by(attributes, is_html, |text| self.styles.of(text))
     }
 
