@@ -307,7 +307,8 @@ impl<'a> Reader<'a> {
                 self.tokenizer.sink.take_comment();
                 start + "<!--".len() + comment_length(content)
             }
-            [b'<', ..] => self.give_plain_tag(start).unwrap_or_else(|| self.feed_in_data(start)),
+            [b'<', b'/', ..] => self.give_plain_end_tag(start).unwrap_or_else(|| self.feed_in_data(start)),
+            [b'<', ..] => self.give_plain_start_tag(start).unwrap_or_else(|| self.feed_in_data(start)),
             [b'&', ..] => self.give_reference(start).unwrap_or_else(|| self.feed_in_data(start)),
             _ => {
                 let end = start + self.page.text_length(start);
@@ -363,16 +364,27 @@ impl<'a> Reader<'a> {
         Some(end + 1)
     }
 
-    /// Gives the tree builder the tag that begins here, where it is written in the plainest way and no raw text follows. Returns its end.
-    /// The tag has the attributes that are asked for; the tree builder compares formatting elements, and they have all.
-    fn give_plain_tag(&mut self, start: usize) -> Option<usize> {
+    /// Gives the tree builder the end tag that begins here, where it is written in the plainest way. Returns its end.
+    fn give_plain_end_tag(&mut self, start: usize) -> Option<usize> {
+        let (known, end) = self.names.tag_name(self.page.text, start + "</".len())?;
+        if *self.page.text.as_bytes().get(end)? != b'>' {
+            return None;
+        }
+        let watched = &mut self.tokenizer.sink;
+        watched.learn();
+        let _ = watched.take_end_tag(&known.name, known.class);
+        Some(end + 1)
+    }
+
+    /// Gives the tree builder the start tag that begins here, where it is written in the plainest way and no raw text follows. Returns its
+    /// end. The tag has the attributes that are asked for; the tree builder compares formatting elements, and they have all.
+    fn give_plain_start_tag(&mut self, start: usize) -> Option<usize> {
         let text = self.page.text.as_bytes();
-        let is_end = *text.get(start + 1)? == b'/';
-        let (known, mut end) = self.names.tag_name(self.page.text, start + 1 + usize::from(is_end))?;
+        let (known, mut end) = self.names.tag_name(self.page.text, start + 1)?;
         let (tag, is_formatting) = (TagName { name: known.name.clone(), class: known.class }, known.is_formatting);
         self.attributes.clear();
         let mut count = 0;
-        while *text.get(end)? == b' ' && !is_end {
+        while *text.get(end)? == b' ' {
             if text.get(end + 1) == Some(&b'/') {
                 end += 1;
                 break;
@@ -383,14 +395,14 @@ impl<'a> Reader<'a> {
             end = self.plain_attribute(end, is_formatting)?;
             count += 1;
         }
-        let self_closing = text[end] == b'/' && !is_end;
+        let self_closing = text[end] == b'/';
         end += usize::from(self_closing);
         if *text.get(end)? != b'>' {
             return None;
         }
         let watched = &mut self.tokenizer.sink;
         watched.learn();
-        let _ = if is_end { watched.take_end_tag(tag) } else { watched.take_start_tag(tag, &mut self.attributes, self_closing, Some(start)) };
+        let _ = watched.take_start_tag(tag, &mut self.attributes, self_closing, Some(start));
         Some(end + 1)
     }
 }

@@ -106,8 +106,7 @@ impl<'a> Watched<'a> {
         }
         match token {
             Token::TagToken(Tag { kind: TagKind::EndTag, name, .. }) => {
-                let class = class_of(&name);
-                self.take_end_tag(TagName { name, class })
+                self.take_end_tag(&name, class_of(&name))
             }
             Token::TagToken(Tag { name, mut attrs, self_closing, .. }) => {
                 let class = class_of(&name);
@@ -161,15 +160,15 @@ impl<'a> Watched<'a> {
 
     /// Takes an end tag.
     #[inline]
-    pub fn take_end_tag(&mut self, tag: TagName) -> TokenSinkResult<Id> {
+    pub fn take_end_tag(&mut self, name: &LocalName, class: Class) -> TokenSinkResult<Id> {
         self.open.forget();
-        match self.direct.closing(tag.class, &tag.name, &self.builder.sink.tree) {
+        match self.direct.closing(class, name, &self.builder.sink.tree) {
             Some(count) => {
                 self.put_spaces();
                 self.close(count);
                 TokenSinkResult::Continue
             }
-            None => self.give(end_tag(tag.name)),
+            None => self.give(end_tag(name.clone())),
         }
     }
 
