@@ -420,12 +420,12 @@ mod tests {
     use html5ever::driver::ParseOpts;
     use tendril::{SliceExt, TendrilSink};
 
-    const PIECES: [&str; 88] = [
+    const PIECES: [&str; 89] = [
         "<p>", "</p>", "<td>", "</td>", "<table>", "</table>", "<tr>", "<b>", "</b>", "<i>", "</i>", "<a href=\"x\">", "</a>", "<a href='y'>", "<img src=\"a&amp;b\" alt=\"t\">", "<img alt=\"&amp;&amp;\">", "<b id=\"&amp;c\">", "<u class=\"a&amp;b&lt\">",
         "<br/>", "<br />", "<b id=\"i\" />", "<path d=\"m\"/>", "</p/>", "<BR>", "<div class=\"c\" class=\"d\">", "</div>", "<div id=\"i\" title=\"a>b\">", "text", " ", "\n", "\r\n", "\r", "\0", "&amp;", "&nbsp;", "&#233;", "&#x;", "&#150;", "&#55296;", "&#;", "&am", "&lt", "&#x41;", "&",
         "<", ">", "<!-- c -->", "<!--", "-->", "-", "!>", "<!DOCTYPE html>", "<!x>", "</>", "<script>", "</script>", "<style>", "</style>", "<title>", "</title>", "<textarea>", "</textarea>",
         "<svg>", "</svg>", "<![CDATA[x]]>", "<math>", "<template>", "</template>", "<select>", "<pre>", "\n<li>", "<h1>", "\u{feff}", "\u{e9}\u{754c}", "<ul>", "<ol start=\"3\">",
-        "<font color='a'>", "<body class=x>", "<html id=y>", "</body>", "<caption>", "<th>", "<option>", "<noscript>", "<mtext>", "<annotation-xml encoding='text/html'>", "</p a='>' b>", "<foreignObject>",
+        "<font color='a'>", "<body class=x>", "<html id=y>", "</body>", "<caption>", "<th>", "<option>", "<noscript>", "<frameset>", "<mtext>", "<annotation-xml encoding='text/html'>", "</p a='>' b>", "<foreignObject>",
     ];
 
     const WANTED: Wanted = Wanted { is_asked: record::is_asked, css: true };
@@ -485,12 +485,16 @@ mod tests {
         ("</td><td>", ""), ("</td> </tr>\n<tr><td>", ""), ("</td></tr></tbody><tfoot>\n<td>", ""), ("<table><caption>", "</caption></table>"),
     ];
 
+    /// What changes how html5ever takes what follows, where other parts of the page are well-formed.
+    const RARE: [&str; 6] = ["a</body><!-- c -->b", "</body>\n<p>", "<p><b><b><b><b>a</p><p>", "<i><i><i><i>", "</b></b></b>c", "</p></li></td>"];
+
     /// Returns a page most of which is well-formed.
     fn regular_page(random: &mut dyn FnMut(usize) -> usize) -> String {
         let mut page = ["<html><body>text", "text", ""][random(3)].to_owned();
         let mut ends = Vec::new();
         for _ in 0..random(60) {
             match random(20) {
+                0 if random(2) == 0 => page.push_str(RARE[random(RARE.len())]),
                 0 => page.push_str(PIECES[random(PIECES.len())]),
                 1 | 2 => {
                     let (start, end) = TABLE[random(TABLE.len())];
