@@ -385,6 +385,21 @@ module _ {T M : Type 0} where
   prefixed-same l [] = refl
   prefixed-same l (x ∷ xs) = refl
 
+  -- ---- a prefix in front of each line of pieces
+
+  pub lines-mapped : (f : Line T M → Line T M) (ps : List (List (Line T M))) → lines_of (map (map f) ps) ≡ map f (lines_of ps)
+  lines-mapped f [] = refl
+  lines-mapped f (p ∷ ps) = ap (λ l. map f p ++ l) (lines-mapped f ps) ∙ sym (map-append f p (lines_of ps))
+
+  pub lines-behind : (l : Line T M) (ps : List (List (Line T M))) → lines_of (map (map (λ k. l ++ k)) ps) ≡ prefixed l l (lines_of ps)
+  lines-behind l ps = lines-mapped (λ k. l ++ k) ps ∙ sym (prefixed-same l (lines_of ps))
+
+  -- a prefix in front of an only line
+  pub front-only : (l : Line T M) (ls : List (Line T M)) → length ls ≡ 1 → with_front l ls ≡ map (λ k. l ++ k) ls
+  front-only l [] e = refl
+  front-only l (k ∷ []) e = refl
+  front-only l (k ∷ (m ∷ ms)) e = absurd (omega (arith, e))
+
   pub prefixed-parts : (f l : Line T M) (xs ys : List (Line T M)) → 0 < length xs → prefixed f l (xs ++ ys) ≡ prefixed f l xs ++ prefixed l l ys
   prefixed-parts f l [] ys h = absurd (omega (arith, h))
   prefixed-parts f l (x ∷ xs) ys h =

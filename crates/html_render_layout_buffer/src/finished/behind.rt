@@ -74,7 +74,10 @@ impl<T: Tag, M: Copy> FinishedLines<T, M> {
             return self.push_piece(piece.with_prefix(first)?.marked_first(marks)?);
         }
         piece.has_line();
-        self.push_lines_behind(&piece.into_buffer()?, marks, first, later)
+        self.push_lines_behind(&piece.into_buffer()?, marks, first, later)?;
+        // lines that are long now are copied no more
+        self.separate()?;
+        Ok(())
     }
 
     /// Appends copies of a buffer's ended lines: the first after marks and the prefix `first`, and each other one after the
@@ -116,6 +119,31 @@ impl<T: Tag, M: Copy> FinishedLines<T, M> {
         Ok(())
     }
 
+    /// Moves the lines of pieces to the end.
+    fn push_pieces(&mut self, pieces: &mut Pieces<T, M>) -> Result<(), AllocError>
+        ensures { OnOk result (self.new ≡ self.old ++ lines_of pieces.old) }
+    {
+        settle(&mut self.pieces, &mut self.last)?;
+        self.pieces.append(pieces)
+    }
+
+    /// Appends the lines of pieces, each after a prefix. If all are long, they are moved together, so that lists in lists allocate
+    /// nothing for them.
+    fn push_all_behind(
+        &mut self,
+        mut pieces: Pieces<T, M>,
+        prefix: &Prefix<'_, T>,
+    ) -> Result<(), AllocError>
+        ensures { OnOk result (self.new ≡ self.old ++ prefixed (under prefix.now.tag (chars prefix.now.text.now))
+            (under prefix.now.tag (chars prefix.now.text.now)) (lines_of pieces)) }
+    {
+        if !pieces.are_long() {
+            return self.push_each_behind(pieces, prefix);
+        }
+        pieces.put_behind(prefix)?;
+        self.push_pieces(&mut pieces)
+    }
+
     /// Moves other lines to the end: the first after marks and the prefix `first`, and each other one after the prefix `later`.
     ///
     /// # Errors
@@ -139,6 +167,6 @@ impl<T: Tag, M: Copy> FinishedLines<T, M> {
         piece.has_line();
         settle(&mut other.pieces, &mut other.last)?;
         self.push_behind(piece, marks, first, later)?;
-        self.push_each_behind(other.pieces.take(), later)
+        self.push_all_behind(other.pieces.take(), later)
     }
 }

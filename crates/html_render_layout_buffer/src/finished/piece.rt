@@ -1,6 +1,6 @@
 //! Lines of a buffer, with what was put in front of the first one.
 
-ghost use Rattle.std.specs.Prelude.{◌≡◌, ℕ, ◌+◌, ◌<◌, ◌++◌, ◌==◌, [], Some, length, reverse, OnOk, IfOk};
+ghost use Rattle.std.specs.Prelude.{◌≡◌, ℕ, ◌+◌, ◌<◌, ◌++◌, ◌==◌, [], Some, length, map, reverse, OnOk, IfOk};
 ghost use Rattle.std.specs.Bool.{OnTrue};
 ghost use Rattle.std.specs.Str.{chars};
 ghost use Rattle.html_render_layout_lines.specs.Line.{columns, marks_line};
@@ -18,6 +18,13 @@ use std::marker::Model;
 
 /// A line of more bytes is a piece of its own: what is put in front of it moves none of them.
 pub(super) const LONG: usize = 256;
+
+/// Elements that may be in front of any text.
+const FRONT_FEW: usize = 16;
+
+/// Bytes of text for each further element in front of it. An element takes 16 bytes, so those in front take at most a quarter of
+/// the text's memory, and their vector at most half.
+const FRONT_SHARE: usize = 64;
 
 /// Lines, at least one.
 #[derive(Drop)]
@@ -103,11 +110,40 @@ impl<T: Tag, M: Copy> Piece<T, M> {
             lines,
         } = self;
         push_reversed(&mut front, prefix.text, prefix.tag)?;
-        Ok(Piece {
+        let piece = Piece {
             front,
             front_columns: counted_sum(prefix.columns, front_columns),
             lines,
-        })
+        };
+        let compact = piece.compact()?;
+        Ok(compact)
+    }
+
+    /// Copies what is in front into the buffer once it is long for the buffer's text. So a line's memory grows with its bytes, and
+    /// each byte is copied a bounded number of times.
+    fn compact(self) -> Result<Piece<T, M>, AllocError>
+        ensures { IfOk result (λ p. p ≡ self) }
+    {
+        if self.front.len() <= FRONT_FEW + self.lines.byte_count() / FRONT_SHARE {
+            return Ok(self);
+        }
+        self.has_line();
+        Ok(Piece::new(self.into_buffer()?))
+    }
+
+    /// Puts a prefix in front of each line.
+    pub(super) fn behind(self, prefix: &Prefix<'_, T>) -> Result<Piece<T, M>, AllocError>
+        ensures { IfOk result (λ p. p ≡ map (λ l. under prefix.now.tag (chars prefix.now.text.now) ++ l) self) }
+    {
+        self.has_line();
+        if self.is_long() {
+            let piece = self.with_prefix(prefix)?;
+            return Ok(piece);
+        }
+        let lines = self.into_buffer()?;
+        let mut to = LineBuffer::new(lines.alloc());
+        to.append_each_behind(&lines, 0, prefix)?;
+        Ok(Piece::new(to))
     }
 
     /// Puts marks in front of the first line.

@@ -2,13 +2,15 @@
 
 ghost use Rattle.std.specs.Prelude.{◌≡◌, ℕ, List, ◌==◌, ◌≤◌, ◌+◌, ◌++◌, [], ◌∷◌, Some, drop, take, map, length, nat_le, OnOk, IfOk, IfSome, IfNone};
 ghost use Rattle.std.specs.List.{list_all};
+ghost use Rattle.std.specs.Str.{chars};
 ghost use Rattle.html_render_layout_lines.specs.Line.{Line, columns};
-ghost use Rattle.html_render_layout_lines.specs.TaggedText.{counted};
+ghost use Rattle.html_render_layout_lines.specs.TaggedText.{counted, under};
 ghost use Rattle.html_render_layout_buffer.specs.Marked.{marked_before, marked_behind};
 ghost use Rattle.html_render_layout_buffer.specs.Padding.{filled};
 ghost use Rattle.html_render_layout_buffer.specs.Pieces.{fits_after, lines_of, ArePieces};
 
 use crate::finished::piece::Piece;
+use crate::prefix::Prefix;
 use crate::runs::longer;
 use html_render_layout_lines::tag::Tag;
 use std::alloc::{AllocError, Global};
@@ -165,6 +167,30 @@ impl<T: Tag, M: Copy> Pieces<T, M> {
         ensures { OnOk result (self.new ≡ self.old ++ others.old) }
     {
         *self = self.take().joined(others.take())?;
+        Ok(())
+    }
+
+    /// Reports whether each piece is one long line.
+    pub(super) fn are_long(&self) -> bool {
+        for index in 0..self.pieces.len() {
+            if !self.pieces[index].is_long() {
+                return false;
+            }
+        }
+        true
+    }
+
+    /// Puts a prefix in front of each line. The pieces stay in their deque, so that none is allocated.
+    #[inline(never)]
+    pub(super) fn put_behind(&mut self, prefix: &Prefix<'_, T>) -> Result<(), AllocError>
+        ensures { OnOk result (self.new ≡ map (map (λ l. under prefix.now.tag (chars prefix.now.text.now) ++ l)) self.old) }
+    {
+        for _ in 0..self.pieces.len() {
+            let Some(piece) = self.pop_first() else {
+                return Ok(());
+            };
+            self.push(piece.behind(prefix)?)?;
+        }
         Ok(())
     }
 

@@ -28,6 +28,6 @@ returns g c =
     let whole : c.args.other.now ≡ piece ++ others =
     sym c.in_ok-separate.ensures ∙ sym c.other.view_is ∙ ap (λ y. lines_of y ++ ls) c.in-Some.ensures.some
     ∙ append_assoc piece rest ls ∙ ap (λ y. piece ++ y) (sym (ap (λ y. lines_of y) c.take.ensures.taken ∙ c.in_ok-settle.ensures.pieces)) in
-    on_ok_weaker c.push_each_behind.result
-    (λ e. moved-behind first later c.args.self.now c.push_behind.new.self c.push_each_behind.new.self piece others c.args.other.now
-    c.has_line.ensures whole c.in_ok-push_behind.ensures e) c.push_each_behind.ensures
+    on_ok_weaker c.push_all_behind.result
+    (λ e. moved-behind first later c.args.self.now c.push_behind.new.self c.push_all_behind.new.self piece others c.args.other.now
+    c.has_line.ensures whole c.in_ok-push_behind.ensures e) c.push_all_behind.ensures

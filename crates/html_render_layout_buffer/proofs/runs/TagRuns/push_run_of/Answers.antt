@@ -1,4 +1,4 @@
-use Rattle.std.proofs.Common.{◌≡◌, ◌++◌, replicate, ap, ◌∙◌}
+use Rattle.std.proofs.Common.{◌++◌, replicate, ap, ◌∙◌}
 use Rattle.html_render_layout_buffer.proofs.TagLists.{switched}
 use Rattle.html_render_layout_buffer.proofs.runs.TagRuns.push_run_of.Goals as goal
 
