@@ -215,13 +215,11 @@ module _ {S A K T B : Type 0} (m : Algebra S A K T B) where
     q ← on_block (λ b. m.operations.add_inline_text b (record { mode = Normal; tag = s.blank; continuation_tag = s.blank }) (codes "```")) s
     on_block m.operations.new_line q
 
-  abbrev pub write_number : ℕ → State → Option State
-  write_number number s = if s.settings.link_footnotes then write (chars (codes "[" ++ decimal number ++ codes "]")) s else Some s
-
   -- state after a step at a node whose steps began in `before`; in raw mode the cells of a table are stacked
   abbrev pub perform : (before : State) → Step S A → State → Option State
   perform before (Write text) s = write (text s.decorator) s
-  perform before WriteNumber s = write_number (length before.targets + 1) s
+  perform before WriteNumber s =
+      if s.settings.link_footnotes then write (chars (codes "[" ++ decimal (length before.targets + 1) ++ codes "]")) s else Some s
   perform before (Annotate annotation) s = Some (annotated (annotation s.decorator) s)
   perform before (Treat white_space preformatted) s =
       Some (record s { text = record s.text { mode = white_space_in s.text.mode white_space; preformatted = s.text.preformatted || preformatted } })
@@ -316,9 +314,6 @@ Defined S A = LayoutState S (Unit {0}) (List A) (DefinedBlock (List A) ℕ)
 -- algebra of the definition's layout: a tag is a stack of annotations, and an annotation is added on top of it
 abbrev pub by_stacks : {S A : Type 0} → Decoration S A → Algebra S A (Unit {0}) (List A) (DefinedBlock (List A) ℕ)
 by_stacks d = record { decoration = d; push = λ k stack a. (k, stack ++ a ∷ []); operations = definition.operations }
-
-abbrev pub defined : {S A : Type 0} → Decoration S A → Visits RenderNode (Defined S A)
-defined d = layout_of (by_stacks d)
 
 module _ {S A : Type 0} (d : Decoration S A) (settings : LayoutSettings) where
   -- state in which a layout begins: an empty block, with the decorator's sub-block decorator, no annotations and white space

@@ -1,6 +1,7 @@
 -- The walk's machine: opening and closing a node, with the pending work as data.
-use Rattle.std.specs.Prelude.{Bool, ℕ, ℤ, pos, ◌+◌, ◌-◌, ◌+ℤ◌, List, length, Option, Some, None, option_map, option_and_then, if◌then◌else◌}
+use Rattle.std.specs.Prelude.{Bool, ℕ, ℤ, pos, ◌+◌, ◌-◌, ◌+ℤ◌, ◌++◌, List, codes, length, Option, Some, None, option_map, option_and_then, if◌then◌else◌}
 use Rattle.std.specs.Char.{is_ascii_digit}
+use Rattle.std.specs.Fmt.{decimal}
 use Rattle.std.specs.List.{list_all}
 use Rattle.std.specs.Int.{saturate_signed, w64}
 use Rattle.std.specs.Str.{chars}
@@ -27,7 +28,7 @@ use Rattle.html_render_layout.specs.declared.state.CloseAction.TheVariants.{Bull
 use Rattle.html_render_layout.specs.declared.state.CloseAction.TheVariants.{EndStrikeout, EndSuperscript, EndLink, EndTable, EndRow}
 use Rattle.html_render_layout.specs.declared.state.Outer.{Outer}
 use Rattle.html_render_layout.specs.declared.state.TextContext.{TextContext}
-use Rattle.html_render_layout.specs.Layout.{Algebra, State, kind_text, write_number, spaces, padded, emphasis_decoration}
+use Rattle.html_render_layout.specs.Layout.{Algebra, State, kind_text, spaces, padded, emphasis_decoration}
 use Rattle.html_render_layout.specs.Layout.{block_of, shape_of, style_steps, layout_of}
 use Rattle.html_render_layout.specs.Layout.{on_block, write, within, nested, appended_block, block_place, cell_place, Fence, perform, shape_layout, perform_all}
 
@@ -40,6 +41,10 @@ abbrev pub digits_of_kind : NodeKind → Option (List ℕ)
 digits_of_kind kind = option_and_then (λ t. if list_all is_ascii_digit t then Some t else None) (kind_text kind)
 
 module _ {S A K T B : Type 0} (m : Algebra S A K T B) where
+  -- state after a link's number is written, if links have footnotes
+  abbrev pub write_number : ℕ → State m → Option (State m)
+  write_number number s = if s.settings.link_footnotes then write m (chars (codes "[" ++ decimal number ++ codes "]")) s else Some s
+
   -- suspended block of the state, for a sub-block after this prefix
   abbrev pub interrupted : State m → (prefix : List ℕ) → (columns : ℕ) → Outer S (Prefixing B T)
   interrupted s prefix columns =
@@ -126,7 +131,7 @@ module _ {S A K T B : Type 0} (m : Algebra S A K T B) where
   kind_closed EndSuperscript r = write m (chars (m.decoration.superscript.end r.decorator)) r
   kind_closed (EndLink text number) r = do
     q ← write m (chars (m.decoration.link_end r.decorator)) r
-    write_number m number (record q { text = text })
+    write_number number (record q { text = text })
   kind_closed (EndTable own in_table) r = do
     q ← table_closed in_table r
     continued own q

@@ -8,7 +8,7 @@ use Rattle.html_render_layout_nodes.specs.Visitor.{run}
 use Rattle.html_render_layout_estimates.specs.declared.settings.LayoutSettings.{LayoutSettings}
 use Rattle.html_render_layout_blocks.specs.declared.block.BlockSetting.{BlockSetting}
 use Rattle.html_render_layout.specs.Kept.{visited_nodes, KeepsTexts}
-use Rattle.html_render_layout.specs.Layout.{layout_lines, Defined, defined}
+use Rattle.html_render_layout.specs.Layout.{layout_lines, layout_of, Defined, by_stacks}
 
 -- Promises about the lines of a result. They are the definition's lines of the tree in a block. With overflow off and
 -- closing lines cut, none passes the width. Where overflow off gives lines, these are the same. Each visible character of
@@ -32,4 +32,4 @@ HasLines d settings tree decorator block = block.overflow ≡ true → 1 ≤ blo
 -- whether each layout of trees leaves the treatment of texts, with its tag, and the decorator as they were
 abbrev pub LeavesTexts : {S A : Type 0} → Decoration S A → Type 0
 LeavesTexts {S} {A} d =
-    (t : Forest RenderNode) (s : Defined S A) → IfSome (run (defined d) t s) (λ r. (r.text ≡ s.text) × (r.decorator ≡ s.decorator))
+    (t : Forest RenderNode) (s : Defined S A) → IfSome (run (layout_of (by_stacks d)) t s) (λ r. (r.text ≡ s.text) × (r.decorator ≡ s.decorator))

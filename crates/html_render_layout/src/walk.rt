@@ -11,7 +11,7 @@ ghost use Rattle.html_render_layout_blocks.specs.Machine.{machine};
 ghost use Rattle.html_render_layout_nodes.specs.Counts.{CountsNodes};
 ghost use Rattle.html_render_layout_nodes.specs.Visitor.{run};
 ghost use Rattle.html_render_layout_estimates.specs.Passes.{with_needed_sizes};
-ghost use Rattle.html_render_layout.specs.Layout.{layout_of, shown_after, defined, empty_state};
+ghost use Rattle.html_render_layout.specs.Layout.{by_stacks, layout_of, shown_after, empty_state};
 ghost use Rattle.html_render_layout.specs.Layout.{estimated, layout_lines, mark_names, unannotated};
 ghost use Rattle.html_render_layout.specs.Promises.{AreLines, Lines, HasLines, LeavesTexts};
 ghost use Rattle.html_render_layout.specs.Opening.{walk_visits, walk_below, walk_opened, walk_closed};
@@ -305,7 +305,7 @@ pub fn lay_out<D: TextDecorator>(
     ensures restores_context { LeavesTexts D.decoration }
 
     // counts of visited nodes and of nodes open at once, exact with lines and at most these without
-    ensures counts { CountsNodes result (defined D.decoration)
+    ensures counts { CountsNodes result (layout_of (by_stacks D.decoration))
         (estimated D.decoration settings.now decorator.now tree) (empty_state D.decoration settings.now decorator.now block) meter.old meter.new }
 {
     meter.entered = 0;

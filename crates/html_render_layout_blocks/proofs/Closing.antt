@@ -15,7 +15,8 @@ use Rattle.html_render_layout_lines.specs.Line.{Line}
 use Rattle.html_render_layout_blocks.specs.declared.block.BlockSetting.{BlockSetting}
 use Rattle.html_render_layout_lines.specs.laws.Cases.{if_cases}
 use Rattle.html_render_layout_blocks.specs.Block.{start_block, add_lines, add_closing_lines}
-use Rattle.html_render_layout_blocks.specs.Closing.{on_one_line, closing_lines}
+use Rattle.html_render_layout_blocks.specs.Closing.{closing_lines}
+use Rattle.html_render_layout_blocks.specs.RowSteps.{on_one_line}
 use Rattle.html_render_layout_blocks.specs.Machine.{machine, MachineBlock}
 use Rattle.html_render_layout_blocks.specs.laws.Related.{line_setting}
 

@@ -5,15 +5,11 @@ use Rattle.html_render_layout_paragraphs.specs.CutText.{text_lines}
 use Rattle.html_render_layout_lines.specs.Line.{Line}
 use Rattle.html_render_layout_blocks.specs.declared.block.BlockSetting.{BlockSetting}
 
--- Text with a space for each newline.
-abbrev pub on_one_line : List ℕ → List ℕ
-on_one_line cs = map (λ c. if c == 10 then 32 else c) cs
-
--- Lines of texts, cut at the width of the block or left whole. None, cut and with overflow off, if a character is wider
+-- Lines of texts, with a space for each newline, cut at the width of the block or left whole. None, cut and with overflow off, if a character is wider
 -- than the block.
 abbrev pub closing_lines : {T M : Type 0} → BlockSetting → (cut : Bool) → T → List (List ℕ) → Option (List (Line T M))
 closing_lines setting cut tag [] = Some []
 closing_lines setting cut tag (t ∷ ts) = do
-  first ← text_lines (record { width = setting.width; overflow = setting.overflow }) cut tag (on_one_line t)
+  first ← text_lines (record { width = setting.width; overflow = setting.overflow }) cut tag (map (λ c. if c == 10 then 32 else c) t)
   later ← closing_lines setting cut tag ts
   Some (first ++ later)

@@ -9,6 +9,7 @@ pub mod Block
 -- The definition on whole lists, and the machine that is fed character by character.
 pub mod Definition
 pub mod Machine
+pub mod RowSteps
 -- A table as one function of its finished cells, and the operations that lay it out cell by cell.
 pub mod WholeTable
 pub mod CellByCell

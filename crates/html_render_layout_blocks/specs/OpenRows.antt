@@ -1,6 +1,6 @@
 -- A row of a table: its cells, placeholders and gaps over the table's columns.
 use Rattle.std.specs.Prelude.{ℕ, suc, ◌+◌, ◌-◌, ◌==◌, Bool, true, false, List, [], ◌∷◌, ◌++◌, length, sum, take, drop}
-use Rattle.std.specs.Prelude.{Option, Some, None, flat_map, if◌then◌else◌}
+use Rattle.std.specs.Prelude.{Option, Some, None, flat_map, option_map, option_to_list, if◌then◌else◌}
 use Rattle.std.specs.List.{list_any}
 use Rattle.html_render_parts.specs.declared.table.CellKind.{CellKind}
 use Rattle.html_render_parts.specs.declared.table.CellKind.TheVariants.{Placeholder}
@@ -29,14 +29,9 @@ abbrev pub next_width : List RowPlace → Option ℕ
 next_width [] = None
 next_width (p ∷ ps) = if p.is_cell then p.width else next_width ps
 
--- Empty cell of a place, unless that is skipped.
-abbrev pub empty_cell : {T M : Type 0} → Option ℕ → List (KeptCell T M)
-empty_cell None = []
-empty_cell (Some width) = record { width = width; lines = []; marks = [] } ∷ []
-
--- Empty cells of places.
+-- Empty cells of places, without those that are skipped.
 abbrev pub empty_cells : {T M : Type 0} → List RowPlace → List (KeptCell T M)
-empty_cells ps = flat_map (λ p. empty_cell p.width) ps
+empty_cells ps = flat_map (λ p. option_to_list (option_map (λ w. record { width = w; lines = []; marks = [] }) p.width)) ps
 
 -- Places before the next cell.
 abbrev pub before_cell : List RowPlace → List RowPlace

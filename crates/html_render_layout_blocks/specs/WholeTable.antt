@@ -14,7 +14,8 @@ use Rattle.html_render_layout_buffer.specs.Padding.{repeated}
 use Rattle.html_render_layout_pictures.specs.declared.borders.TheConstants.{BORDERS}
 use Rattle.html_render_layout_pictures.specs.Picture.{KeptCell, TableRow, picture}
 use Rattle.html_render_layout_blocks.specs.declared.block.rows.RowPlace.{RowPlace}
-use Rattle.html_render_layout_blocks.specs.OpenRows.{is_placeholder, places, empty_cell}
+use Rattle.html_render_layout_blocks.specs.OpenRows.{is_placeholder, places}
+use Rattle.html_render_layout_blocks.specs.RowSteps.{empty_cell}
 use Rattle.html_render_layout_blocks.specs.Tables.{frame_of}
 
 -- A finished block: its lines, and the marks that wait after them.

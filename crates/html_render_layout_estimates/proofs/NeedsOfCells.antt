@@ -5,7 +5,8 @@ use Rattle.html_render_dom_values.specs.Forest.{Forest, none, node}
 use Rattle.html_render_parts.specs.declared.table.cells.GridCell.{GridCell}
 use Rattle.html_render_parts_widths.specs.Needs.{IsCell, AreCells}
 use Rattle.html_render_layout_nodes.specs.declared.tree.RenderNode.{RenderNode}
-use Rattle.html_render_layout_estimates.specs.Cells.{row_needs, cell_needs}
+use Rattle.html_render_layout_estimates.specs.Cells.{cell_needs}
+use Rattle.html_render_layout_estimates.specs.CellSteps.{row_needs}
 
 pub row_without : (cells : List GridCell) → row_needs cells none ≡ []
 row_without [] = refl

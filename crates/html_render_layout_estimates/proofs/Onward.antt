@@ -16,7 +16,8 @@ use Rattle.html_render_layout_nodes.specs.laws.Preorder.{flatten-followed_by, Is
 use Rattle.html_render_layout_estimates.specs.declared.settings.LayoutSettings.{LayoutSettings}
 use Rattle.html_render_layout_estimates.specs.declared.words.WordShape.{WordShape}
 use Rattle.html_render_layout_estimates.specs.Passes.{is_table}
-use Rattle.html_render_layout_estimates.specs.Words.{worded_kind, worded_node, node_shape, shapes, worded}
+use Rattle.html_render_layout_estimates.specs.Words.{worded_kind, shapes, worded}
+use Rattle.html_render_layout_estimates.specs.WordSteps.{worded_node, node_shape}
 use Rattle.html_render_layout_estimates.proofs.Backward.{shaped, changed}
 
 -- a node that is no table stays as it is

@@ -7,8 +7,8 @@ use Rattle.std.specs.Str.{chars}
 use Rattle.html_render_layout_lines.specs.Character.{is_collapsible}
 use Rattle.html_render_layout_lines.specs.laws.Characters.{plain_width}
 use Rattle.html_render_layout_estimates.specs.TextSize.{saturated}
-use Rattle.html_render_layout_estimates.specs.Words.{word_break, joined_shapes, character_shape}
-use Rattle.html_render_layout_estimates.specs.WordSteps.{shape_after}
+use Rattle.html_render_layout_estimates.specs.Words.{word_break, joined_shapes}
+use Rattle.html_render_layout_estimates.specs.WordSteps.{character_shape, shape_after}
 use Rattle.html_render_layout_estimates.specs.declared.words.WordShape.{WordShape}
 use Rattle.html_render_layout_estimates.specs.declared.words.WordShape.TheVariants.{Part, Broken}
 use Rattle.html_render_layout_estimates.proofs.Sizes.{letter-collapsible, next-chars}

@@ -9,7 +9,8 @@ use Rattle.html_render_parts.specs.declared.table.cells.GridCell.{GridCell}
 use Rattle.html_render_parts_widths.specs.declared.shares.ColumnNeed.{ColumnNeed}
 use Rattle.html_render_parts_widths.specs.declared.spans.Span.{Span}
 use Rattle.html_render_parts_widths.specs.Spans.{greatest_at, AreGreatest, AreOver}
-use Rattle.html_render_layout_estimates.specs.Words.{longest_word, row_words, cell_words, with_longest}
+use Rattle.html_render_layout_estimates.specs.Words.{longest_word, with_longest}
+use Rattle.html_render_layout_estimates.specs.CellSteps.{row_words, cell_words}
 use Rattle.html_render_layout_estimates.specs.declared.words.WordShape.{WordShape}
 use Rattle.html_render_layout_estimates.proofs.NeedsOfCells.{OnColumns}
 

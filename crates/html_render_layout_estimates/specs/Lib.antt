@@ -14,7 +14,9 @@ pub mod Children
 pub mod Passes
 -- the words of nodes, and the longest ones of a table's columns
 pub mod Words
--- the shape of a text, word by word
+-- the shape of a text, word by word, and shapes of nodes
 pub mod WordSteps
+-- the needs and the longest words of cells, as code adds them
+pub mod CellSteps
 -- laws of these definitions
 pub mod laws

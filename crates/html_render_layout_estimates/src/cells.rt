@@ -5,7 +5,8 @@ ghost use Rattle.html_render_dom_values.specs.Outcome.{OnlyOutOfMemory};
 ghost use Rattle.html_render_layout_nodes.specs.Preorder.{flatten, forest_of};
 ghost use Rattle.html_render_parts_widths.specs.Needs.{AreCells};
 ghost use Rattle.html_render_parts.specs.TableCells.{columns_of};
-ghost use Rattle.html_render_layout_estimates.specs.Cells.{row_needs, cell_needs};
+ghost use Rattle.html_render_layout_estimates.specs.Cells.{cell_needs};
+ghost use Rattle.html_render_layout_estimates.specs.CellSteps.{row_needs};
 
 use crate::trees::first_tree;
 use html_render_dom_values::Error;

@@ -5,8 +5,9 @@ ghost use Rattle.html_render_dom_values.specs.Outcome.{OnlyOutOfMemory};
 ghost use Rattle.html_render_parts_widths.specs.Spans.{AreOver};
 ghost use Rattle.html_render_parts.specs.TableCells.{columns_of};
 ghost use Rattle.html_render_layout_nodes.specs.Preorder.{flatten, forest_of};
-ghost use Rattle.html_render_layout_estimates.specs.Words.{row_words, cell_words, column_words, with_longest, worded_kind, worded};
-ghost use Rattle.html_render_layout_estimates.specs.Words.{node_shape, worded_node};
+ghost use Rattle.html_render_layout_estimates.specs.Words.{column_words, with_longest, worded_kind, worded};
+ghost use Rattle.html_render_layout_estimates.specs.CellSteps.{row_words, cell_words};
+ghost use Rattle.html_render_layout_estimates.specs.WordSteps.{node_shape, worded_node};
 
 use crate::estimate::is_table;
 use crate::settings::LayoutSettings;

@@ -5,9 +5,9 @@
 ghost use Rattle.std.specs.Prelude.{◌≡◌, ◌≤◌, drop, length};
 ghost use Rattle.std.specs.Str.{chars, IsUtf8};
 ghost use Rattle.html_render_layout_nodes.specs.Preorder.{flatten, forest_of};
-ghost use Rattle.html_render_layout_estimates.specs.Words.{word_break, joined_shapes, longest_word, between, enclosed, character_shape, text_shape};
-ghost use Rattle.html_render_layout_estimates.specs.WordSteps.{shape_after};
-ghost use Rattle.html_render_layout_estimates.specs.Words.{title_shape, siblings_shape, table_word, kind_shape, node_shape};
+ghost use Rattle.html_render_layout_estimates.specs.Words.{word_break, joined_shapes, longest_word, between, text_shape};
+ghost use Rattle.html_render_layout_estimates.specs.WordSteps.{character_shape, shape_after, node_shape, enclosed, table_word};
+ghost use Rattle.html_render_layout_estimates.specs.Words.{title_shape, siblings_shape, kind_shape};
 ghost use Rattle.html_render_layout_estimates.specs.declared.words.WordShape.{WordShape};
 
 use crate::settings::LayoutSettings;

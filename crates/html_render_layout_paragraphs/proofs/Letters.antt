@@ -27,7 +27,8 @@ use Rattle.html_render_layout_lines.specs.declared.character.Item.TheVariants as
 use Rattle.html_render_layout_lines.specs.declared.character.TextStyle.{TextStyle}
 use Rattle.html_render_layout_lines.specs.Character.{kind, width_of, is_plain, character_of}
 use Rattle.html_render_layout_paragraphs.specs.Feeding.{is_letter, is_letter_kind, AreLetters, placed_text_and_space}
-use Rattle.html_render_layout_paragraphs.specs.Paragraph.{LineBuffer, put_word}
+use Rattle.html_render_layout_paragraphs.specs.Paragraph.{LineBuffer}
+use Rattle.html_render_layout_paragraphs.specs.Placing.{put_word}
 use Rattle.html_render_layout_lines.specs.TaggedText.{text_columns}
 use Rattle.html_render_layout_lines.specs.laws.Cases.{if_true, if_false}
 use Rattle.html_render_layout_paragraphs.specs.laws.Whole.{after-append}

@@ -16,7 +16,8 @@ use Rattle.html_render_layout_lines.specs.declared.line.Element.TheVariants as e
 use Rattle.html_render_layout_lines.specs.Character.{kind, width_of, tag_on, character_of, is_plain}
 use Rattle.html_render_layout_paragraphs.specs.Feeding.{AreLetters, IsFront, placed_text_and_space, with_words}
 use Rattle.html_render_layout_lines.specs.Line.{Line, columns, word_columns, is_empty}
-use Rattle.html_render_layout_paragraphs.specs.Paragraph.{LineBuffer, Setting, fits, put_word, put_items, continued}
+use Rattle.html_render_layout_paragraphs.specs.Paragraph.{LineBuffer, Setting, fits, put_items, continued}
+use Rattle.html_render_layout_paragraphs.specs.Placing.{put_word}
 use Rattle.html_render_layout_paragraphs.specs.Stream.{State, after, styled, with_pending}
 use Rattle.html_render_layout_lines.specs.TaggedText.{text_columns, under, style_tag}
 use Rattle.html_render_layout_lines.specs.laws.Cases.{if_true, if_false}

@@ -10,7 +10,8 @@ use Rattle.html_render_layout_lines.specs.declared.character.TextStyle.{TextStyl
 use Rattle.html_render_layout_lines.specs.Character.{kind, character_of}
 use Rattle.html_render_layout_lines.specs.declared.line.tagged_text.Run.{Run}
 use Rattle.html_render_layout_lines.specs.declared.line.tagged_text.Run.TheVariants as run
-use Rattle.html_render_layout_paragraphs.specs.Paragraph.{LineBuffer, Setting, put_items, put_word, with_waiting_mark}
+use Rattle.html_render_layout_paragraphs.specs.Paragraph.{LineBuffer, Setting, put_items, with_waiting_mark}
+use Rattle.html_render_layout_paragraphs.specs.Placing.{put_word}
 use Rattle.html_render_layout_paragraphs.specs.Stream.{State, styled, with_pending}
 use Rattle.html_render_layout_lines.specs.Line.{columns}
 use Rattle.html_render_layout_lines.specs.TaggedText.{text_columns, under, style_tag}

@@ -2,6 +2,8 @@
 pub mod Paragraph
 -- The meaning of a paragraph's lines: a definition that places nothing.
 pub mod Meaning
+-- Steps of placing.
+pub mod Placing
 -- The machine of a paragraph, which is fed character by character.
 pub mod Stream
 -- The open word.

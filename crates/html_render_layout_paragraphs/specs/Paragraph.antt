@@ -87,10 +87,6 @@ abbrev pub with_character : {T M : Type 0} → LineBuffer T M → Character T �
 with_character page c =
     record page { line = page.line ++ (marks_line page.waiting ++ element.Character c.code (tag_on page.continues c) ∷ []); waiting = [] }
 
--- Line buffer whose open line is ended, even if it is empty. The next line isn't a continuation line.
-abbrev pub with_line_break : {T M : Type 0} → LineBuffer T M → LineBuffer T M
-with_line_break page = record page { lines = page.lines ++ page.line ∷ []; line = []; continues = false }
-
 -- Line buffer whose open line is ended, unless it is empty. The next line is a continuation line.
 abbrev pub continued : {T M : Type 0} → LineBuffer T M → LineBuffer T M
 continued page = if is_empty page.line then page else record page { lines = page.lines ++ page.line ∷ []; line = []; continues = true }
@@ -139,11 +135,6 @@ abbrev pub page_for_word : {T M : Type 0} → Setting → LineBuffer T M → Opt
 page_for_word setting page pending word =
     if fits setting (with_due_space page pending) (word_columns word) then with_due_space page pending else continued page
 
--- Line buffer with a word. A word that is wider than a line is cut where lines are full. None, with overflow off, if one of
--- its characters is wider than a line.
-abbrev pub put_word : {T M : Type 0} → Setting → LineBuffer T M → Option (Character T) → List (Item T M) → Option (LineBuffer T M)
-put_word setting page pending word = put_items setting (page_for_word setting page pending word) word
-
 -- ---- 6. Characters that are placed by themselves
 
 -- Line buffer before a character that is placed by itself. The pending space is placed if it fits. Before a newline it is
@@ -156,10 +147,11 @@ page_for_single setting page pending k = if fits setting (with_due_space page pe
 abbrev pub tab_spaces : {T M : Type 0} → LineBuffer T M → Character T → List (Character T)
 tab_spaces page c = replicate (8 - columns page.line % 8) (record c { code = 32 })
 
--- Line buffer with a character placed by itself, as its kind says.
+-- Line buffer with a character placed by itself, as its kind says. A newline ends the open line, even if it is empty, and the next
+-- line isn't a continuation line.
 abbrev pub put_single : {T M : Type 0} → Setting → LineBuffer T M → Kind → Character T → Option (LineBuffer T M)
 put_single setting page Preserved c = put_character setting page c
-put_single setting page Newline c = Some (with_line_break page)
+put_single setting page Newline c = Some (record page { lines = page.lines ++ page.line ∷ []; line = []; continues = false })
 put_single setting page Tab c = put_items setting page (map (λ d. item.Character d) (tab_spaces page c))
 put_single setting page SoftSpace c = Some (put_fitting setting page c)
 put_single setting page SoftTab c = Some (fold (put_fitting setting) page (tab_spaces page c))
@@ -168,10 +160,11 @@ put_single setting page k c = Some page
 -- ---- 7. The paragraph
 
 -- Line buffer with all pieces after a pending space, if there is one. Gaps that neither a word nor a single character
--- separates are one pending space, with the tags of the first gap.
+-- separates are one pending space, with the tags of the first gap. A word that is wider than a line is cut where lines are full.
 abbrev pub place : {T M : Type 0} → Setting → LineBuffer T M → Option (Character T) → List (Piece T M) → Option (LineBuffer T M)
 place setting page pending [] = Some page
-place setting page pending (Word k w ∷ ps) = option_and_then (λ p. place setting p None ps) (put_word setting page pending w)
+place setting page pending (Word k w ∷ ps) =
+    option_and_then (λ p. place setting p None ps) (put_items setting (page_for_word setting page pending w) w)
 place setting page pending (Gap c ∷ ps) = place setting page (option_or pending (Some c)) ps
 place setting page pending (Cut ∷ ps) = place setting page pending ps
 place setting page pending (Single k c ∷ ps) =

@@ -11,7 +11,8 @@ use Rattle.html_render_layout_lines.specs.declared.character.TextStyle.{TextStyl
 use Rattle.html_render_layout_lines.specs.declared.character.Item.TheVariants as item
 use Rattle.html_render_layout_lines.specs.Character.{kind, character_of}
 use Rattle.html_render_layout_lines.specs.Line.{Line}
-use Rattle.html_render_layout_paragraphs.specs.Paragraph.{LineBuffer, Setting, empty_buffer, with_waiting_mark, put_word, put_single, page_for_single, all_lines}
+use Rattle.html_render_layout_paragraphs.specs.Paragraph.{LineBuffer, Setting, empty_buffer, with_waiting_mark, put_single, page_for_single, all_lines}
+use Rattle.html_render_layout_paragraphs.specs.Placing.{put_word}
 
 -- Line buffer, pending space, and open word, with whether white space is preserved in its text. `open_word` is None if no
 -- word is open.

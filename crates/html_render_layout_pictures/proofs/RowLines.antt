@@ -9,8 +9,8 @@ use Rattle.html_render_layout_lines.specs.Line.{Line}
 use Rattle.html_render_layout_buffer.specs.Marked.{marked_behind}
 use Rattle.html_render_layout_buffer.specs.Padding.{filled, filled_line}
 use Rattle.html_render_layout_pictures.specs.declared.picture.Frame.{Frame}
-use Rattle.html_render_layout_pictures.specs.Picture.{KeptCell, separator, beside, cell_lines, height, row_lines}
-use Rattle.html_render_layout_pictures.specs.Rows.{marked_cell, filled_at, row_line, cells_behind}
+use Rattle.html_render_layout_pictures.specs.Picture.{KeptCell, beside, cell_lines, height, row_lines}
+use Rattle.html_render_layout_pictures.specs.Rows.{marked_cell, filled_at, row_line, cells_behind, separator}
 use Rattle.html_render_layout_pictures.specs.laws.Heights.{IsNoHigher, row_highest, row_some, marked_behind-length}
 
 -- ---- a cell's lines by their numbers

@@ -3,7 +3,6 @@ use Rattle.std.specs.Prelude.{ℕ, ◌-◌, ◌++◌, Bool, true, false, not, �
 use Rattle.std.specs.Prelude.{flat_map, replicate, Some, if◌then◌else◌}
 use Rattle.std.specs.List.{range_with_len, list_any}
 use Rattle.html_render_layout_pictures.specs.declared.borders.TheConstants.{BORDERS}
-use Rattle.html_render_layout_lines.specs.declared.line.Element.{Element}
 use Rattle.html_render_layout_lines.specs.declared.line.Element.TheVariants.{Character}
 use Rattle.html_render_layout_lines.specs.Line.{Line, is_empty}
 use Rattle.html_render_layout_buffer.specs.Marked.{marked_before, marked_behind}
@@ -65,10 +64,6 @@ abbrev pub has_top : {T : Type 0} → Frame T → Bool
 has_top frame = frame.borders && not (frame.width == 0)
 
 module _ {T M : Type 0} (frame : Frame T) where
-  -- the separator between two cells
-  abbrev pub separator : Element T M
-  separator = Character (if frame.borders then BORDERS.separator else 0x20) frame.tag
-
   -- a border, as wide as the wider of its neighbours
   abbrev pub border : (above below : List Bool) → Line T M
   border above below =
@@ -78,9 +73,9 @@ module _ {T M : Type 0} (frame : Frame T) where
   abbrev pub cell_lines : (height : ℕ) → KeptCell T M → List (Line T M)
   cell_lines height c = filled (Some frame.tag) c.width (marked_behind c.marks c.lines ++ replicate (height - length c.lines) [])
 
-  -- lines beside others, with a separator between them
+  -- lines beside others, with a separator between them, which is a space without borders
   abbrev pub beside : List (Line T M) → List (Line T M) → List (Line T M)
-  beside (l ∷ ls) (r ∷ rs) = (l ++ separator ∷ r) ∷ beside ls rs
+  beside (l ∷ ls) (r ∷ rs) = (l ++ Character (if frame.borders then BORDERS.separator else 0x20) frame.tag ∷ r) ∷ beside ls rs
   beside lefts rights = lefts
 
   -- the lines of a row: those of its cells beside each other, from left to right

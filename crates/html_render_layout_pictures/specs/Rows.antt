@@ -1,11 +1,18 @@
 -- A row line by line.
-use Rattle.std.specs.Prelude.{ℕ, ◌-◌, List, [], ◌∷◌, ◌++◌, get_or, flat_map, map}
+use Rattle.std.specs.Prelude.{ℕ, ◌-◌, List, [], ◌∷◌, ◌++◌, get_or, flat_map, map, if◌then◌else◌}
+use Rattle.html_render_layout_lines.specs.declared.line.Element.{Element}
+use Rattle.html_render_layout_lines.specs.declared.line.Element.TheVariants.{Character}
 use Rattle.html_render_layout_lines.specs.Line.{Line, columns}
 use Rattle.html_render_layout_buffer.specs.Lines.{BufferedLines}
 use Rattle.html_render_layout_buffer.specs.Marked.{marked_behind}
 use Rattle.html_render_layout_buffer.specs.Padding.{repeated}
+use Rattle.html_render_layout_pictures.specs.declared.borders.TheConstants.{BORDERS}
 use Rattle.html_render_layout_pictures.specs.declared.picture.Frame.{Frame}
-use Rattle.html_render_layout_pictures.specs.Picture.{KeptCell, separator}
+use Rattle.html_render_layout_pictures.specs.Picture.{KeptCell}
+
+-- the separator between two cells
+abbrev pub separator : {T M : Type 0} → Frame T → Element T M
+separator frame = Character (if frame.borders then BORDERS.separator else 0x20) frame.tag
 
 -- a cell whose marks stand at the end of its last line
 abbrev pub marked_cell : {T M : Type 0} → KeptCell T M → KeptCell T M

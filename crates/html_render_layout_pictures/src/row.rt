@@ -13,7 +13,7 @@ ghost use Rattle.html_render_layout_buffer.specs.Padding.{repeated};
 ghost use Rattle.html_render_layout_pictures.specs.Blank.{blank_cells, with_due};
 ghost use Rattle.html_render_layout_pictures.specs.Picture as definition;
 ghost use Rattle.html_render_layout_pictures.specs.RowCells.{cell_at, cells_of, line_total, counted_height};
-ghost use Rattle.html_render_layout_pictures.specs.Rows.{filled_at, marked_cell, row_line, cells_behind, rows_put};
+ghost use Rattle.html_render_layout_pictures.specs.Rows.{filled_at, marked_cell, row_line, cells_behind, rows_put, separator};
 
 use crate::blank::{Blank, add_blank_cell, first_blank_cell};
 use crate::cells::{RowCell, RowCells};
@@ -65,7 +65,7 @@ impl<T: Tag> Frame<T> {
     #[inline(always)]
     #[tactic(auto, using(crate::proofs::LawSets::gaps_put))]
     fn put_gap<M: Copy>(&self, to: &mut LineBuffer<T, M>, missing: usize) -> Result<(), AllocError>
-        ensures { OnOk result (to.new ≡ record { lines = to.old.lines; line = (to.old.line ++ repeated self.now.tag 0x20 missing) ++ definition.separator self.now ∷ [] }) }
+        ensures { OnOk result (to.new ≡ record { lines = to.old.lines; line = (to.old.line ++ repeated self.now.tag 0x20 missing) ++ separator self.now ∷ [] }) }
     {
         let few = missing.min(CHUNK - 1);
         push_fillers(to, Filler::Space, missing - few, self.tag)?;

@@ -12,7 +12,8 @@ use Rattle.html_render_parts.specs.Placement.{hanging, own_from, placed_rows, ro
 use Rattle.html_render_parts.specs.PlacementSteps.{row_fits}
 use Rattle.html_render_parts.specs.laws.OwnCells.{cells-own}
 use Rattle.html_render_parts.specs.OwnCells.{cells_of, own_rows_from, on_columns}
-use Rattle.html_render_parts.specs.Grid.{AreValid, edges_of, ends, positions_fit, rank}
+use Rattle.html_render_parts.specs.Grid.{AreValid, edges_of, rank}
+use Rattle.html_render_parts.specs.Positions.{ends, positions_fit}
 use Rattle.html_render_parts.specs.TableCells.{CellGrid, IsCellGrid, cell_grid_of, columns_of, span_on, spans_on}
 use Rattle.html_render_parts.proofs.EdgeRanks.{Contains-here, Contains-rising, Contains-there, IsStrictlyIncreasing-rising, rank-below, rank-gets}
 use Rattle.html_render_parts.proofs.EdgeRanks.{rank-less, rank-mono}

@@ -3,7 +3,8 @@ use Rattle.std.proofs.Common.{◌≡◌, ℕ, ◌<◌, List, [], ◌∷◌, leng
 use Rattle.std.proofs.lemmas.List.Elements.{Contains-append_cases, Contains-append_left, Contains-append_right}
 use Rattle.html_render_parts.specs.declared.table.PlacedCell.{PlacedCell}
 use Rattle.html_render_parts.specs.declared.table.placement.Place.{Place}
-use Rattle.html_render_parts.specs.Grid.{edges_of, ends, numbered}
+use Rattle.html_render_parts.specs.Grid.{edges_of, numbered}
+use Rattle.html_render_parts.specs.Positions.{ends}
 use Rattle.html_render_parts.proofs.EdgeRanks.{Contains-cons, Contains-from_rising, Contains-here, Contains-rising, Contains-there}
 
 Any-head : {X : Type 0} (P : X → Type 0) (x : X) (xs : List X) → P x → Any P (x ∷ xs)

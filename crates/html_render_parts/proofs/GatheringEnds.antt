@@ -7,10 +7,11 @@ use Rattle.html_render_parts.specs.declared.table.Span.{Span}
 use Rattle.html_render_parts.specs.declared.table.CellKind.TheVariants.{Cell, Placeholder}
 use Rattle.html_render_parts.specs.declared.table.placement.Place.{Place}
 use Rattle.html_render_parts.specs.declared.table.placement.PositionedCell.{PositionedCell}
-use Rattle.html_render_parts.specs.Placement.{bottom_rows, hangs_into, hanging, place_from, due_places, due_end, not_due}
+use Rattle.html_render_parts.specs.Placement.{bottom_rows, hanging, place_from, due_places, due_end, not_due}
+use Rattle.html_render_parts.specs.Positions.{hangs_into, ends, positions_fit}
 use Rattle.html_render_parts.specs.Placement.{gap_to, rest_from, row_from, own_from, rising, rows_from}
 use Rattle.html_render_parts.specs.PlacementSteps.{IsNextBottom, Placing, displaced_end, due_told, rest_told, row_told}
-use Rattle.html_render_parts.specs.Grid.{ends, edges_of, positions_fit}
+use Rattle.html_render_parts.specs.Grid.{edges_of}
 use Rattle.html_render_parts.proofs.EdgeRanks.{Contains-from_rising, Contains-rising, rising-rising, rising-same}
 use Rattle.html_render_parts.proofs.HangingOrder.{All-hanging, All-not_due}
 use Rattle.html_render_parts.proofs.NumberTests.{ltb-tells}

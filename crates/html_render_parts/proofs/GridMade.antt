@@ -10,7 +10,8 @@ use Rattle.html_render_parts.specs.declared.table.PlacedCell.{PlacedCell}
 use Rattle.html_render_parts.specs.declared.table.placement.Place.{Place}
 use Rattle.html_render_parts.specs.Placement.{lists, placed_rows}
 use Rattle.html_render_parts.specs.PlacementSteps.{fitting_positions}
-use Rattle.html_render_parts.specs.Grid.{AreValid, edges_of, grid_of, numbered, positions_fit}
+use Rattle.html_render_parts.specs.Grid.{AreValid, edges_of, grid_of, numbered}
+use Rattle.html_render_parts.specs.Positions.{positions_fit}
 use Rattle.html_render_parts.specs.Refusal.{Fails}
 use Rattle.html_render_parts.proofs.SideBySide.{Valid}
 use Rattle.html_render_parts.proofs.Vectors.{All-unmap}

@@ -12,7 +12,8 @@ use Rattle.html_render_parts.specs.declared.table.placement.PositionedCell.{Posi
 use Rattle.html_render_parts.specs.Placement.{end_of, hanging, own_from}
 use Rattle.html_render_parts.specs.OwnCells.{own_grid_of, own_rows_from, on_columns, cells_of}
 use Rattle.html_render_parts.specs.Placement.{placed_rows, rest_from, rising, row_from, rows_from}
-use Rattle.html_render_parts.specs.Grid.{AreSideBySide, edges_of, ends, grid_of, numbered, positions_fit, rank, IsLeastNumbering, IsNumbering}
+use Rattle.html_render_parts.specs.Grid.{AreSideBySide, edges_of, grid_of, numbered, rank, IsLeastNumbering, IsNumbering}
+use Rattle.html_render_parts.specs.Positions.{ends, positions_fit}
 use Rattle.html_render_parts.specs.TableCells.{CellGrid, IsCellGrid, cell_grid_of, columns_of, rows_on, spans_on, is_cell}
 use Rattle.html_render_parts.specs.CellsInRows.{cells_in, columns_taken}
 use Rattle.html_render_parts.specs.laws.OwnCells.{cells_at, cells-own, none-rest, own_place, row-cells}

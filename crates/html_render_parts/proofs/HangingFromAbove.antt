@@ -10,7 +10,8 @@ use Rattle.std.proofs.lemmas.List.Sums.{sum_by-cons}
 use Rattle.html_render_parts.specs.declared.table.Span.{Span}
 use Rattle.html_render_parts.specs.declared.table.placement.Place.{Place}
 use Rattle.html_render_parts.specs.declared.table.placement.PositionedCell.{PositionedCell}
-use Rattle.html_render_parts.specs.Placement.{bottom_rows, by_column, by_column_with, end_of, hanging, hangs_into, own_from, due_end, not_due}
+use Rattle.html_render_parts.specs.Placement.{bottom_rows, by_column, by_column_with, end_of, hanging, own_from, due_end, not_due}
+use Rattle.html_render_parts.specs.Positions.{hangs_into}
 use Rattle.html_render_parts.specs.PlacementSteps.{AllFrom, IsByColumn}
 use Rattle.html_render_parts.specs.OwnCells.{own_rows_from}
 use Rattle.html_render_parts.specs.Placement.{placed_rows, row_from, rows_from}

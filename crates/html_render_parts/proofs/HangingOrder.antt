@@ -7,7 +7,8 @@ use Rattle.std.proofs.lemmas.List.{append-nil}
 use Rattle.std.proofs.lemmas.List.Elements.{All-cons, All-head, All-tail, All-filter}
 use Rattle.html_render_parts.specs.declared.table.Span.{Span}
 use Rattle.html_render_parts.specs.declared.table.placement.PositionedCell.{PositionedCell}
-use Rattle.html_render_parts.specs.Placement.{by_column_with, by_column, hangs_into, hanging, due_end, not_due, own_from}
+use Rattle.html_render_parts.specs.Placement.{by_column_with, by_column, hanging, due_end, not_due, own_from}
+use Rattle.html_render_parts.specs.Positions.{hangs_into}
 use Rattle.html_render_parts.specs.PlacementSteps.{AllFrom, IsByColumn, RowSoFar, keeping}
 use Rattle.html_render_parts.proofs.NumberTests.{ltb-tells}
 

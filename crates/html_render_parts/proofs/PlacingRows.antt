@@ -12,7 +12,8 @@ use Rattle.html_render_parts.specs.declared.table.Span.{Span}
 use Rattle.html_render_parts.specs.declared.table.CellKind.{CellKind}
 use Rattle.html_render_parts.specs.declared.table.CellKind.TheVariants.{Cell, Placeholder, Gap}
 use Rattle.html_render_parts.specs.declared.table.placement.PositionedCell.{PositionedCell}
-use Rattle.html_render_parts.specs.Placement.{hangs_into, due_places, due_end, not_due, gap_to, rest_from, row_from, own_from}
+use Rattle.html_render_parts.specs.Placement.{due_places, due_end, not_due, gap_to, rest_from, row_from, own_from}
+use Rattle.html_render_parts.specs.Positions.{hangs_into}
 use Rattle.html_render_parts.specs.PlacementSteps.{RowSoFar, empty_row, put_to, telling_end, owning, keeping, with_hanging, with_due, with_own}
 use Rattle.html_render_parts.specs.PlacementSteps.{with_gap, with_rest, with_row, displaced_end, due_told, rest_told, row_told, IsByColumn}
 use Rattle.html_render_parts.specs.PlacementSteps.{Placing, row_fits, with_next_row}

@@ -4,7 +4,7 @@ use Rattle.std.proofs.lemmas.Bool.{cases_Bool}
 use Rattle.html_render_parts.specs.declared.table.Span.{Span}
 use Rattle.html_render_parts.specs.Placement.{bottom_rows, hanging, own_from, row_from, rows_from}
 use Rattle.html_render_parts.specs.PlacementSteps.{IsNextBottom, Placing, row_fits, row_told, with_next_row}
-use Rattle.html_render_parts.specs.Grid.{positions_fit}
+use Rattle.html_render_parts.specs.Positions.{positions_fit}
 
 -- whether `next` places the definition's next row, and it fits
 pub record IsNext (row : ℕ) (cells : List Span) (done next : Placing) : Type 0 where

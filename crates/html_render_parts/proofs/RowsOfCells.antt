@@ -11,7 +11,7 @@ use Rattle.html_render_parts.specs.declared.table.placement.PositionedCell.{Posi
 use Rattle.html_render_parts.specs.Placement.{bottom_rows, own_from, rows_from}
 use Rattle.html_render_parts.specs.OwnCells.{own_rows_from}
 use Rattle.html_render_parts.specs.PlacementSteps.{AreAhead, IsNextBottom, Placing, places_ahead, with_next_row}
-use Rattle.html_render_parts.specs.Grid.{positions_fit}
+use Rattle.html_render_parts.specs.Positions.{positions_fit}
 use Rattle.html_render_parts.specs.TableCells.{CellGrid, IsCellGrid, columns_of, span_on, spans_on}
 use Rattle.html_render_parts.specs.Refusal.{Fails}
 use Rattle.html_render_parts.proofs.CellsOnColumns.{IsWithin, cells-are}

@@ -12,7 +12,8 @@ use Rattle.html_render_parts.specs.declared.table.placement.Place.{Place}
 use Rattle.html_render_parts.specs.declared.table.placement.PositionedCell.{PositionedCell}
 use Rattle.html_render_parts.specs.Placement.{end_of, hanging, place_from, due_places, due_end, not_due, gap_to}
 use Rattle.html_render_parts.specs.Placement.{rest_from, row_from, own_from, rising, rows_from, placed_rows}
-use Rattle.html_render_parts.specs.Grid.{AreSideBySide, AreValid, ends, edges_of, rank, numbered}
+use Rattle.html_render_parts.specs.Grid.{AreSideBySide, AreValid, edges_of, rank, numbered}
+use Rattle.html_render_parts.specs.Positions.{ends}
 use Rattle.html_render_parts.proofs.EdgeRanks.{Contains-here, Contains-rising, Contains-there, rank-below, rank-less, rank-mono}
 use Rattle.html_render_parts.proofs.HangingOrder.{All-hanging, All-not_due}
 

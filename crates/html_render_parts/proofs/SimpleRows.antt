@@ -8,7 +8,8 @@ use Rattle.std.proofs.lemmas.List.Elements.{All-nil, All-cons, All-drop, All-hea
 use Rattle.html_render_parts.specs.declared.table.Span.{Span}
 use Rattle.html_render_parts.specs.declared.table.cells.GridCell.{GridCell}
 use Rattle.html_render_parts.specs.declared.table.placement.PositionedCell.{PositionedCell}
-use Rattle.html_render_parts.specs.Placement.{hanging, hangs_into, own_from, placed_rows, row_from}
+use Rattle.html_render_parts.specs.Placement.{hanging, own_from, placed_rows, row_from}
+use Rattle.html_render_parts.specs.Positions.{hangs_into}
 use Rattle.html_render_parts.specs.OwnCells.{own_rows_from, on_columns}
 use Rattle.html_render_parts.specs.PlacementSteps.{AreAhead, Placing, row_fits, row_told, rows_ahead, with_next_row}
 use Rattle.html_render_parts.specs.Grid.{edges_of, numbered}

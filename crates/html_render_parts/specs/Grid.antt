@@ -11,13 +11,9 @@ use Rattle.html_render_parts.specs.Placement.{lists, placed_rows, rising}
 abbrev pub AreValid : List (List Span) → Type 0
 AreValid rows = All (λ cells. All (λ s. (1 ≤ s.colspan) × (1 ≤ s.rowspan)) cells) rows
 
--- ends of all places, in order of rows
-abbrev pub ends : List (List Place) → List ℕ
-ends rows = flat_map (λ r. map (λ p. p.end) r) rows
-
 -- edges: 0 and the ends of all places, each once, rising
 abbrev pub edges_of : List (List Place) → List ℕ
-edges_of rows = rising (0 ∷ ends rows)
+edges_of rows = rising (0 ∷ flat_map (λ r. map (λ p. p.end) r) rows)
 
 -- number of an edge: the count of edges below it
 abbrev pub rank : List ℕ → ℕ → ℕ
@@ -27,16 +23,12 @@ rank edges position = count_by (λ e. nat_lt e position) edges
 abbrev pub numbered : List ℕ → Place → PlacedCell
 numbered edges p = record { kind = p.kind; start = p.start; end = p.end; columns = rank edges p.end - rank edges p.start }
 
--- whether each place ends below 2^128
-abbrev pub positions_fit : List (List Place) → Bool
-positions_fit placed = list_all (list_all (λ p. nat_lt p.end (2 ^ 128))) placed
-
 -- grid of a table: its edges, and the places of each row; `None` if a place would end past 2^128 - 1
 abbrev pub grid_of : List (List Span) → Option (List ℕ × List (List PlacedCell))
 grid_of rows =
     let placed = placed_rows rows in
     let edges = edges_of placed in
-    if positions_fit placed then Some (edges, map (map (numbered edges)) placed) else None
+    if list_all (list_all (λ p. nat_lt p.end (2 ^ 128))) placed then Some (edges, map (map (numbered edges)) placed) else None
 
 -- edges and rows of a grid, as lists
 abbrev pub shown : TableGrid → List ℕ × List (List PlacedCell)

@@ -4,7 +4,8 @@ use Rattle.html_render_parts.specs.declared.table.Span.{Span}
 use Rattle.html_render_parts.specs.declared.table.cells.GridCell.{GridCell}
 use Rattle.html_render_parts.specs.declared.table.placement.PositionedCell.{PositionedCell}
 use Rattle.html_render_parts.specs.Placement.{hanging, own_from, placed_rows}
-use Rattle.html_render_parts.specs.Grid.{edges_of, rank, positions_fit}
+use Rattle.html_render_parts.specs.Grid.{edges_of, rank}
+use Rattle.html_render_parts.specs.Positions.{positions_fit}
 use Rattle.html_render_parts.specs.TableCells.{CellGrid}
 
 -- own cells of the rows from `row` on, at their own columns

@@ -29,13 +29,9 @@ by_column (c ∷ cs) = by_column_with c (by_column cs)
 abbrev pub end_of : PositionedCell → ℕ
 end_of c = c.row + c.span.rowspan
 
--- whether a cell's last row is `row` or below it
-abbrev pub hangs_into : ℕ → PositionedCell → Bool
-hangs_into row c = nat_lt row (end_of c)
-
--- cells that hang into a row, of the cells above it, in order of own column
+-- cells that hang into a row, of the cells above it: those that end below it, in order of own column
 abbrev pub hanging : ℕ → List PositionedCell → List PositionedCell
-hanging row above = filter (hangs_into row) (by_column above)
+hanging row above = filter (λ c. nat_lt row (end_of c)) (by_column above)
 
 -- ---- one row, from a cursor on
 

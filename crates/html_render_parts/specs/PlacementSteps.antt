@@ -9,9 +9,10 @@ use Rattle.html_render_parts.specs.declared.table.CellKind.{CellKind}
 use Rattle.html_render_parts.specs.declared.table.CellKind.TheVariants.{Cell, Placeholder, Gap}
 use Rattle.html_render_parts.specs.declared.table.placement.Place.{Place}
 use Rattle.html_render_parts.specs.declared.table.placement.PositionedCell.{PositionedCell}
-use Rattle.html_render_parts.specs.Placement.{hangs_into, hanging, due_end, not_due, rest_from, row_from, own_from, bottom_rows, rows_from}
+use Rattle.html_render_parts.specs.Placement.{hanging, due_end, not_due, rest_from, row_from, own_from, bottom_rows, rows_from}
+use Rattle.html_render_parts.specs.Positions.{hangs_into, positions_fit}
 use Rattle.html_render_parts.specs.OwnCells.{own_rows_from}
-use Rattle.html_render_parts.specs.Grid.{numbered, positions_fit}
+use Rattle.html_render_parts.specs.Grid.{numbered}
 use Rattle.html_render_parts.specs.TableCells.{CellGrid, IsCellGrid, spans_on}
 
 -- row under construction: its places, its own cells, the recorded ends, the cells that hang into the next row, and the

@@ -1,5 +1,6 @@
 -- Properties of the intermediate results of a column cut.
-use Rattle.std.specs.Prelude.{◌≡◌, ◌≢◌, ℕ, ◌+◌, ◌<◌, ◌≤◌, ◌⊎◌, List, length, sum, slice_index}
+use Rattle.std.specs.Prelude.{◌≡◌, ◌≢◌, ℕ, ◌+◌, ◌<◌, ◌≤◌, ◌⊎◌, List, length, map, max, sum, zip, slice_index}
+use Rattle.html_render_parts_widths.specs.declared.shares.ColumnNeed.{ColumnNeed}
 use Rattle.html_render_parts_widths.specs.Cuts.{slack}
 use Rattle.html_render_parts_widths.specs.LevelForm.{full_width, IsLowered}
 
@@ -47,3 +48,13 @@ pub record LowersFirst (minimums shares widths : List ℕ) (level : ℕ) : Type 
   pub first : (i j : ℕ) → i < length minimums → j < length minimums → IsLowered minimums shares widths level i
       → level ≤ slack minimums shares j → IsFull minimums shares widths level j
       → LoweredBefore (slice_index minimums i) i (slice_index minimums j) j
+
+-- ---- shares and minimums of columns, as code computes them
+
+-- the width at which a column cuts no word: that of its longest word, at least its minimum width
+abbrev pub whole_width : ColumnNeed → ℕ
+whole_width need = max need.min_width need.longest_word
+
+-- the greater number at each place of two lists
+abbrev pub greater_ones : List ℕ → List ℕ → List ℕ
+greater_ones xs ys = map (λ x. max x.0 x.1) (zip xs ys)

@@ -1,6 +1,6 @@
 -- The widths of a table's columns that are side by side in a block.
 use Rattle.std.specs.Prelude.{ℕ, ◌+◌, ◌-◌, ◌*◌, ◌/◌, ◌==◌, ◌≤◌, Bool, not, ◌&&◌, nat_le}
-use Rattle.std.specs.Prelude.{List, [], ◌∷◌, All, length, map, sum, sum_by, min, max, Option, Some, None, if◌then◌else◌}
+use Rattle.std.specs.Prelude.{List, All, length, map, sum, sum_by, zip, min, max, Option, Some, None, if◌then◌else◌}
 use Rattle.html_render_parts_widths.specs.declared.shares.ColumnNeed.{ColumnNeed}
 use Rattle.html_render_parts_widths.specs.Cuts.{cut_by_units}
 
@@ -26,25 +26,17 @@ shares width needs = map (share width (sum_by (λ n. n.preferred_width) needs)) 
 abbrev pub stand_side_by_side : (width : ℕ) → List ColumnNeed → Bool
 stand_side_by_side width needs = not (width == 0) && nat_le (sum (least_widths needs) + (length needs - 1)) width
 
--- the width at which a column cuts no word: that of its longest word, at least its minimum width
-abbrev pub whole_width : ColumnNeed → ℕ
-whole_width need = max need.min_width need.longest_word
-
+-- the widths at which columns cut no word: those of their longest words, at least their minimum widths
 abbrev pub whole_widths : List ColumnNeed → List ℕ
-whole_widths needs = map whole_width needs
+whole_widths needs = map (λ n. max n.min_width n.longest_word) needs
 
 -- THE WORD MINIMUMS of columns: the fairest cut of the widths at which they cut no word
 abbrev pub word_minimums : (width : ℕ) → List ColumnNeed → List ℕ
 word_minimums width needs = cut_by_units (least_widths needs) (whole_widths needs) width
 
--- the greater number at each place of two lists
-abbrev pub greater_ones : List ℕ → List ℕ → List ℕ
-greater_ones (x ∷ xs) (y ∷ ys) = max x y ∷ greater_ones xs ys
-greater_ones xs ys = []
-
 -- the shares of columns, each at least the column's word minimum
 abbrev pub word_shares : (width : ℕ) → List ColumnNeed → List ℕ
-word_shares width needs = greater_ones (word_minimums width needs) (shares width needs)
+word_shares width needs = map (λ x. max x.0 x.1) (zip (word_minimums width needs) (shares width needs))
 
 -- THE WIDTHS of columns side by side: the fairest cut of these shares to the word minimums; `None` if they can't be side by
 -- side

@@ -7,7 +7,8 @@ ghost use Rattle.std.specs.Prelude.{◌≡◌, ◌≤◌, true, length, option_m
 ghost use Rattle.std.specs.Bool.{OnFalse};
 ghost use Rattle.html_render_dom_values.specs.Outcome.{OnlyOutOfMemory};
 ghost use Rattle.html_render_parts_widths.specs.Shares.{least_widths, share, shares, stand_side_by_side, widths_across};
-ghost use Rattle.html_render_parts_widths.specs.Shares.{whole_widths, word_minimums, greater_ones, HaveShortWords};
+ghost use Rattle.html_render_parts_widths.specs.Shares.{whole_widths, word_minimums, HaveShortWords};
+ghost use Rattle.html_render_parts_widths.specs.CutSteps.{greater_ones};
 
 use super::cut::{column_widths, column_widths_in};
 use html_render_dom_values::Error;

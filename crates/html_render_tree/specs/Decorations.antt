@@ -1,5 +1,5 @@
 -- The rules that decorate plain text: texts before and after emphasis, terms, strong text and code.
-use Rattle.std.specs.Prelude.{ℕ, false, List, [], ◌∷◌, ◌++◌, codes, Some, None}
+use Rattle.std.specs.Prelude.{ℕ, false, List, [], ◌∷◌, codes, flat_map, Some, None}
 use Rattle.html_render_dom_styles.specs.declared.origins.StyleOrigin.TheVariants as origin
 use Rattle.html_render_dom_styles.specs.declared.rules.PseudoElement.{PseudoElement}
 use Rattle.html_render_dom_styles.specs.declared.rules.PseudoElement.TheVariants.{Before, After}
@@ -25,11 +25,7 @@ decoration_specificity = record { inline = false; id = 0; class = 0; typ = 2 }
 abbrev pub before_and_after : (name text : List ℕ) → List Rule
 before_and_after name text = decoration name text Before ∷ decoration name text After ∷ []
 
--- THE DECORATIONS, in the order in which they are added
+-- THE DECORATIONS, in the order in which they are added: of each of these names, with its text
 abbrev pub decorations : List Rule
-decorations =
-    before_and_after (codes "em") (codes "*")
-    ++ before_and_after (codes "dt") (codes "*")
-    ++ before_and_after (codes "strong") (codes "**")
-    ++ before_and_after (codes "b") (codes "**")
-    ++ before_and_after (codes "code") (codes "`")
+decorations = flat_map (λ (x : List ℕ × List ℕ). before_and_after x.0 x.1)
+    ((codes "em", codes "*") ∷ (codes "dt", codes "*") ∷ (codes "strong", codes "**") ∷ (codes "b", codes "**") ∷ (codes "code", codes "`") ∷ [])

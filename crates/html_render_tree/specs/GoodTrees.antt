@@ -1,5 +1,5 @@
 -- Good trees: finished render trees, with parts of tables in tables alone.
-use Rattle.std.specs.Prelude.{Bool, true, false, ◌&&◌, List, [], ◌∷◌, Option, Some, None, if◌then◌else◌}
+use Rattle.std.specs.Prelude.{Bool, true, false, ◌&&◌, List, [], ◌∷◌, Option, Some, None}
 use Rattle.std.specs.Option.{option_map_or}
 use Rattle.html_render_dom_values.specs.Forest.{Forest, none, node}
 use Rattle.html_render_parts.specs.declared.table.cells.GridCell.{GridCell}
@@ -20,21 +20,18 @@ is_over (InTable (cells ∷ rows)) = false
 is_over (InRow (cell ∷ cells)) = false
 is_over _ = true
 
--- whether nodes of a kind have no children: texts, line breaks, images, drawings and fragment marks
-abbrev pub is_leaf : NodeKind → Bool
-is_leaf (Text text) = true
-is_leaf Break = true
-is_leaf (Image image) = true
-is_leaf (Svg title) = true
-is_leaf (FragmentStart name) = true
-is_leaf _ = false
-
--- places of the children and of the later siblings of a node of a kind that is at a place; none if the kind isn't allowed there
+-- places of the children and of the later siblings of a node of a kind that is at a place; none if the kind isn't allowed there.
+-- Texts, line breaks, images, drawings and fragment marks have no children
 abbrev pub places_around : TreePlace → NodeKind → Option (TreePlace × TreePlace)
 places_around Anywhere (Table grid) = Some (InTable grid.cells.rows, Anywhere)
 places_around Anywhere TableRow = None
 places_around Anywhere TableCell = None
-places_around Anywhere kind = Some (if is_leaf kind then InRow [] else Anywhere, Anywhere)
+places_around Anywhere (Text text) = Some (InRow [], Anywhere)
+places_around Anywhere Break = Some (InRow [], Anywhere)
+places_around Anywhere (Image image) = Some (InRow [], Anywhere)
+places_around Anywhere (Svg title) = Some (InRow [], Anywhere)
+places_around Anywhere (FragmentStart name) = Some (InRow [], Anywhere)
+places_around Anywhere kind = Some (Anywhere, Anywhere)
 places_around (InTable (cells ∷ rows)) TableRow = Some (InRow cells, InTable rows)
 places_around (InRow (cell ∷ cells)) TableCell = Some (Anywhere, InRow cells)
 places_around _ _ = None

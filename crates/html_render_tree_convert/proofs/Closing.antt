@@ -3,7 +3,7 @@ use Rattle.std.proofs.Common.{◌≡◌, ℕ, Bool, true, false, not, ◌&&◌, 
 use Rattle.std.proofs.Math.Seq.{take-append-add, take-append_seam, drop-append-add, drop-append_seam}
 use Rattle.std.proofs.Math.Bool.{and-false, and-true, or-false, or-true}
 use Rattle.std.proofs.lemmas.Bool.{cases_Bool}
-use Rattle.std.specs.Prelude.{filter, flat_map, option_to_list, zip}
+use Rattle.std.specs.Prelude.{filter, flat_map, option_to_list, unwrap_or, zip}
 use Rattle.std.specs.List.{list_any}
 use Rattle.html_render_dom_values.specs.Forest.{followed_by, none, node}
 use Rattle.html_render_dom_values.specs.Outcome.{◌>>=◌}
@@ -21,7 +21,7 @@ use Rattle.html_render_parts.specs.TableCells.{CellGrid, cell_grid_of, cells_on}
 use Rattle.html_render_parts.specs.declared.table.PlacedCell.{PlacedCell}
 use Rattle.html_render_parts.specs.declared.table.Span.{Span}
 use Rattle.html_render_tree_convert.specs.Conversion.{vanishes}
-use Rattle.html_render_tree_convert.specs.Results.{Result, Role, all_alone, alone, are_rows, beside, captioned, cell_of, has_stray, inserted, is_caption, left_of, level_in, made, over, row_of, row_over, rows_over, spans_of, stands_alone, table_of, table_over}
+use Rattle.html_render_tree_convert.specs.Results.{Result, Role, alone, any_stray, beside, captioned, cell_of, has_stray, inserted, is_caption, left_of, level_in, made, over, row_of, spans_of, stands_alone, table_of, table_over}
 use Rattle.html_render_tree_convert.specs.Results as role
 use Rattle.html_render_tree_convert.specs.declared.mapping.ElementKind.{ElementKind}
 use Rattle.html_render_tree_convert.specs.declared.mapping.ElementKind.TheVariants as element
@@ -30,14 +30,14 @@ use Rattle.html_render_tree_convert.specs.declared.mapping.IfEmpty.TheVariants.{
 use Rattle.html_render_tree_convert.specs.declared.plans.Element.{Element}
 use Rattle.html_render_tree_convert.specs.declared.tables.CellSpan.{CellSpan}
 use Rattle.html_render_tree_convert.specs.declared.tables.Part.TheVariants as part
-use Rattle.html_render_tree_convert.specs.Held.{Entries, Insertion, Nodes, due_of, held_back, leaf, leaves, inserts, insertion_of, nothing, within}
+use Rattle.html_render_tree_convert.specs.Held.{Entries, Insertion, Nodes, all_alone, due_of, held_back, leaf, leaves, inserts, insertion_of, nothing, within}
 use Rattle.html_render_tree_convert.specs.OpenElements.{OpenIn, State, created, innermost, outside}
 use Rattle.html_render_tree_convert.specs.declared.elements.Open.{Open}
 use Rattle.html_render_tree_convert.specs.Keeping.{keeping_of}
 use Rattle.html_render_tree_convert.specs.declared.elements.OpenKind.{OpenKind}
 use Rattle.html_render_tree_convert.specs.declared.elements.OpenKind.TheVariants as open_kind
 use Rattle.html_render_tree_convert.specs.declared.kinds.Keeping.TheVariants.{Any}
-use Rattle.html_render_tree_convert.specs.Steps.{Closed, all_parted, begun, begun_node, begun_over, begun_with, caption_kind, closed, closed_once, come, emptied, given_back, held, is_captions, is_completed, left_by, mark_left, node_in, role_left}
+use Rattle.html_render_tree_convert.specs.Steps.{Closed, all_parted, are_rows, begun, begun_node, begun_over, begun_with, caption_kind, closed, closed_once, come, emptied, given_back, held, is_captions, is_completed, left_by, mark_left, node_in, role_left}
 use Rattle.html_render_tree_convert.proofs.Entries.{entries-within, filled, filled-nothing, filled-within, nodes-leaves, trees}
 use Rattle.html_render_tree_convert.proofs.Coming.{all_come, all_come-append, as_block, at, closed_result, counted, kept, nodes_come, nodes_in, none-come, one-come, placed, results_come, strays, unless_taken, with_role}
 
@@ -127,6 +127,16 @@ any-all (x ∷ xs) = refl
 
 -- ---- nodes, cells and captions
 
+-- a row over its cells
+abbrev row_over : NodeStyle → (cells : List Result) → Result
+row_over style cells =
+    record (over style TableRow cells) { role = role.Row (flat_map (λ r. option_to_list (cell_of r.role)) cells); is_stray = any_stray cells }
+
+-- rows beside each other
+abbrev rows_over : (rows : List Result) → Result
+rows_over rows =
+    record (over no_style Container rows) { role = role.Rows (flat_map (λ r. option_to_list (row_of r.role)) rows); is_stray = any_stray rows }
+
 -- an element that writes what it inserts itself, as a result
 abbrev held_over : OpenKind → RenderNode → Insertion → (has_children : Bool) → List Result → Result
 held_over k n i c rs = record {
@@ -167,10 +177,10 @@ container_in e n q = record {
 made-node : (e : Element) (kind : NodeKind) (rs : List Result) → (let k = open_kind.Node (keeping_of kind) in
     Some (left_of (of_kind e (element.Node kind)) (vanishes e.if_empty (list_any (counted k) rs)) false (over e.style kind (kept k rs)))
     ≡ made (of_kind e (element.Node kind)) [] rs)
-made-node e (Ol start) rs = refl
-made-node e Dl rs = refl
 made-node e (Link target) rs = refl
-made-node e kind rs = refl
+made-node e kind rs =
+    let node_over : Result = over e.style kind (kept (open_kind.Node (keeping_of kind)) rs) in
+    ap (λ b. Some (left_of (of_kind e (element.Node kind)) (vanishes e.if_empty b) false node_over)) (any-all rs)
 
 module _ (e : Element) (ps : List Open) (rs : List Result) where
   -- what is to be shown of an element of a kind that closes in an open element
@@ -343,7 +353,7 @@ abbrev with_cells : List (List Span) → List ℕ × List (List PlacedCell) → 
 with_cells rows g = record { edges = g.0; rows = map (λ (x : List PlacedCell × List Span). cells_on g.0 x.0 x.1) (zip g.1 rows) }
 
 abbrev grid_over : List Result → Option TableParts
-grid_over rs = option_map unmeasured_table (cell_grid_of (flat_map (λ r. spans_of r.role) (parts rs)))
+grid_over rs = option_map unmeasured_table (cell_grid_of (flat_map (λ r. unwrap_or (spans_of r.role) []) (parts rs)))
 
 parts-left : (style : NodeStyle) (f : IfEmpty) (m : Option (List ℕ)) (i : Insertion) (c : Bool) (rs : List Result) (q : OpenIn) (ps : List Open) →
     closed_once (results_over rs (begun_over (created (open_kind.Parts []) (record { mark = m; own = i; given = nothing }) f c) (node_in style Container) [] (outside ps q)))
@@ -353,8 +363,8 @@ parts-left style f m i c rs q ps =
     seam rs (created (open_kind.Parts []) (record { mark = m; own = i; given = nothing }) f c) (leaf (node_in style Container) ∷ []) q ps
     ∙ simp map-map
     (ap (λ b. option_map (λ g. outside ps (come (if vanishes f b then mark_left m
-    else Some (closed_result (record (table_over style (unmeasured_table (with_cells (flat_map (λ r. spans_of r.role) (parts rs)) g)) (parts rs))
-    { below = filled 2 i (beside (parts rs)) }))) q)) (grid_of (flat_map (λ r. spans_of r.role) (parts rs))))
+    else Some (closed_result (record (table_over style (unmeasured_table (with_cells (flat_map (λ r. unwrap_or (spans_of r.role) []) (parts rs)) g)) (parts rs))
+    { below = filled 2 i (beside (parts rs)) }))) q)) (grid_of (flat_map (λ r. unwrap_or (spans_of r.role) []) (parts rs))))
     (any-filter (λ r. r.has_children) (λ r. are_rows r.role) rs))
 
 any-map : {X Y : Type 0} (p : Y → Bool) (f : X → Y) (xs : List X) → list_any p (map f xs) ≡ list_any (λ x. p (f x)) xs

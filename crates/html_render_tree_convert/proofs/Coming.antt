@@ -1,6 +1,6 @@
 -- What results of the definition do to an open element and to the nodes that are written.
 use Rattle.std.proofs.Common.{◌≡◌, Bool, true, false, ◌||◌, if◌then◌else◌, List, [], ◌∷◌, ◌++◌, map, Some, refl, sym, ap, ◌∙◌, inl, inr, append_assoc, append-nil}
-use Rattle.std.specs.Prelude.{filter, flat_map, option_to_list}
+use Rattle.std.specs.Prelude.{filter, flat_map, option_to_list, unwrap_or}
 use Rattle.std.specs.List.{list_any}
 use Rattle.std.proofs.Math.Bool.{or_assoc, or-false, or-true}
 use Rattle.std.proofs.lemmas.Bool.{cases_Bool}
@@ -46,7 +46,7 @@ as_block r = record r { node = record r.node { kind = Block } }
 
 -- what is gathered of results that are kept
 abbrev pub all_gathered : OpenKind → List Result → OpenKind
-all_gathered (open_kind.Parts spans) rs = open_kind.Parts (spans ++ flat_map (λ r. spans_of r.role) rs)
+all_gathered (open_kind.Parts spans) rs = open_kind.Parts (spans ++ flat_map (λ r. unwrap_or (spans_of r.role) []) rs)
 all_gathered (open_kind.Rows rows) rs = open_kind.Rows (rows ++ flat_map (λ r. option_to_list (row_of r.role)) rs)
 all_gathered (open_kind.Row cells) rs = open_kind.Row (cells ++ flat_map (λ r. option_to_list (cell_of r.role)) rs)
 all_gathered k rs = k

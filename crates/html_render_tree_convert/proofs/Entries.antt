@@ -8,8 +8,8 @@ use Rattle.html_render_layout_nodes.specs.laws.Preorder.{flatten-followed_by}
 use Rattle.html_render_layout_nodes.specs.laws.Splits.{followed_by-none, followed_by-followed_by}
 use Rattle.html_render_layout_nodes.specs.declared.tree.Entry.{Entry}
 use Rattle.html_render_layout_nodes.specs.declared.tree.RenderNode.{RenderNode}
-use Rattle.html_render_tree_convert.specs.Results.{all_alone, beside, in_first}
-use Rattle.html_render_tree_convert.specs.Held.{Entries, Insertion, Nodes, nothing, within, leaves}
+use Rattle.html_render_tree_convert.specs.Results.{beside, in_first}
+use Rattle.html_render_tree_convert.specs.Held.{Entries, Insertion, Nodes, all_alone, nothing, within, leaves}
 
 -- ---- nodes without children
 

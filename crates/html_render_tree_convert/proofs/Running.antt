@@ -8,7 +8,7 @@ use Rattle.html_render_dom_values.specs.Forest.{Forest, none, node}
 use Rattle.html_render_dom_values.specs.Outcome.{◌>>=◌}
 use Rattle.html_render_layout_nodes.specs.Preorder.{flatten}
 use Rattle.html_render_tree_convert.specs.Plans.{plan_of}
-use Rattle.html_render_tree_convert.specs.Results.{Result, alone, beside, has_stray, made, over_children, render_tree_of, result_of, results}
+use Rattle.html_render_tree_convert.specs.Results.{Result, alone, beside, children_in, has_stray, made, render_tree_of, result_of, results}
 use Rattle.html_render_tree_convert.specs.declared.mapping.ElementKind.{ElementKind}
 use Rattle.html_render_tree_convert.specs.declared.mapping.ElementKind.TheVariants as element
 use Rattle.html_render_tree_convert.specs.declared.plans.Element.{Element}
@@ -78,6 +78,10 @@ close-run {ev} {os} runs s leaves q ps h es =
     by (Some rs) = ap (λ x. x >>= run es) (h rs) ∙ last (leaves rs)
 
 -- ---- an element
+
+-- what an element becomes over its children
+abbrev over_children : Element → (inside : Pick → Option (List Result)) → Option (Option Result)
+over_children e inside = children_in e.kind inside >>= λ children. made e children.0 children.1
 
 -- what an element makes of the results of its children
 of_table : (f : (captions others : List Result) → Option (Option Result)) (captions others feet : Option (List Result)) →

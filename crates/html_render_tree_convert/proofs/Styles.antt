@@ -17,7 +17,8 @@ use Rattle.html_render_tree_convert.specs.declared.mapping.IfEmpty.{IfEmpty}
 use Rattle.html_render_tree_convert.specs.declared.mapping.Mapping.{Mapping}
 use Rattle.html_render_tree_convert.specs.declared.mapping.Mapping.TheVariants.{Parent}
 use Rattle.html_render_tree_convert.specs.declared.plans.Plan.TheVariants as plan
-use Rattle.html_render_tree_convert.specs.Conversion.{element_mapping, html_mapping, is_preformatted, last_white_space, own_style, preformatted_style}
+use Rattle.html_render_tree_convert.specs.Conversion.{element_mapping, html_mapping, last_white_space, own_style, preformatted_style}
+use Rattle.html_render_tree_convert.specs.KnownElements.{is_preformatted}
 use Rattle.html_render_tree_convert.specs.Marks.{mark_of}
 use Rattle.html_render_tree_convert.specs.Plans.{displayed_plan, element_of, element_plan}
 

@@ -84,18 +84,15 @@ html_mapping name properties =
 abbrev pub link_mapping : (target : Option (List ℕ)) → Mapping
 link_mapping target = option_map_or (λ t. Parent (Node (Link t)) Vanishes) target (Parent (Node Container) Stands)
 
--- what becomes of an element of HTML: its link goes to its first attribute `href`, an `img` without a source is nothing, and a `wbr` is
--- U+200B in UTF-8, which takes no columns and between whose neighbours a line may end
-abbrev pub html_element_mapping : (name : List ℕ) → List Property → Mapping
-html_element_mapping name properties =
+-- what becomes of an element of a namespace, over the trees below it. The link of an `a` goes to its first attribute `href`, an `img`
+-- without a source is nothing, and a `wbr` is U+200B in UTF-8, which takes no columns and between whose neighbours a line may end.
+-- Outside HTML no name but `svg` is special
+abbrev pub element_mapping : Space → (name : List ℕ) → List Property → (below : Forest Content) → Mapping
+element_mapping html name properties below =
     if bytes_eq name (codes "a") then link_mapping (first_value (codes "href") properties)
     else if bytes_eq name (codes "img") then (let image = image_parts properties in if is_filled image.source then Leaf (Image image) else Nothing)
     else if bytes_eq name (codes "wbr") then Leaf (Text (226 ∷ 128 ∷ 139 ∷ []))
     else html_mapping name properties
-
--- what becomes of an element of a namespace, over the trees below it: outside HTML no name but `svg` is special
-abbrev pub element_mapping : Space → (name : List ℕ) → List Property → (below : Forest Content) → Mapping
-element_mapping html name properties below = html_element_mapping name properties
 element_mapping svg name properties below = if bytes_eq name (codes "svg") then Leaf (Svg (drawing_title below)) else Parent (Node Container) Vanishes
 element_mapping _ name properties below = Parent (Node Container) Vanishes
 
@@ -107,15 +104,11 @@ last_white_space = record { important = false; origin = Agent; specificity = no_
 abbrev pub preformatted_style : ComputedStyle → ComputedStyle
 preformatted_style style = record style { white_space = winner (option_to_list style.white_space ++ last_white_space ∷ []); internal_pre = true }
 
--- whether an element is a `pre` of HTML, whose text is preformatted
-abbrev pub is_preformatted : Name → Bool
-is_preformatted name = is_html name.space && bytes_eq name.local (codes "pre")
-
--- the style of an element: what the rules give it, and what `pre` of HTML gives itself
+-- the style of an element: what the rules give it, and what `pre` of HTML gives itself, whose text is preformatted
 abbrev pub own_style : List StyleRule → Name → List Property → ComputedStyle
 own_style rules name properties =
     let style = element_style rules name.local properties in
-    if is_preformatted name then preformatted_style style else style
+    if is_html name.space && bytes_eq name.local (codes "pre") then preformatted_style style else style
 
 -- what an element's style gives the node that it becomes; white space is Normal where nothing else is declared
 abbrev pub node_style : ComputedStyle → NodeStyle

@@ -1,11 +1,14 @@
 -- Nodes in pre-order, and what an open element has still to write.
-use Rattle.std.specs.Prelude.{ℕ, ◌+◌, List, [], ◌∷◌, ◌++◌, length, map, Option, Some, None}
+use Rattle.std.specs.Prelude.{ℕ, ◌+◌, Bool, List, [], ◌∷◌, ◌++◌, length, map, Option, Some, None}
 use Rattle.html_render_dom_values.specs.Forest.{Forest}
 use Rattle.html_render_layout_nodes.specs.declared.tree.Entry.{Entry}
 use Rattle.html_render_layout_nodes.specs.declared.tree.NodeKind.{NodeKind}
-use Rattle.html_render_layout_nodes.specs.declared.tree.NodeKind.TheVariants.{Text}
+use Rattle.html_render_layout_nodes.specs.declared.tree.NodeKind.TheVariants.{FragmentStart, Text}
 use Rattle.html_render_layout_nodes.specs.declared.tree.RenderNode.{RenderNode}
-pub use Rattle.html_render_tree_convert.specs.Plans.{Insertion, text_nodes, inserts, insertion_of}
+pub use Rattle.html_render_tree_convert.specs.Plans.{text_nodes}
+use Rattle.html_render_tree_convert.specs.ElementTexts.{has_any}
+use Rattle.html_render_tree_convert.specs.Results.{Result, alone}
+use Rattle.html_render_tree_convert.specs.declared.plans.Element.{Element}
 use Rattle.html_render_tree_convert.specs.declared.due.DueParts.{DueParts}
 use Rattle.html_render_tree_convert.specs.declared.due.InsertedNodes.{InsertedNodes}
 
@@ -33,6 +36,23 @@ sized (e ∷ es) = record e { subtree_len = length es + 1 } ∷ es
 abbrev pub with_kind : NodeKind → Entries → Entries
 with_kind k [] = []
 with_kind k (e ∷ es) = record e { node = record e.node { kind = k } } ∷ es
+
+-- ---- what an element inserts
+
+-- nodes without children that are inserted in front of an element's children and after them
+pub record Insertion : Type 0 where
+  pub front : List RenderNode
+  pub back : List RenderNode
+
+abbrev pub inserts : Element → Bool
+inserts e = has_any e.texts
+
+-- what an element inserts: its mark and the content before its children, and the content after them
+abbrev pub insertion_of : Element → Insertion
+insertion_of e = record { front = text_nodes FragmentStart e.texts.mark ++ text_nodes Text e.texts.before; back = text_nodes Text e.texts.after }
+
+abbrev pub all_alone : List RenderNode → List Result
+all_alone = map alone
 
 -- ---- what an open element has still to write
 

@@ -1,7 +1,7 @@
 -- What an image and a drawing are called, and where an image lies.
 use Rattle.std.specs.Prelude.{ℕ, not, ◌&&◌, Bool, true, false, List, [], ◌∷◌, ◌++◌, codes, if◌then◌else◌}
 use Rattle.std.specs.Str.{bytes_eq}
-use Rattle.html_render_dom_nodes.specs.Content.{Name, Property, Space, svg, Content, text, element}
+use Rattle.html_render_dom_nodes.specs.Content.{Property, Space, svg, Content, text, element}
 use Rattle.html_render_dom_values.specs.Forest.{Forest, none, node}
 use Rattle.html_render_dom_styles.specs.Selectors.{is_filled}
 use Rattle.html_render_layout_nodes.specs.declared.tree.ImageParts.{ImageParts}
@@ -37,15 +37,11 @@ abbrev pub is_svg : Space → Bool
 is_svg svg = true
 is_svg _ = false
 
--- whether an element of this name is a `title` of SVG
-abbrev pub is_title : Name → Bool
-is_title name = is_svg name.space && bytes_eq name.local (codes "title")
-
--- the trees in the last of the titles before any other element, and those in the title found before where there is none
+-- the trees in the last of the `title` elements of SVG before any other element, and those in the title found before where there is none
 abbrev pub in_last_title : (found : Forest Content) → Forest Content → Forest Content
 in_last_title found none = found
 in_last_title found (node (element name properties template_contents integration_point) below beside) =
-    if is_title name then in_last_title below beside else found
+    if is_svg name.space && bytes_eq name.local (codes "title") then in_last_title below beside else found
 in_last_title found (node content below beside) = in_last_title found beside
 
 -- THE TITLE of a drawing over these trees

@@ -1,5 +1,5 @@
--- What becomes of a node of a document, its children aside, and the nodes that an element inserts.
-use Rattle.std.specs.Prelude.{ℕ, Bool, true, false, List, [], ◌++◌, Option, None, is_some, option_map, option_to_list, if◌then◌else◌}
+-- What becomes of a node of a document, its children aside.
+use Rattle.std.specs.Prelude.{ℕ, true, false, List, [], Option, None, is_some, option_map, option_to_list, if◌then◌else◌}
 use Rattle.std.specs.Option.{option_map_or}
 use Rattle.html_render_dom_values.specs.Forest.{Forest}
 use Rattle.html_render_dom_styles.specs.Cascade.{value_of}
@@ -24,7 +24,6 @@ use Rattle.html_render_tree_convert.specs.declared.plans.Element.{Element}
 use Rattle.html_render_tree_convert.specs.declared.plans.ElementTexts.{ElementTexts}
 use Rattle.html_render_tree_convert.specs.declared.plans.Plan.{Plan}
 use Rattle.html_render_tree_convert.specs.declared.plans.Plan.TheVariants.{Nothing, Alone, Over}
-use Rattle.html_render_tree_convert.specs.ElementTexts.{has_any}
 
 -- texts that an element inserts under its style
 abbrev pub texts_of : (mark : Option (List ℕ)) → ComputedStyle → ElementTexts
@@ -55,20 +54,6 @@ plan_of rules content children = Nothing
 abbrev pub plan_at : List StyleRule → Dom → (node : ℕ) → Plan
 plan_at rules dom h = plan_of rules (content_at dom h) (trees_of dom (children_at dom h))
 
--- ---- what an element inserts
-
--- nodes without children that are inserted in front of an element's children and after them
-pub record Insertion : Type 0 where
-  pub front : List RenderNode
-  pub back : List RenderNode
-
 -- a text as a node of a kind, if there is one
 abbrev pub text_nodes : (kind : List ℕ → NodeKind) → Option (List ℕ) → List RenderNode
 text_nodes kind contents = option_to_list (option_map (λ c. without_style (kind c)) contents)
-
-abbrev pub inserts : Element → Bool
-inserts e = has_any e.texts
-
--- what an element inserts: its mark and the content before its children, and the content after them
-abbrev pub insertion_of : Element → Insertion
-insertion_of e = record { front = text_nodes FragmentStart e.texts.mark ++ text_nodes Text e.texts.before; back = text_nodes Text e.texts.after }

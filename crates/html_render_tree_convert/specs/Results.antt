@@ -1,6 +1,6 @@
 -- THE DEFINITION of the conversion: what the nodes of a document become, by recursion on the document.
 use Rattle.std.specs.Prelude.{ℕ, zero, suc, ◌==◌, Bool, true, false, not, ◌&&◌, ◌||◌, List, [], ◌∷◌, ◌++◌, filter, flat_map, map, Option, Some}
-use Rattle.std.specs.Prelude.{None, is_some, option_map, option_to_list, if◌then◌else◌}
+use Rattle.std.specs.Prelude.{None, is_some, option_map, option_to_list, unwrap_or, if◌then◌else◌}
 use Rattle.std.specs.List.{list_any}
 use Rattle.html_render_dom_values.specs.Forest.{Forest, none, node, followed_by}
 use Rattle.html_render_dom_values.specs.Outcome.{◌>>=◌}
@@ -32,7 +32,7 @@ use Rattle.html_render_tree_convert.specs.declared.plans.Plan.TheVariants as pla
 use Rattle.html_render_tree_convert.specs.declared.tables.Part.TheVariants as part
 use Rattle.html_render_tree_convert.specs.Conversion.{is_blank, vanishes}
 use Rattle.html_render_tree_convert.specs.ElementTexts.{has_any}
-use Rattle.html_render_tree_convert.specs.Plans.{insertion_of, plan_of}
+use Rattle.html_render_tree_convert.specs.Plans.{plan_of, text_nodes}
 use Rattle.html_render_parts.specs.Spans.{greatest_width, spanned_in}
 
 -- ---- results
@@ -70,16 +70,14 @@ abbrev pub row_of : Role → Option (List Span)
 row_of (Row cells) = Some cells
 row_of _ = None
 
--- whether a result is that of rows
-abbrev pub are_rows : Role → Bool
-are_rows (Rows rows) = true
-are_rows _ = false
+-- and what the cells of rows span
+abbrev pub spans_of : Role → Option (List (List Span))
+spans_of (Rows rows) = Some (spanned_in (greatest_width rows) rows)
+spans_of _ = None
 
--- whether a result may be in no table: a caption is a container there
+-- whether a result may be in no table: it is no cell, no row and no rows; a caption is a container there
 abbrev pub stands_alone : Role → Bool
-stands_alone Contents = true
-stands_alone Caption = true
-stands_alone _ = false
+stands_alone role = not (is_some (cell_of role) || is_some (row_of role) || is_some (spans_of role))
 
 abbrev pub of_role : (Role → Bool) → List Result → List Result
 of_role is results = filter (λ r. is r.role) results
@@ -99,22 +97,7 @@ over style kind results =
     let n : RenderNode = record { kind = kind; style = style; estimate = unmeasured } in
     record { role = Contents; node = n; has_children = is_filled results; is_stray = has_stray results; below = beside results }
 
--- a row over its cells
-abbrev pub row_over : NodeStyle → (cells : List Result) → Result
-row_over style cells =
-    record (over style TableRow cells) { role = Row (flat_map (λ r. option_to_list (cell_of r.role)) cells); is_stray = any_stray cells }
-
--- rows beside each other
-abbrev pub rows_over : (rows : List Result) → Result
-rows_over rows =
-    record (over no_style Container rows) { role = Rows (flat_map (λ r. option_to_list (row_of r.role)) rows); is_stray = any_stray rows }
-
 -- ---- tables
-
--- what the cells of rows span
-abbrev pub spans_of : Role → List (List Span)
-spans_of (Rows rows) = spanned_in (greatest_width rows) rows
-spans_of _ = []
 
 -- a table over these parts
 abbrev pub table_over : NodeStyle → TableParts → (parts : List Result) → Result
@@ -130,10 +113,10 @@ captioned style grid captions parts =
 -- A TABLE over its parts; none where a cell would end past the last position
 abbrev pub table_of : NodeStyle → (captions parts : List Result) → Option Result
 table_of style captions parts = do
-  grid ← option_map unmeasured_table (cell_grid_of (flat_map (λ r. spans_of r.role) parts))
+  grid ← option_map unmeasured_table (cell_grid_of (flat_map (λ r. unwrap_or (spans_of r.role) []) parts))
   Some (if is_filled captions then captioned style grid captions parts else table_over style grid parts)
 
--- ---- which results a node keeps, and which it counts
+-- ---- which results a node keeps, and which show nothing
 
 -- an ordered list keeps items, and a list of descriptions terms and descriptions
 abbrev pub keeps : (parent child : NodeKind) → Bool
@@ -152,30 +135,30 @@ shows_nothing (Image image) has_children = is_blank image.title
 shows_nothing (Svg title) has_children = is_blank title
 shows_nothing _ has_children = not has_children
 
--- a link counts what shows something, and any other node all
-abbrev pub counts : (parent : NodeKind) → Role → NodeKind → (has_children : Bool) → Bool
-counts (Link target) role kind has_children = not (stands_alone role && shows_nothing kind has_children)
-counts _ role kind has_children = true
-
 -- ---- what an element becomes, over its captions, which only a table has, and the results of its other children
 
 -- its node, or its part of a table; none where a table has no grid
 abbrev pub built : ElementKind → NodeStyle → (captions others : List Result) → Option Result
-built (Part part.Table) style captions others = table_of style captions (of_role are_rows others)
-built (Part part.Body) style captions others = Some (rows_over (of_role (λ x. is_some (row_of x)) others))
-built (Part part.Row) style captions others = Some (row_over style (of_role (λ x. is_some (cell_of x)) others))
+built (Part part.Table) style captions others = table_of style captions (of_role (λ x. is_some (spans_of x)) others)
+built (Part part.Body) style captions others =
+    let rows = of_role (λ x. is_some (row_of x)) others in
+    Some (record (over no_style Container rows) { role = Rows (flat_map (λ r. option_to_list (row_of r.role)) rows); is_stray = any_stray rows })
+built (Part part.Row) style captions others =
+    let cells = of_role (λ x. is_some (cell_of x)) others in
+    Some (record (over style TableRow cells) { role = Row (flat_map (λ r. option_to_list (cell_of r.role)) cells); is_stray = any_stray cells })
 built (Part (part.Cell span)) style captions others = Some (record (over style TableCell others) { role = Cell span })
 built (Part part.Caption) style captions others = Some (record (over style Container others) { role = Caption })
 built (Node kind) style captions others = Some (over style kind (filter (λ r. keeps kind r.node.kind) others))
 
--- whether it becomes nothing, where it has no results that count: a table counts its captions, and rows where there are any; a row
--- and a cell never do
+-- whether it becomes nothing, where it has no results that count: a table counts its captions, and rows where there are any, a link
+-- what shows something, and any other node all; a row and a cell never do
 abbrev pub is_nothing : ElementKind → IfEmpty → (captions others : List Result) → Bool
 is_nothing (Part part.Table) if_empty captions others =
-    vanishes if_empty (is_filled captions || list_any (λ r. r.has_children) (of_role are_rows others))
+    vanishes if_empty (is_filled captions || list_any (λ r. r.has_children) (of_role (λ x. is_some (spans_of x)) others))
 is_nothing (Part part.Row) if_empty captions others = false
 is_nothing (Part (part.Cell span)) if_empty captions others = false
-is_nothing (Node kind) if_empty captions others = vanishes if_empty (list_any (λ r. counts kind r.role r.node.kind r.has_children) others)
+is_nothing (Node (Link target)) if_empty captions others =
+    vanishes if_empty (list_any (λ r. not (stands_alone r.role && shows_nothing r.node.kind r.has_children)) others)
 is_nothing _ if_empty captions others = vanishes if_empty (is_filled others)
 
 -- ---- what is inserted
@@ -199,16 +182,19 @@ in_first (suc level) front back (node n children others) = node n (in_first leve
 abbrev pub alone : RenderNode → Result
 alone n = record { role = Contents; node = n; has_children = false; is_stray = false; below = none }
 
-abbrev pub all_alone : List RenderNode → List Result
-all_alone = map alone
+-- what an element inserts before its children, its mark and its content before, and what it inserts after them
+abbrev pub front_of : Element → List Result
+front_of e = map alone (text_nodes FragmentStart e.texts.mark ++ text_nodes Text e.texts.before)
+
+abbrev pub back_of : Element → List Result
+back_of e = map alone (text_nodes Text e.texts.after)
 
 -- a result with what an element inserts
 abbrev pub inserted : (level : Option ℕ) → Element → Result → Result
 inserted (Some level) e r =
-    let i = insertion_of e in
-    let below = in_first level (beside (all_alone i.front)) (beside (all_alone i.back)) r.below in
+    let below = in_first level (beside (front_of e)) (beside (back_of e)) r.below in
     record r { has_children = (level == 0 && has_any e.texts) || r.has_children; below = below }
-inserted None e r = let i = insertion_of e in over no_style Container (all_alone i.front ++ r ∷ all_alone i.back)
+inserted None e r = over no_style Container (front_of e ++ r ∷ back_of e)
 
 -- the result that an element leaves, with what it inserts; its mark where it becomes nothing
 abbrev pub left_of : Element → (is_nothing has_captions : Bool) → Result → Option Result
@@ -232,15 +218,12 @@ children_in (Part part.Table) inside = do
   Some (of_role is_caption captions, others ++ feet)
 children_in _ inside = option_map (λ others. ([], others)) (inside All)
 
-abbrev pub over_children : Element → (inside : Pick → Option (List Result)) → Option (Option Result)
-over_children e inside = children_in e.kind inside >>= λ children. made e children.0 children.1
-
 -- what a node becomes, by its plan
 abbrev pub result_of : Plan → (inside : Pick → Option (List Result)) → Option (Option Result)
 result_of plan.Nothing inside = Some None
 result_of (plan.Alone n) inside = Some (Some (alone n))
-result_of (plan.Over e false) inside = over_children e (λ pick. Some [])
-result_of (plan.Over e true) inside = over_children e inside
+result_of (plan.Over e has_children) inside =
+    children_in e.kind (λ pick. if has_children then inside pick else Some []) >>= λ children. made e children.0 children.1
 
 -- WHAT THE NODES of a document BECOME that are picked, in order; none where a table has no grid
 abbrev pub results : List StyleRule → Forest Content → Pick → Option (List Result)

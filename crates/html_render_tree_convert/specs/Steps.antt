@@ -15,8 +15,7 @@ use Rattle.html_render_layout_nodes.specs.declared.tree.NodeStyle.{NodeStyle}
 use Rattle.html_render_layout_nodes.specs.declared.tree.RenderNode.{RenderNode}
 use Rattle.html_render_parts.specs.TableCells.{cell_grid_of}
 use Rattle.html_render_tree_convert.specs.Conversion.{vanishes}
-use Rattle.html_render_tree_convert.specs.Results.{Role, is_caption, cell_of, row_of, stands_alone}
-pub use Rattle.html_render_tree_convert.specs.Results.{are_rows}
+use Rattle.html_render_tree_convert.specs.Results.{Role, is_caption, cell_of, row_of, spans_of, stands_alone}
 use Rattle.html_render_tree_convert.specs.Results as role
 use Rattle.html_render_parts.specs.Spans.{greatest_width, spanned_in}
 use Rattle.html_render_tree_convert.specs.declared.mapping.ElementKind.{ElementKind}
@@ -226,6 +225,10 @@ abbrev pub left_by : Open → (own : Entries) → Option (Option Closed)
 left_by p own = option_map (λ es. unless_vanished p (closed_as p.kind p es)) (on_grid p.kind own)
 
 -- ---- an open element receives a result
+
+-- whether a result is that of rows
+abbrev pub are_rows : Role → Bool
+are_rows r = is_some (spans_of r)
 
 -- whether a result is kept
 abbrev pub accepts : OpenKind → Role → NodeKind → Bool

@@ -9,8 +9,8 @@ ghost use Rattle.html_render_dom.specs.ElementStyle.{style_of};
 ghost use Rattle.html_render_dom.specs.Attributes.{first_value};
 ghost use Rattle.html_render_dom_styles.specs.Selectors.{is_filled};
 ghost use Rattle.html_render_tree_convert.specs.Images.{image_parts};
-ghost use Rattle.html_render_tree_convert.specs.Conversion.{html_mapping, html_element_mapping, element_mapping, link_mapping};
-ghost use Rattle.html_render_tree_convert.specs.Conversion.{is_preformatted, preformatted_style, node_style};
+ghost use Rattle.html_render_tree_convert.specs.Conversion.{html_mapping, element_mapping, link_mapping, preformatted_style, node_style};
+ghost use Rattle.html_render_tree_convert.specs.KnownElements.{html_element_mapping, is_preformatted};
 
 use crate::attributes::{first_value, span_of, start_of};
 use crate::images::{drawing_title, image_parts};

@@ -12,7 +12,7 @@ ghost use Rattle.html_render_dom.specs.declared.style.computed.ComputedStyle.{Co
 ghost use Rattle.html_render_dom.specs.RuleIndex.{Finds};
 ghost use Rattle.html_render_dom_styles.specs.Rules.{Rule, rule_of};
 ghost use Rattle.html_render_layout_nodes.specs.RenderNodes.{without_style};
-ghost use Rattle.html_render_tree_convert.specs.Conversion.{element_mapping, is_preformatted, node_style, own_style};
+ghost use Rattle.html_render_tree_convert.specs.Conversion.{element_mapping, node_style, own_style};
 ghost use Rattle.html_render_tree_convert.specs.ElementTexts.{has_any, no_texts};
 ghost use Rattle.html_render_tree_convert.specs.Marks.{mark_of};
 ghost use Rattle.html_render_tree_convert.specs.Plans.{displayed_plan, element_plan, plan_at, texts_of};

@@ -39,7 +39,7 @@ use Rattle.html_render_layout.specs.Layout.{Algebra, kind_text, Step, Write, Wri
 use Rattle.html_render_layout.specs.Layout.{StartBlock, EndBlock, Fence, BeginTable, EndTable, AddTarget, AddMark}
 use Rattle.html_render_layout.specs.Layout.{Shape, Steps, Around, Items, Cells, block_of, shape_of, style_steps}
 use Rattle.html_render_layout.specs.Layout.{annotated, struck, on_block, text_style, write, perform, perform_all, joined, appended, appended_block}
-use Rattle.html_render_layout.specs.Layout.{block_place, cell_place, shape_layout, kind_layout, layout_of, Defined, defined, by_stacks, empty_state, estimated, layout_lines}
+use Rattle.html_render_layout.specs.Layout.{block_place, cell_place, shape_layout, kind_layout, layout_of, Defined, by_stacks, empty_state, estimated, layout_lines}
 use Rattle.html_render_layout.specs.Ending.{closing_texts, ended}
 
 -- characters of a text; none for any other kind of node
@@ -322,9 +322,9 @@ for_each P (Some x) h = h
 module _ {S A : Type 0} (d : Decoration S A) where
   -- trees that are laid out restore the treatment of texts, with its tag, and the decorator
   pub layout_leaves : (t : Forest RenderNode) (s : Defined S A) →
-      IfSome (run (defined d) t s) (λ r. (r.text ≡ s.text) × (r.decorator ≡ s.decorator))
+      IfSome (run (layout_of (by_stacks d)) t s) (λ r. (r.text ≡ s.text) × (r.decorator ≡ s.decorator))
   layout_leaves t s =
-      IfSome_then (run (defined d) t s)
+      IfSome_then (run (layout_of (by_stacks d)) t s)
       (layout-grows (by_stacks d) (visible_count 0) (text_count 0) (operations_keep_visible 0) refl (struck-count 0) t s) (λ r k. (k.0, k.1.0))
 
   -- THE LAW: each visible character of the texts that are visited and not skipped is in the lines at least as often
@@ -332,7 +332,7 @@ module _ {S A : Type 0} (d : Decoration S A) where
       IfSome (layout_lines d settings t decorator block) (KeepsTexts (visited_nodes d settings t decorator block))
   layout_keeps_texts settings t decorator block =
       for_each Stands (layout_lines d settings t decorator block) (λ c. if_cases (λ x. IfSome x (Stands c)) (block.width == 0) _ _ (λ _. tt) (λ _.
-      bind_some _ _ _ (run (defined d) trees start) (layout-grows (by_stacks d) (visible_count c) (text_count c)
+      bind_some _ _ _ (run (layout_of (by_stacks d)) trees start) (layout-grows (by_stacks d) (visible_count c) (text_count c)
       (operations_keep_visible c) refl (struck-count c) trees start) (λ r a.
       map_if (λ (q : Defined S A). visible_count c r.block ≤ count c (visible_in_lines q.block.lines)) _ _
       (ended d definition.ending settings.link_footnotes settings.wrap_links [] r)

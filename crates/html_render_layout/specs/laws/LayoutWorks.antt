@@ -29,7 +29,7 @@ use Rattle.html_render_layout_nodes.specs.Counts.{CountsNodes}
 use Rattle.html_render_layout_nodes.specs.Visitor.{visited, most_open}
 use Rattle.html_render_layout_nodes.specs.laws.Counts.{counts-same}
 use Rattle.html_render_layout_estimates.specs.declared.settings.LayoutSettings.{LayoutSettings}
-use Rattle.html_render_layout.specs.Layout.{by_stacks, layout_of, shown_after, Defined, defined, empty_state}
+use Rattle.html_render_layout.specs.Layout.{by_stacks, layout_of, shown_after, Defined, empty_state}
 use Rattle.html_render_layout.specs.Layout.{estimated, layout, layout_lines, mark_names, unannotated}
 use Rattle.html_render_layout.specs.laws.Related.{Other}
 use Rattle.html_render_layout.specs.laws.Sizes.{shown-needed, counts-needed}
@@ -147,12 +147,12 @@ module _ {S A : Type 0} (d : Decoration S A) (settings : LayoutSettings) where
   pub counts-work : {X : Type 0} (r : Result X Error) (t measured : Forest RenderNode) (decorator : S) (block : BlockSetting)
       (s : Worked S A) (old other new : Meter) → measured ≡ with_needed_sizes (estimated d settings decorator t) → s ≡ empty_worked decorator block →
       other.probes ≡ old.probes → CountsNodes r (layout_of (by_tags d tabled)) measured s other new →
-      CountsNodes r (defined d) (estimated d settings decorator t) (empty_state d settings decorator block) old new
+      CountsNodes r (layout_of (by_stacks d)) (estimated d settings decorator t) (empty_state d settings decorator block) old new
   counts-work r t measured decorator block s old other new m e probes c =
       let u = estimated d settings decorator t in
       let walk = walk-represented d tabled stack_at (λ (s : List A). s) Pushed (λ k. ([], sym (append-nil k))) Pushed-goes
       (λ k t a. ((stack_at k t ++ a ∷ []) ∷ [], refl)) tag_pushed u block.width (empty_worked decorator block) (stacked block) (begins decorator block) in
-      counts-same r (layout_of (by_tags d tabled)) (defined d) u s (empty_state d settings decorator block) old other new
+      counts-same r (layout_of (by_tags d tabled)) (layout_of (by_stacks d)) u s (empty_state d settings decorator block) old other new
       (ap (λ x. visited (layout_of (by_tags d tabled)) u x) e ∙ walk.0)
       (ap (λ x. most_open (layout_of (by_tags d tabled)) u x) e ∙ walk.1) probes
       (counts-needed (by_tags d tabled) r u s other new (rw m at c))

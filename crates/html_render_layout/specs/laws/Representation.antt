@@ -15,7 +15,7 @@ use Rattle.html_render_layout_blocks.specs.Machine.{MachineBlock}
 use Rattle.html_render_layout_paragraphs.specs.laws.Answers.{Both}
 use Rattle.html_render_layout_blocks.specs.laws.BlockSeen.{Tags, Blocks, operations-seen, ends-seen, later-seen, lines-seen}
 use Rattle.html_render_layout.specs.declared.state.LayoutState.{LayoutState}
-use Rattle.html_render_layout.specs.Layout.{by_stacks, layout_of, shown_after, Defined, defined}
+use Rattle.html_render_layout.specs.Layout.{by_stacks, layout_of, shown_after, Defined}
 use Rattle.html_render_layout.specs.Working.{by_tags}
 use Rattle.html_render_layout.specs.laws.Related.{Other, with_other, walked-related, shown-related}
 
@@ -62,8 +62,8 @@ module _ {S A K T V : Type 0} (d : Decoration S A) (push : K → T → A → K �
 
   -- the code's walk visits the nodes that the definition visits; the most nodes open at once are equal
   pub walk-represented : (t : Forest RenderNode) (i : ℕ) (s : Worked) (v : Stacked) → Represents i s v →
-      (visited (layout_of (by_tags d push)) t s ≡ visited (defined d) t (with_other s v))
-      × (most_open (layout_of (by_tags d push)) t s ≡ most_open (defined d) t (with_other s v))
+      (visited (layout_of (by_tags d push)) t s ≡ visited (layout_of (by_stacks d)) t (with_other s v))
+      × (most_open (layout_of (by_tags d push)) t s ≡ most_open (layout_of (by_stacks d)) t (with_other s v))
   walk-represented t i s v h =
       walked-related (by_tags d push) (by_stacks d).push definition.operations (Unit {0}) ⊥ (λ x. tt) GoesOn (λ w. stays w.0) Going ShowsTag later_tag
       ShowsBlock (λ i w v b c k l. later-seen (λ (w : Kept) t. shown w.0 t) seen GoesOn (λ w. stays w.0) Going i w v b c k l)

@@ -1,8 +1,9 @@
 //! Images and drawings, and the title that each is shown with.
 
-ghost use Rattle.std.specs.Prelude.{◌≡◌, Some, OnOk, IfErr, option_map};
+ghost use Rattle.std.specs.Prelude.{◌≡◌, ◌==◌, Some, OnOk, IfErr, option_map};
+ghost use Rattle.std.specs.List.{after_last};
 ghost use Rattle.html_render_dom_values.specs.Outcome.{Refuses};
-ghost use Rattle.html_render_layout.specs.Images.{file_name, shown_title};
+ghost use Rattle.html_render_layout.specs.Images.{shown_title};
 ghost use Rattle.html_render_layout.specs.Layout.{image, perform_all};
 ghost use Rattle.html_render_layout.specs.Working.{by_tags};
 
@@ -16,7 +17,7 @@ use std::alloc::Global;
 
 /// Returns the part of an address after its last slash, or the whole address if it has none.
 fn file_name(address: &str) -> &str
-    ensures { result.now ≡ file_name address.now }
+    ensures { result.now ≡ after_last (λ b. b == 47) address.now }
 {
     let bytes = address.as_bytes();
     let mut start = bytes.len();

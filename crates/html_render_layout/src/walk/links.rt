@@ -5,8 +5,8 @@ ghost use Rattle.std.specs.Fmt.{decimal};
 ghost use Rattle.std.specs.Prelude.{◌≡◌, ◌∷◌, ◌++◌, Some, codes, IfOk, OnOk, IfErr};
 ghost use Rattle.html_render_dom_values.specs.Outcome.{OnlyOutOfMemory, Refuses};
 ghost use Rattle.html_render_parts.specs.Decoration.{link};
-ghost use Rattle.html_render_layout.specs.Layout.{AddTarget, AddMark, start, perform, perform_all, write_number};
-ghost use Rattle.html_render_layout.specs.Opening.{kind_closed};
+ghost use Rattle.html_render_layout.specs.Layout.{AddTarget, AddMark, start, perform, perform_all};
+ghost use Rattle.html_render_layout.specs.Opening.{kind_closed, write_number};
 ghost use Rattle.html_render_layout.specs.Working.{by_tags};
 
 use super::emphasis::begin;

@@ -23,7 +23,8 @@ use Rattle.html_render_layout_blocks.specs.Block.{Block, paragraph_setting, is_c
 use Rattle.html_render_layout_blocks.specs.Block.{start_block, feed, inner_block, put_lines, end_open, end_table, add_border, stacked_begun}
 use Rattle.html_render_layout_blocks.specs.Block.{with_table_begun, put_stacked, cell_added, row_ended, append}
 use Rattle.html_render_layout_blocks.specs.Block.{finish, add_closing_lines, operations, ending}
-use Rattle.html_render_layout_blocks.specs.Closing.{on_one_line, closing_lines}
+use Rattle.html_render_layout_blocks.specs.Closing.{closing_lines}
+use Rattle.html_render_layout_blocks.specs.RowSteps.{on_one_line}
 use Rattle.html_render_layout_paragraphs.specs.CutText.{text_lines}
 use Rattle.html_render_layout_buffer.specs.Prefixed.{prefixed}
 use Rattle.html_render_layout_blocks.specs.Joined.{fitting}

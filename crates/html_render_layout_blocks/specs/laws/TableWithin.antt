@@ -9,7 +9,8 @@ use Rattle.html_render_parts.specs.declared.table.PlacedCell.{PlacedCell}
 use Rattle.html_render_layout_pictures.specs.Picture.{KeptCell}
 use Rattle.html_render_layout_pictures.specs.Widths.{row_width, KeepsToWidth, RowWithin}
 use Rattle.html_render_layout_blocks.specs.declared.block.rows.RowPlace.{RowPlace}
-use Rattle.html_render_layout_blocks.specs.OpenRows.{OpenRow, cell_width, places, next_width, empty_cell, empty_cells, before_cell}
+use Rattle.html_render_layout_blocks.specs.OpenRows.{OpenRow, cell_width, places, next_width, empty_cells, before_cell}
+use Rattle.html_render_layout_blocks.specs.RowSteps.{empty_cell}
 use Rattle.html_render_layout_blocks.specs.OpenRows.{open_row, past_cell, whole_row}
 
 -- Columns of cells, each with a separator.

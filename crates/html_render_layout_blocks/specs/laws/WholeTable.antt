@@ -24,7 +24,8 @@ use Rattle.html_render_layout_blocks.specs.Block.{flush, feed, mark_items, put_l
 use Rattle.html_render_layout_blocks.specs.Block.{paragraph_setting, inner_block, with_table_begun, row_ended, end_table, operations}
 use Rattle.html_render_layout_blocks.specs.Machine.{machine, MachineBlock}
 use Rattle.html_render_layout_blocks.specs.CellByCell.{finished_of, with_finished, added_cell, added_cells, added_row, added_rows, inside_row, added_table}
-use Rattle.html_render_layout_blocks.specs.OpenRows.{OpenRow, open_row, next_width, before_cell, empty_cell, empty_cells, past_cell, whole_row, places}
+use Rattle.html_render_layout_blocks.specs.OpenRows.{OpenRow, open_row, next_width, before_cell, empty_cells, past_cell, whole_row, places}
+use Rattle.html_render_layout_blocks.specs.RowSteps.{empty_cell}
 use Rattle.html_render_layout_blocks.specs.Tables.{frame_of, with_ahead}
 use Rattle.html_render_layout_blocks.specs.WholeTable.{FinishedBlock, empty_finished, TablePlan, table_plan, own_widths, cell_block_width}
 use Rattle.html_render_layout_blocks.specs.WholeTable.{kept_cell, kept_cells, table_row, table_rows, with_below, full_line, separated_cells, stacked_row, with_whole_table}

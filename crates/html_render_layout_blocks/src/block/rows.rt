@@ -6,6 +6,7 @@ ghost use Rattle.html_render_dom_values.specs.Outcome.{OnlyOutOfMemory};
 ghost use Rattle.html_render_parts_widths.specs.Shares.{widths_across};
 ghost use Rattle.html_render_parts.specs.TableCells.{is_cell};
 ghost use Rattle.html_render_layout_blocks.specs.OpenRows as rows;
+ghost use Rattle.html_render_layout_blocks.specs.RowSteps.{empty_cell};
 
 use html_render_dom_values::Error;
 use html_render_layout_buffer::finished::FinishedLines;
@@ -172,7 +173,7 @@ fn push_empty<T: Tag, M: Copy>(
     cells: &mut RowCells<T, M>,
     width: Option<usize>,
 ) -> Result<(), AllocError>
-    ensures { OnOk result (cells.new ≡ cells.old ++ rows.empty_cell width) }
+    ensures { OnOk result (cells.new ≡ cells.old ++ empty_cell width) }
 {
     if let Some(width) = width {
         cells.push_empty(alloc, width)?;

@@ -16,7 +16,8 @@ use Rattle.html_render_parts.specs.TableCells.{columns_of}
 use Rattle.html_render_parts.specs.declared.table.cells.GridCell.{GridCell}
 use Rattle.html_render_parts_widths.specs.declared.needs.CellNeed.{CellNeed}
 use Rattle.html_render_layout_estimates.specs.declared.settings.LayoutSettings.{LayoutSettings}
-use Rattle.html_render_layout_estimates.specs.Cells.{row_needs, cell_needs}
+use Rattle.html_render_layout_estimates.specs.Cells.{cell_needs}
+use Rattle.html_render_layout_estimates.specs.CellSteps.{row_needs}
 use Rattle.html_render_layout_estimates.specs.Estimates.{prefix_of, measured_kind, estimate_of, measured}
 use Rattle.html_render_layout_estimates.specs.Children.{trees, greatest_least, total_size}
 use Rattle.html_render_layout_estimates.specs.Passes.{is_table, has_table, without_sizes, with_needed_sizes}
@@ -218,7 +219,7 @@ module _ {D A : Type 0} (decoration : Decoration D A) (decorator : D) (settings 
       (columns-worded n.kind (shapes settings children) h.0, all-worded children h.1, all-worded beside h.2)
 
   columns-with_words : (t : Forest RenderNode) → AllColumns t → AllColumns (with_words settings t)
-  columns-with_words t h = by (settings.whole_words && has_table t)
+  columns-with_words t h = by settings.whole_words
     where
       by : (b : Bool) → AllColumns (if b then worded settings t else t)
       by true = all-worded t h

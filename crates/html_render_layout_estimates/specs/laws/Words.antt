@@ -1,7 +1,7 @@
 -- Trees with words have the tables that they had, and words and preferred widths don't depend on each other.
-use Rattle.std.proofs.Common.{◌≡◌, Bool, true, false, ◌||◌, ◌&&◌, refl, sym, ap, ◌∙◌, inl, inr}
+use Rattle.std.proofs.Common.{◌≡◌, Bool, true, false, ◌||◌, refl, sym, ap, ◌∙◌, inl, inr}
 use Rattle.std.specs.Prelude.{if◌then◌else◌}
-use Rattle.std.proofs.lemmas.Bool.{cases_Bool}
+use Rattle.std.proofs.lemmas.Bool.{cases_Bool, or_parts, true≢false}
 use Rattle.html_render_dom_values.specs.Forest.{Forest, none, node}
 use Rattle.html_render_layout_nodes.specs.declared.tree.NodeKind.{NodeKind}
 use Rattle.html_render_layout_nodes.specs.declared.tree.NodeKind.TheVariants.{Table}
@@ -14,6 +14,10 @@ use Rattle.html_render_layout_estimates.specs.Words.{worded_kind, shapes, worded
 table-worded : (kind : NodeKind) (below : Forest WordShape) → is_table (worded_kind kind below) ≡ is_table kind
 table-worded (Table grid) below = refl
 table-worded kind below = refl
+
+kind-plain : (kind : NodeKind) (below : Forest WordShape) → is_table kind ≡ false → worded_kind kind below ≡ kind
+kind-plain (Table grid) below plain = absurd (true≢false plain)
+kind-plain kind below plain = refl
 
 tables-unsized : (t : Forest RenderNode) → has_table (without_sizes t) ≡ has_table t
 tables-unsized none = refl
@@ -32,19 +36,25 @@ module _ (settings : LayoutSettings) where
       ∙ ap (λ b. is_table n.kind || (b || has_table (worded settings beside))) (tables-worded children)
       ∙ ap (λ b. is_table n.kind || (has_table children || b)) (tables-worded beside)
 
-  words-is : (t : Forest RenderNode) (b : Bool) → has_table t ≡ b → with_words settings t ≡ (if settings.whole_words && b then worded settings t else t)
-  words-is t b e = ap (λ c. if settings.whole_words && c then worded settings t else t) e
-
-  and_false : (b : Bool) → (b && false) ≡ false
-  and_false true = refl
-  and_false false = refl
+  worded-plain : (t : Forest RenderNode) → has_table t ≡ false → worded settings t ≡ t
+  worded-plain none plain = refl
+  worded-plain (node n children beside) plain =
+      let front = or_parts (is_table n.kind) (has_table children || has_table beside) plain in
+      let rest = or_parts (has_table children) (has_table beside) front.1 in
+      ap (λ k. node (record n { kind = k }) (worded settings children) (worded settings beside)) (kind-plain n.kind (shapes settings children) front.0)
+      ∙ ap (λ t. node n t (worded settings beside)) (worded-plain children rest.0)
+      ∙ ap (node n children) (worded-plain beside rest.1)
 
   -- without a table there are no words
   pub words-plain : (t : Forest RenderNode) → has_table t ≡ false → with_words settings t ≡ t
-  words-plain t e = words-is t false e ∙ ap (λ c. if c then worded settings t else t) (and_false settings.whole_words)
+  words-plain t e = by settings.whole_words
+    where
+      by : (b : Bool) → (if b then worded settings t else t) ≡ t
+      by true = worded-plain t e
+      by false = refl
 
   words-tables : (t : Forest RenderNode) → has_table (with_words settings t) ≡ has_table t
-  words-tables t = by (settings.whole_words && has_table t)
+  words-tables t = by settings.whole_words
     where
       by : (b : Bool) → has_table (if b then worded settings t else t) ≡ has_table t
       by true = tables-worded t

@@ -7,7 +7,8 @@ use Rattle.html_render_layout_lines.specs.declared.character.Character.{Characte
 use Rattle.html_render_layout_lines.specs.declared.character.Item.{Item}
 use Rattle.html_render_layout_lines.specs.declared.character.Item.TheVariants as item
 use Rattle.html_render_layout_lines.specs.Character.{kind}
-use Rattle.html_render_layout_paragraphs.specs.Paragraph.{LineBuffer, Setting, put_word, put_single, page_for_single}
+use Rattle.html_render_layout_paragraphs.specs.Paragraph.{LineBuffer, Setting, put_single, page_for_single}
+use Rattle.html_render_layout_paragraphs.specs.Placing.{put_word}
 use Rattle.html_render_layout_paragraphs.specs.Stream.{State, end_word, joins, begin_word, single_step, then_single, with_pending, character_step}
 use Rattle.html_render_layout_paragraphs.specs.Stream.{step, after}
 use Rattle.html_render_layout_lines.specs.laws.Cases.{bind_some, map_if, if_cases}

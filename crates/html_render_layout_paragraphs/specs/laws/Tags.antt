@@ -13,8 +13,9 @@ use Rattle.html_render_layout_lines.specs.declared.character.Item.TheVariants as
 use Rattle.html_render_layout_lines.specs.declared.line.Element.TheVariants as element
 use Rattle.html_render_layout_lines.specs.Character.{kind, width_of, tag_on}
 use Rattle.html_render_layout_lines.specs.Line.{Line, columns, item_width, word_columns, is_empty}
-use Rattle.html_render_layout_paragraphs.specs.Paragraph.{LineBuffer, Setting, with_waiting_mark, with_character, with_line_break, put_character, put_items}
-use Rattle.html_render_layout_paragraphs.specs.Paragraph.{put_fitting, put_word, put_single, page_for_word, with_due_space, continued, page_for_single}
+use Rattle.html_render_layout_paragraphs.specs.Paragraph.{LineBuffer, Setting, with_waiting_mark, with_character, put_character, put_items}
+use Rattle.html_render_layout_paragraphs.specs.Placing.{with_line_break, put_word}
+use Rattle.html_render_layout_paragraphs.specs.Paragraph.{put_fitting, put_single, page_for_word, with_due_space, continued, page_for_single}
 use Rattle.html_render_layout_paragraphs.specs.Paragraph.{tab_spaces, fits, all_lines}
 use Rattle.html_render_layout_lines.specs.Tags.{element_with, line_with, lines_with}
 use Rattle.html_render_layout_lines.specs.laws.Tags.{if_with, then_with, map_with, sum_same, columns-with, marks-with}

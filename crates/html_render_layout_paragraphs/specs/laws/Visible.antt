@@ -19,7 +19,8 @@ use Rattle.html_render_layout_lines.specs.declared.line.Element.TheVariants as e
 use Rattle.html_render_layout_lines.specs.Character.{kind, is_collapsible, has_no_width, width_of, tag_on}
 use Rattle.html_render_layout_lines.specs.Line.{Line, columns, marks_line, word_columns, is_empty}
 use Rattle.html_render_layout_paragraphs.specs.Paragraph.{Piece, Word, Gap, Cut, Single, Loose, pieces, with_kind, with_mark, LineBuffer, Setting, fits}
-use Rattle.html_render_layout_paragraphs.specs.Paragraph.{with_waiting_mark, with_character, with_line_break, put_character, put_items, put_word, put_single}
+use Rattle.html_render_layout_paragraphs.specs.Paragraph.{with_waiting_mark, with_character, put_character, put_items, put_single}
+use Rattle.html_render_layout_paragraphs.specs.Placing.{with_line_break, put_word}
 use Rattle.html_render_layout_paragraphs.specs.Paragraph.{page_for_word, with_due_space, continued, page_for_single, put_fitting, tab_spaces, place}
 use Rattle.html_render_layout_paragraphs.specs.Paragraph.{paragraph, empty_buffer, all_lines}
 use Rattle.html_render_layout_lines.specs.laws.Visible.{visible_in_line-append, visible_in_lines-push, visible_in_line-marks}

@@ -12,7 +12,8 @@ use Rattle.html_render_layout_lines.specs.Character.{kind}
 use Rattle.html_render_layout_lines.specs.Line.{word_columns, is_empty}
 use Rattle.html_render_layout_lines.specs.laws.Columns.{word_columns-append}
 use Rattle.html_render_layout_paragraphs.specs.Paragraph.{Piece, Word, Gap, Cut, Single, pieces, with_kind, with_mark, LineBuffer, Setting, fits}
-use Rattle.html_render_layout_paragraphs.specs.Paragraph.{with_waiting_mark, put_character, put_items, put_word, put_single, page_for_word, with_due_space}
+use Rattle.html_render_layout_paragraphs.specs.Paragraph.{with_waiting_mark, put_character, put_items, put_single, page_for_word, with_due_space}
+use Rattle.html_render_layout_paragraphs.specs.Placing.{put_word}
 use Rattle.html_render_layout_paragraphs.specs.Paragraph.{continued, page_for_single, place, paragraph}
 use Rattle.html_render_layout_paragraphs.specs.Stream.{State, start, end_word, begin_word, letter_step, single_step, then_single, with_pending, character_step}
 use Rattle.html_render_layout_paragraphs.specs.Stream.{mark_step, step, after, finished}

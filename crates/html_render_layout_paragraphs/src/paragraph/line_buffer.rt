@@ -4,7 +4,8 @@ ghost use Rattle.std.specs.Prelude.{IfErr, fold, map, replicate, ◌≡◌, ◌+
 ghost use Rattle.html_render_dom_values.specs.Outcome.{Refuses};
 ghost use Rattle.html_render_layout_lines.specs.Character.{width_of, tag_on};
 ghost use Rattle.html_render_layout_lines.specs.Line.{columns};
-ghost use Rattle.html_render_layout_paragraphs.specs.Paragraph.{fits, with_character, continued, with_line_break, put_character, put_items};
+ghost use Rattle.html_render_layout_paragraphs.specs.Paragraph.{fits, with_character, continued, put_character, put_items};
+ghost use Rattle.html_render_layout_paragraphs.specs.Placing.{with_line_break};
 ghost use Rattle.html_render_layout_paragraphs.specs.Paragraph.{put_fitting, with_due_space, page_for_single};
 ghost use Rattle.html_render_layout_paragraphs.specs.Paragraph.{with_waiting_mark, put_single, tab_spaces};
 ghost use Rattle.html_render_layout_paragraphs.specs.Stream.{on_page, single_step};

@@ -13,7 +13,8 @@ use Rattle.html_render_layout_pictures.specs.laws.Lines.{marked_behind-with}
 use Rattle.html_render_layout_pictures.specs.laws.Padding.{filled-with}
 use Rattle.html_render_layout_pictures.specs.declared.picture.Frame.{Frame}
 use Rattle.html_render_layout_pictures.specs.Picture.{KeptCell, TableRow, is_drawn, waiting_in}
-use Rattle.html_render_layout_pictures.specs.Picture.{separators_of, joint, height, separator, has_top, border, cell_lines, beside, row_lines, picture}
+use Rattle.html_render_layout_pictures.specs.Picture.{separators_of, joint, height, has_top, border, cell_lines, beside, row_lines, picture}
+use Rattle.html_render_layout_pictures.specs.Rows.{separator}
 use Rattle.html_render_layout_pictures.specs.Drawing.{Drawing, DueBorder, due_lines, due_below, with_cells, with_row, with_rows, begun, finished}
 use Rattle.html_render_layout_pictures.specs.Tags.{cell_with, row_with, frame_with, drawing_with, drawn_with}
 use Rattle.html_render_layout_pictures.specs.laws.Rows.{drawn_is}

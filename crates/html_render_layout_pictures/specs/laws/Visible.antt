@@ -14,7 +14,8 @@ use Rattle.html_render_layout_pictures.specs.Visible.{count, visible_in_cells, v
 use Rattle.html_render_layout_pictures.specs.laws.Lines.{lines-append, marked_behind_same, count-append}
 use Rattle.html_render_layout_pictures.specs.laws.Padding.{filled-visible}
 use Rattle.html_render_layout_pictures.specs.declared.picture.Frame.{Frame}
-use Rattle.html_render_layout_pictures.specs.Picture.{KeptCell, TableRow, is_drawn, waiting_in, separators_of, height, separator}
+use Rattle.html_render_layout_pictures.specs.Picture.{KeptCell, TableRow, is_drawn, waiting_in, separators_of, height}
+use Rattle.html_render_layout_pictures.specs.Rows.{separator}
 use Rattle.html_render_layout_pictures.specs.Picture.{cell_lines, beside, row_lines, picture_lines}
 use Rattle.html_render_layout_pictures.specs.Drawing.{Drawing, due_lines, with_cells, with_row, with_rows, begun}
 use Rattle.html_render_layout_pictures.specs.laws.Heights.{IsNoHigher, row_highest, cell-height, beside-height}

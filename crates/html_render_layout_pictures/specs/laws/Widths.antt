@@ -14,7 +14,8 @@ use Rattle.html_render_layout_buffer.specs.Marked.{marked_before, marked_behind}
 use Rattle.html_render_layout_buffer.specs.Padding.{repeated, filled_line}
 use Rattle.html_render_layout_pictures.specs.declared.picture.Frame.{Frame}
 use Rattle.html_render_layout_pictures.specs.Picture.{KeptCell, TableRow, is_drawn, waiting_in, separators_of, next_separators}
-use Rattle.html_render_layout_pictures.specs.Picture.{joint, height, separator, has_top, border, cell_lines, beside, row_lines, rows_lines, picture_lines}
+use Rattle.html_render_layout_pictures.specs.Picture.{joint, height, has_top, border, cell_lines, beside, row_lines, rows_lines, picture_lines}
+use Rattle.html_render_layout_pictures.specs.Rows.{separator}
 use Rattle.html_render_layout_pictures.specs.Widths.{row_width, KeepsToWidth, RowWithin, AllAsWide}
 use Rattle.html_render_layout_pictures.specs.laws.Glyphs.{joint_width, separator_width}
 use Rattle.html_render_layout_pictures.specs.laws.Padding.{repeated-columns}

@@ -11,7 +11,8 @@ use Rattle.html_render_parts.specs.declared.table.cells.GridCell.{GridCell}
 use Rattle.html_render_parts.specs.declared.table.placement.Place.{Place}
 use Rattle.html_render_parts.specs.declared.table.placement.PositionedCell.{PositionedCell}
 use Rattle.html_render_parts.specs.Placement.{gap_to, hanging, own_from, place_from, placed_rows, rest_from, row_from, rows_from, due_end, due_places, not_due}
-use Rattle.html_render_parts.specs.Grid.{edges_of, numbered, positions_fit, rank}
+use Rattle.html_render_parts.specs.Grid.{edges_of, numbered, rank}
+use Rattle.html_render_parts.specs.Positions.{positions_fit}
 use Rattle.html_render_parts.specs.TableCells.{cell_grid_of, cells_on, is_cell}
 use Rattle.html_render_parts.specs.OwnCells.{on_columns, own_grid_of, own_rows_from}
 

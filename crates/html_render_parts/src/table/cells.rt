@@ -11,7 +11,8 @@ ghost use Rattle.html_render_parts.specs.Placement.{hanging, lists, own_from, pl
 ghost use Rattle.html_render_parts.specs.OwnCells.{own_rows_from, on_columns};
 ghost use Rattle.html_render_parts.specs.PlacementSteps.{AreAhead, fitting_positions, places_ahead, row_fits, row_told, rows_ahead};
 ghost use Rattle.html_render_parts.specs.SimpleRows.{AllStoredFit, StoredFit, fitting_row, own_or_simple, own_placed, own_rows_on, own_with_simple, row_on};
-ghost use Rattle.html_render_parts.specs.Grid.{AreValid, edges_of, positions_fit};
+ghost use Rattle.html_render_parts.specs.Grid.{AreValid, edges_of};
+ghost use Rattle.html_render_parts.specs.Positions.{positions_fit};
 ghost use Rattle.html_render_parts.specs.TableCells.{cell_grid_of, columns_of, rows_on, span_on};
 ghost use Rattle.html_render_parts.specs.Refusal.{Fails};
 

@@ -2,7 +2,8 @@
 
 ghost use Rattle.std.specs.Prelude.{◌≡◌, ◌↔◌, ◌⊎◌, ◌&&◌, ◌+◌, ◌<◌, ◌≤◌, ℕ, Bool, List, [], Some, All, Any, Contains, length, map, take, drop, count_by, option_map, slice_index_or, sum_by};
 ghost use Rattle.std.specs.List.Sorted.{IsStrictlyIncreasing};
-ghost use Rattle.html_render_parts.specs.Placement.{bottom_rows, hanging, hangs_into, own_from, placed_rows, row_from};
+ghost use Rattle.html_render_parts.specs.Placement.{bottom_rows, hanging, own_from, placed_rows, row_from};
+ghost use Rattle.html_render_parts.specs.Positions.{hangs_into};
 ghost use Rattle.html_render_parts.specs.PlacementSteps.{IsByColumn};
 ghost use Rattle.html_render_parts.specs.Grid.{AreSideBySide, grid_of, IsLeastNumbering, IsNumbering, rank};
 ghost use Rattle.html_render_parts.specs.TableCells.{CellGrid, IsCellGrid, cell_grid_of, columns_of, rows_on, spans_on};

@@ -3,7 +3,8 @@
 ghost use Rattle.std.specs.Prelude.{◌≡◌, ◌≤◌, ◌∷◌, ◌++◌, All, map, IfOk, OnOk};
 ghost use Rattle.std.specs.List.Sorted.{IsStrictlyIncreasing};
 ghost use Rattle.html_render_parts.specs.Placement.{lists, rising};
-ghost use Rattle.html_render_parts.specs.Grid.{ends, edges_of, numbered, rank};
+ghost use Rattle.html_render_parts.specs.Grid.{edges_of, numbered, rank};
+ghost use Rattle.html_render_parts.specs.Positions.{ends};
 
 use crate::table::PlacedCell;
 use crate::table::placement::Place;

@@ -2,7 +2,8 @@
 
 ghost use Rattle.std.specs.Prelude.{◌≡◌, ◌↔◌, ◌≤◌, ◌∷◌, nat_lt, [], Some, filter, IsTrue, IfOk, OnOk, IfErr, MatchBool, MatchOption, Contains, All};
 ghost use Rattle.html_render_dom_values.specs.Outcome.{OnlyOutOfMemory};
-ghost use Rattle.html_render_parts.specs.Placement.{bottom_rows, end_of, hangs_into, lists, not_due, placed_rows};
+ghost use Rattle.html_render_parts.specs.Placement.{bottom_rows, end_of, lists, not_due, placed_rows};
+ghost use Rattle.html_render_parts.specs.Positions.{hangs_into};
 ghost use Rattle.html_render_parts.specs.PlacementSteps.{empty_row, put, put_to, telling_end, owning, keeping, with_hanging, with_due, with_own};
 ghost use Rattle.html_render_parts.specs.PlacementSteps.{with_gap, with_rest, with_row, nothing_placed, with_next_row, IsNextBottom, fitting_positions};
 ghost use Rattle.html_render_parts.specs.Refusal.{Fails};

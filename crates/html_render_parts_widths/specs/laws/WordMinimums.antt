@@ -10,7 +10,8 @@ use Rattle.html_render_parts_widths.specs.declared.shares.ColumnNeed.{ColumnNeed
 use Rattle.html_render_parts_widths.specs.Cuts.{total_width, without_units, cut_by_units, CutFits, IsCut, IsFairestCut}
 use Rattle.html_render_parts_widths.specs.Needs.{no_need}
 use Rattle.html_render_parts_widths.specs.Shares.{least_widths, share, shares, stand_side_by_side, widths_across}
-use Rattle.html_render_parts_widths.specs.Shares.{whole_width, whole_widths, word_minimums, greater_ones, word_shares, HaveShortWords}
+use Rattle.html_render_parts_widths.specs.Shares.{whole_widths, word_minimums, word_shares, HaveShortWords}
+use Rattle.html_render_parts_widths.specs.CutSteps.{whole_width, greater_ones}
 use Rattle.html_render_parts_widths.specs.laws.Cuts.{cut-within, few-units}
 use Rattle.html_render_parts_widths.specs.laws.SharesFit.{div-both, shares_fit}
 use Rattle.html_render_parts_widths.specs.laws.UnitCut.{cut_by_units-fairest}

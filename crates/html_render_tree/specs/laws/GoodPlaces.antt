@@ -10,10 +10,10 @@ use Rattle.html_render_parts.specs.declared.table.Span.{Span}
 use Rattle.html_render_parts.specs.declared.table.cells.GridCell.{GridCell}
 use Rattle.html_render_parts.specs.declared.table.placement.PositionedCell.{PositionedCell}
 use Rattle.html_render_layout_nodes.specs.declared.tree.NodeKind.{NodeKind}
-use Rattle.html_render_layout_nodes.specs.declared.tree.NodeKind.TheVariants.{Table, TableRow, TableCell}
+use Rattle.html_render_layout_nodes.specs.declared.tree.NodeKind.TheVariants.{Text, Break, Image, Svg, FragmentStart, Table, TableRow, TableCell}
 use Rattle.html_render_tree_convert.specs.Results.{in_first}
 use Rattle.html_render_tree_convert.specs.Held.{Nodes}
-use Rattle.html_render_tree.specs.GoodTrees.{TreePlace, Anywhere, InTable, InRow, is_leaf, places_around, are_good}
+use Rattle.html_render_tree.specs.GoodTrees.{TreePlace, Anywhere, InTable, InRow, places_around, are_good}
 
 -- two tests, each of which follows from another
 and-map : {a b a' b' : Bool} → (a ≡ true → a' ≡ true) → (b ≡ true → b' ≡ true) → (a && b) ≡ true → (a' && b') ≡ true
@@ -52,6 +52,15 @@ pub own_rows-alike : (edges : List ℕ) (row : ℕ) (hung : List PositionedCell)
 own_rows-alike edges row hung [] = refl
 own_rows-alike edges row hung (cells ∷ rows) =
     rw (own-alike edges row 0 hung cells, own_rows-alike edges (row + 1) (hanging (row + 1) (hung ++ own_from row 0 hung cells)) rows) refl
+
+-- whether nodes of a kind have no children: texts, line breaks, images, drawings and fragment marks
+abbrev pub is_leaf : NodeKind → Bool
+is_leaf (Text text) = true
+is_leaf Break = true
+is_leaf (Image image) = true
+is_leaf (Svg title) = true
+is_leaf (FragmentStart name) = true
+is_leaf _ = false
 
 -- ---- a first tree and its later siblings
 

@@ -1,13 +1,14 @@
 -- THE RENDER TREE of a document is good.
 use Rattle.std.proofs.Common.{◌≡◌, ℕ, Bool, true, false, not, ◌||◌, if◌then◌else◌, List, [], ◌∷◌, ◌++◌, map, flat_map, filter, Option, Some, None}
-use Rattle.std.proofs.Common.{IfSome, option_map, option_to_list, refl, sym, ap, ◌∙◌, subst, option_and_then, is_some}
+use Rattle.std.proofs.Common.{IfSome, option_map, option_to_list, unwrap_or, refl, sym, ap, ◌∙◌, subst, option_and_then, is_some}
 use Rattle.std.proofs.lemmas.Bool.{and_from, cond_both, or_left, or_parts, or_right}
 use Rattle.html_render_dom_values.specs.Forest.{Forest, none, node, followed_by}
 use Rattle.html_render_dom_nodes.specs.Content.{Content, Property, Space, element, html, svg}
 use Rattle.html_render_dom.specs.Dom.{Dom, tree_of}
 use Rattle.html_render_dom_styles.specs.Rules.{Rule as StyleRule}
 use Rattle.html_render_dom_styles.specs.Selectors.{is_filled}
-use Rattle.html_render_parts.specs.Grid.{edges_of, positions_fit}
+use Rattle.html_render_parts.specs.Grid.{edges_of}
+use Rattle.html_render_parts.specs.Positions.{positions_fit}
 use Rattle.html_render_parts.specs.Placement.{placed_rows}
 use Rattle.html_render_parts.specs.TableCells.{CellGrid, cell_grid_of}
 use Rattle.html_render_parts.specs.laws.OwnCells.{cells-own}
@@ -29,14 +30,15 @@ use Rattle.html_render_tree_convert.specs.declared.plans.Element.{Element}
 use Rattle.html_render_tree_convert.specs.declared.plans.Plan.{Plan}
 use Rattle.html_render_tree_convert.specs.declared.plans.Plan.TheVariants as plan
 use Rattle.html_render_tree_convert.specs.declared.tables.Part.TheVariants as part
-use Rattle.html_render_tree_convert.specs.Plans.{inserts, plan_of, insertion_of, text_nodes, displayed_plan}
-use Rattle.html_render_tree_convert.specs.Held.{Nodes}
+use Rattle.html_render_tree_convert.specs.Plans.{plan_of, text_nodes, displayed_plan}
+use Rattle.html_render_tree_convert.specs.Held.{Nodes, all_alone, inserts, insertion_of}
+use Rattle.html_render_tree_convert.specs.Steps.{are_rows}
 use Rattle.html_render_tree_convert.specs.Results.{Result, beside, nodes_of, of_role, stands_alone}
-use Rattle.html_render_tree_convert.specs.Results.{is_caption, any_stray, has_stray, are_rows, cell_of, row_of, spans_of, table_over, captioned}
-use Rattle.html_render_tree_convert.specs.Results.{keeps, built, children_in, is_nothing, left_of, level_in, made, over, over_children}
-use Rattle.html_render_tree_convert.specs.Results.{result_of, results, render_tree_of, all_alone, alone, inserted}
-use Rattle.html_render_tree.specs.GoodTrees.{TreePlace, Anywhere, InTable, InRow, is_leaf, is_over, are_good, places_around}
-use Rattle.html_render_tree.specs.laws.GoodPlaces.{are_good_below, cells_like, rows_like, own_rows-alike, rows-good-same, spanned_in-alike, followed-anywhere}
+use Rattle.html_render_tree_convert.specs.Results.{is_caption, any_stray, has_stray, cell_of, row_of, spans_of, table_over, captioned}
+use Rattle.html_render_tree_convert.specs.Results.{keeps, built, children_in, is_nothing, left_of, level_in, made, over}
+use Rattle.html_render_tree_convert.specs.Results.{result_of, results, render_tree_of, alone, inserted}
+use Rattle.html_render_tree.specs.GoodTrees.{TreePlace, Anywhere, InTable, InRow, is_over, are_good, places_around}
+use Rattle.html_render_tree.specs.laws.GoodPlaces.{is_leaf, are_good_below, cells_like, rows_like, own_rows-alike, rows-good-same, spanned_in-alike, followed-anywhere}
 use Rattle.html_render_tree.specs.laws.GoodPlaces.{followed-rows, into_cell-good, into_row-good, between-good}
 use Rattle.std.specs.List.{list_any, AllByRecursion}
 use Rattle.std.specs.Option.{option_map_or}
@@ -118,6 +120,9 @@ cells_of x = option_to_list (cell_of x)
 abbrev rows_of : Role → List (List Span)
 rows_of x = option_to_list (row_of x)
 
+abbrev spans_in : Role → List (List Span)
+spans_in x = unwrap_or (spans_of x) []
+
 abbrev all_of : {X : Type 0} (own : Role → List X) → List Result → List X
 all_of own rs = flat_map (λ r. own r.role) rs
 
@@ -140,8 +145,8 @@ rows-fit : Fits is_row rows_of (λ rows. InTable (rows_like rows))
 rows-fit (Row cells) n t u rows e h k = rw h.0 (and_from _ _ h.1 k)
 rows-fit role n t u rows e h k = cc
 
-parts-fit : Fits are_rows spans_of (λ spans. InTable (rows_like spans))
-parts-fit (Rows rows) n t u spans e h k = followed-rows (spans_of (Rows rows)) spans t u (rw (spanned_in-alike _ rows) h) k
+parts-fit : Fits are_rows spans_in (λ spans. InTable (rows_like spans))
+parts-fit (Rows rows) n t u spans e h k = followed-rows (spans_in (Rows rows)) spans t u (rw (spanned_in-alike _ rows) h) k
 parts-fit role n t u spans e h k = cc
 
 module _ {X : Type 0} (is : Role → Bool) (own : Role → List X) (at : List X → TreePlace) (last : is_over (at []) ≡ true) (first : Fits is own at) where
@@ -322,10 +327,10 @@ module _ (e : Element) where
       AllGood (map as_block captions) → AllGood others → IfSome (built kind style captions others) (IsGoodAs kind (is_filled captions))
   built-good (Part part.Table) style captions others i c g =
       let parts = of_role are_rows others in
-      good-then _ _ (option_map unmeasured_table (cell_grid_of (all_of spans_of parts))) (grid-alike (all_of spans_of parts))
+      good-then _ _ (option_map unmeasured_table (cell_grid_of (all_of spans_in parts))) (grid-alike (all_of spans_in parts))
       (λ grid a. table-good style grid parts captions
       (λ s. sym (rows-good-same grid.cells.rows (beside parts)) ∙ ap (λ all. are_good (InTable all) (beside parts)) a ∙
-      picked-good are_rows spans_of (λ spans. InTable (rows_like spans)) refl parts-fit others g s) c)
+      picked-good are_rows spans_in (λ spans. InTable (rows_like spans)) refl parts-fit others g s) c)
   built-good (Part part.Body) style captions others i c g =
       let rows = of_role is_row others in λ s.
       into_row-good front back f b (rows_like (all_of rows_of rows)) (beside rows)
@@ -372,7 +377,8 @@ module _ (inside : Pick → Option (List Result)) (g : (pick : Pick) → IfSome 
       (λ c good. made-good e c.0 c.1 (built-good e e.kind e.style c.0 c.1 h good.0 good.1))
   node-good (plan.Over e false) h = by e.kind h
     where
-      by : (kind : ElementKind) → is_inner false kind ≡ true → IfSome (over_children (record e { kind = kind }) (λ pick. Some [])) IsGoodIfAny
+      by : (kind : ElementKind) → is_inner false kind ≡ true →
+          IfSome (option_and_then (λ (c : List Result × List Result). made (record e { kind = kind }) c.0 c.1) (children_in kind (λ pick. Some []))) IsGoodIfAny
       by (Node kind) i = let e' = record e { kind = Node kind } in made-good e' [] [] (over-good e' e.style kind [] false tt (λ k. i))
       by (Part p) i = cc
 

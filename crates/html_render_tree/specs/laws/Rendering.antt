@@ -14,12 +14,12 @@ use Rattle.html_render_layout_nodes.specs.declared.tree.RenderNode.{RenderNode}
 use Rattle.html_render_layout_estimates.specs.declared.settings.LayoutSettings.{LayoutSettings}
 use Rattle.html_render_layout_nodes.specs.Visitor.{run}
 use Rattle.html_render_layout_blocks.specs.declared.block.BlockSetting.{BlockSetting}
-use Rattle.html_render_layout.specs.Layout.{layout_lines, mark_names, Defined, defined, estimated, empty_state, unannotated}
+use Rattle.html_render_layout.specs.Layout.{layout_lines, mark_names, by_stacks, layout_of, Defined, estimated, empty_state, unannotated}
 use Rattle.html_render_layout.specs.Promises.{AreLines}
 use Rattle.html_render_layout.specs.laws.Promises.{lines_there, same-names, texts_left}
 use Rattle.html_render_layout_tagged.specs.Grouping.{LinePart, grouped}
 use Rattle.html_render_tree.specs.Rendering.{document_block, Options, rendered_lines, rendered_names, rendered_strings, KeepsPromises, Rendered, AreStrings}
-use Rattle.html_render_tree.specs.Texts.{line_bytes, text_of}
+use Rattle.html_render_tree.specs.Texts.{text_of}
 
 -- ---- texts
 
@@ -32,7 +32,7 @@ module _ {T U : Type 0} (f : T → U) where
   -- the text of lines doesn't depend on their tags
   pub text-with : (ls : List (Line T ℕ)) → text_of (lines_with f ls) ≡ text_of ls
   text-with [] = refl
-  text-with (l ∷ ls) = ap (λ bs. (bs ++ 10 ∷ []) ++ text_of (lines_with f ls)) (bytes-with l) ∙ ap (λ bs. line_bytes l ++ bs) (text-with ls)
+  text-with (l ∷ ls) = ap (λ bs. (bs ++ 10 ∷ []) ++ text_of (lines_with f ls)) (bytes-with l) ∙ ap (λ bs. (text_bytes l ++ 10 ∷ []) ++ bs) (text-with ls)
 
 -- ---- lines and names
 
@@ -52,7 +52,7 @@ pub none_together : {S A : Type 0} (d : Decoration S A) (settings : LayoutSettin
     (block : BlockSetting) →
     (layout_lines d settings tree decorator block ≡ None) ↔ (mark_names d settings tree decorator block ≡ None)
 none_together {S} {A} d settings tree decorator block =
-    together {X = Defined S A} {Y = Defined S A} (block.width == 0) (run (defined d) (estimated d settings decorator tree) (empty_state d settings decorator block))
+    together {X = Defined S A} {Y = Defined S A} (block.width == 0) (run (layout_of (by_stacks d)) (estimated d settings decorator tree) (empty_state d settings decorator block))
     _ (λ (s : Defined S A). s.block.lines) (λ (s : Defined S A). s.names)
 
 -- ---- promises of lines

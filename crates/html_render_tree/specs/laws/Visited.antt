@@ -22,16 +22,15 @@ use Rattle.html_render_layout.specs.Layout.{Shared, Prefixed, Indented}
 use Rattle.html_render_layout.specs.declared.state.LayoutState.{LayoutState}
 use Rattle.html_render_layout_blocks.specs.declared.block.BlockSetting.{BlockSetting}
 use Rattle.html_render_layout_estimates.specs.Estimates.{measured_kind, measured}
-use Rattle.html_render_layout_estimates.specs.Passes.{has_table}
 use Rattle.html_render_layout_estimates.specs.Words.{shapes, with_words, worded, worded_kind}
 use Rattle.html_render_layout_estimates.specs.declared.words.WordShape.{WordShape}
 use Rattle.html_render_layout_estimates.specs.declared.settings.LayoutSettings.{LayoutSettings}
 use Rattle.html_render_parts.specs.Decoration.{Decoration}
 use Rattle.html_render_layout.specs.Layout.{Algebra, Write, Shape, Steps, Around, Items, Cells, digits_of, raised, superscript, block_of, shape_of, style_steps}
 use Rattle.html_render_layout.specs.Layout.{perform_all, block_place, shape_layout, kind_layout, layout_of}
-use Rattle.html_render_layout.specs.Layout.{by_stacks, defined, empty_state, estimated, layout_lines}
-use Rattle.html_render_tree.specs.GoodTrees.{TreePlace, Anywhere, InTable, InRow, is_leaf, places_around, are_good}
-use Rattle.html_render_tree.specs.laws.GoodPlaces.{are_good_below}
+use Rattle.html_render_layout.specs.Layout.{by_stacks, empty_state, estimated, layout_lines}
+use Rattle.html_render_tree.specs.GoodTrees.{TreePlace, Anywhere, InTable, InRow, places_around, are_good}
+use Rattle.html_render_tree.specs.laws.GoodPlaces.{are_good_below, is_leaf}
 use Rattle.html_render_tree.specs.Visited.{all_nodes, VisitedNode, visits_at, is_raised, leaves_out, with_left_out, left_out, VisitsAllBut}
 
 -- ---- trees whose leaves have no children
@@ -439,7 +438,7 @@ module _ (settings : LayoutSettings) where
 
   -- what words leave as it is
   words-same : {X : Type 0} (f : Forest RenderNode → X) (t : Forest RenderNode) → f (worded settings t) ≡ f t → f (with_words settings t) ≡ f t
-  words-same f t same = by (settings.whole_words && has_table t)
+  words-same f t same = by settings.whole_words
     where
       by : (b : Bool) → f (if b then worded settings t else t) ≡ f t
       by true = same
@@ -458,13 +457,13 @@ module _ (settings : LayoutSettings) where
 pub lines_visit_all : {S A : Type 0} (d : Decoration S A) (settings : LayoutSettings) (t : Forest RenderNode) (decorator : S) (block : BlockSetting) →
     are_good Anywhere t ≡ true →
     IfSome (layout_lines d settings t decorator block) (λ lines.
-    VisitsAllBut (defined d) (estimated d settings decorator t) (empty_state d settings decorator block))
+    VisitsAllBut (layout_of (by_stacks d)) (estimated d settings decorator t) (empty_state d settings decorator block))
 lines_visit_all {S} {A} d settings t decorator block h =
     let trees = estimated d settings decorator t in
     let start = empty_state d settings decorator block in
-    if_cases (λ x. IfSome x (λ lines. VisitsAllBut (defined d) trees start)) (block.width == 0) _ _ (λ _. tt) (λ _.
-    bind_some (λ r. VisitsAllBut (defined d) trees start) (λ lines. VisitsAllBut (defined d) trees start) _ (run (defined d) trees start)
+    if_cases (λ x. IfSome x (λ lines. VisitsAllBut (layout_of (by_stacks d)) trees start)) (block.width == 0) _ _ (λ _. tt) (λ _.
+    bind_some (λ r. VisitsAllBut (layout_of (by_stacks d)) trees start) (λ lines. VisitsAllBut (layout_of (by_stacks d)) trees start) _ (run (layout_of (by_stacks d)) trees start)
     (visits-all (by_stacks d) trees start
     (words-good settings Anywhere (measured d (d.subblock (d.subblock decorator)) settings t)
     ∙ measured-good d (d.subblock (d.subblock decorator)) settings Anywhere t ∙ h))
-    (λ r k. always (VisitsAllBut (defined d) trees start) _ k))
+    (λ r k. always (VisitsAllBut (layout_of (by_stacks d)) trees start) _ k))

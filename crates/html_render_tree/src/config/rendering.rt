@@ -3,7 +3,7 @@
 ghost use Rattle.std.specs.Prelude.{◌≡◌, List, true, false, Some, Err, IfOk, IfErr, option_map, string_bytes};
 ghost use Rattle.html_render_dom_values.specs.Outcome.{Refuses};
 ghost use Rattle.html_render_layout_nodes.specs.Counts.{CountsNodes};
-ghost use Rattle.html_render_layout.specs.Layout.{defined, estimated, empty_state};
+ghost use Rattle.html_render_layout.specs.Layout.{by_stacks, estimated, empty_state, layout_of};
 ghost use Rattle.html_render_layout_tagged.specs.Colouring.{IsColoured};
 ghost use Rattle.html_render_layout_tagged.specs.Grouping.{LinePart, lines_of};
 ghost use Rattle.html_render_layout_tagged.specs.TaggedLine.{AllTaggedWithinWidth};
@@ -124,7 +124,7 @@ impl<D: TextDecorator> Config<D> {
         ensures promises { KeepsPromises D.decoration self.now tree width result }
 
         // counts of visited nodes and of nodes open at once, exact with lines and at most these without
-        ensures counts { CountsNodes result (defined D.decoration)
+        ensures counts { CountsNodes result (layout_of (by_stacks D.decoration))
             (estimated D.decoration self.now.settings self.now.decorator tree)
             (empty_state D.decoration self.now.settings self.now.decorator (document_block self.now width)) meter.old meter.new }
     {

@@ -5,7 +5,7 @@ ghost use Rattle.html_render_dom_values.specs.Forest.{Forest, count, depth};
 ghost use Rattle.html_render_layout_blocks.specs.declared.block.BlockSetting.{BlockSetting};
 ghost use Rattle.html_render_layout_estimates.specs.Estimates.{measured};
 ghost use Rattle.html_render_layout_estimates.specs.Words.{with_words};
-ghost use Rattle.html_render_layout.specs.Layout.{defined, empty_state, estimated, layout_lines};
+ghost use Rattle.html_render_layout.specs.Layout.{by_stacks, empty_state, estimated, layout_lines, layout_of};
 ghost use Rattle.html_render_tree.specs.GoodTrees.{Anywhere, are_good};
 ghost use Rattle.html_render_tree.specs.Visited.{VisitsAllBut};
 
@@ -19,7 +19,7 @@ use html_render_parts::decorate::TextDecorator;
 fn layouts_visit_all_nodes<D: TextDecorator>()
     ensures { (settings : LayoutSettings) (tree : Forest RenderNode) (decorator : D) (block : BlockSetting) → are_good Anywhere tree ≡ true →
         IfSome (layout_lines D.decoration settings tree decorator block) (λ lines.
-        VisitsAllBut (defined D.decoration) (estimated D.decoration settings decorator tree)
+        VisitsAllBut (layout_of (by_stacks D.decoration)) (estimated D.decoration settings decorator tree)
         (empty_state D.decoration settings decorator block)) }
 {}
 

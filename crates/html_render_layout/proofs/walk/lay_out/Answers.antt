@@ -2,7 +2,7 @@ use Rattle.std.proofs.Common.{◌≡◌, Some, IfOk, IfErr, refl, sym, ◌∙◌
 use Rattle.std.proofs.lemmas.Result.{IfOk-weaker}
 use Rattle.html_render_dom_values.specs.Outcome.{Refuses}
 use Rattle.html_render_layout_nodes.specs.laws.Counts.{none-counted}
-use Rattle.html_render_layout.specs.Layout.{defined, empty_state, estimated, layout_lines}
+use Rattle.html_render_layout.specs.Layout.{by_stacks, empty_state, estimated, layout_lines, layout_of}
 use Rattle.html_render_layout.specs.laws.LayoutWorks.{empty_worked, layout_lines-works, mark_names-works, counts-work}
 use Rattle.html_render_layout.specs.laws.Promises.{are-lines, wide_enough}
 use Rattle.html_render_layout.specs.Working.{work_lines}
@@ -51,18 +51,18 @@ returns-clause-counts g c =
 
 pub returns-then-block-eq0-clause-counts : goal.returns-then-block-eq0-clause-counts
 returns-then-block-eq0-clause-counts g c =
-    none-counted _ (λ e. Unit {0}) tt (defined g.D.TextDecorator.decoration)
+    none-counted _ (λ e. Unit {0}) tt (layout_of (by_stacks g.D.TextDecorator.decoration))
     (estimated g.D.TextDecorator.decoration c.args.settings.now c.args.decorator.now c.args.tree)
     (empty_state g.D.TextDecorator.decoration c.args.settings.now c.args.decorator.now c.args.block) _ _ refl refl refl refl
 
 pub returns-in_err-own-clause-counts : goal.returns-in_err-own-clause-counts
 returns-in_err-own-clause-counts g c =
-    none-counted _ _ c.from_residual.ensures.1 (defined g.D.TextDecorator.decoration)
+    none-counted _ _ c.from_residual.ensures.1 (layout_of (by_stacks g.D.TextDecorator.decoration))
     (estimated g.D.TextDecorator.decoration c.args.settings.now c.args.decorator.now c.args.tree)
     (empty_state g.D.TextDecorator.decoration c.args.settings.now c.args.decorator.now c.args.block) _ _ refl refl refl refl
 
 pub returns-in_err-block-clause-counts : goal.returns-in_err-block-clause-counts
 returns-in_err-block-clause-counts g c =
-    none-counted _ _ c.from_residual-in_err-block.ensures.1 (defined g.D.TextDecorator.decoration)
+    none-counted _ _ c.from_residual-in_err-block.ensures.1 (layout_of (by_stacks g.D.TextDecorator.decoration))
     (estimated g.D.TextDecorator.decoration c.args.settings.now c.args.decorator.now c.args.tree)
     (empty_state g.D.TextDecorator.decoration c.args.settings.now c.args.decorator.now c.args.block) _ _ refl refl refl refl

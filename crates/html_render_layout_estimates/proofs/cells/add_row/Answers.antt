@@ -1,5 +1,5 @@
 use Rattle.std.proofs.Common.{◌++◌, drop, sym, ap, ◌∙◌, append-nil}
-use Rattle.html_render_layout_estimates.specs.Cells.{row_needs}
+use Rattle.html_render_layout_estimates.specs.CellSteps.{row_needs}
 use Rattle.html_render_layout_estimates.proofs.NeedsOfCells.{row_without}
 use Rattle.html_render_layout_estimates.proofs.cells.add_row.Goals as goal
 

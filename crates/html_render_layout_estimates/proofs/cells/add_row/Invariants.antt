@@ -1,6 +1,6 @@
 use Rattle.std.proofs.Common.{◌≡◌, ◌++◌, drop}
 use Rattle.html_render_layout_nodes.specs.Preorder.{flatten, forest_of}
-use Rattle.html_render_layout_estimates.specs.Cells.{row_needs}
+use Rattle.html_render_layout_estimates.specs.CellSteps.{row_needs}
 use Rattle.html_render_layout_estimates.proofs.cells.add_row.Given as goal
 
 abbrev pub invariant-loop-cell : goal.invariant-loop-cell

@@ -1,5 +1,5 @@
 use Rattle.std.proofs.Common.{◌++◌, drop, sym, ap, ◌∙◌, append-nil}
-use Rattle.html_render_layout_estimates.specs.Words.{row_words}
+use Rattle.html_render_layout_estimates.specs.CellSteps.{row_words}
 use Rattle.html_render_layout_estimates.proofs.WordSpans.{row_words-without}
 use Rattle.html_render_layout_estimates.proofs.whole_words.add_row.Goals as goal
 

@@ -1,6 +1,6 @@
 use Rattle.std.proofs.Common.{◌≡◌, ◌++◌, drop}
 use Rattle.html_render_layout_nodes.specs.Preorder.{flatten, forest_of}
-use Rattle.html_render_layout_estimates.specs.Words.{cell_words}
+use Rattle.html_render_layout_estimates.specs.CellSteps.{cell_words}
 use Rattle.html_render_layout_estimates.proofs.whole_words.add_rows.Given as goal
 
 abbrev pub invariant-loop-at : goal.invariant-loop-at

@@ -2,7 +2,7 @@ use Rattle.std.proofs.Common.{◌+◌, ◌≡◌, ◌∙◌, ◌-◌, get_or, ta
 use Rattle.html_render_layout_nodes.specs.declared.tree.Entry.{Entry}
 use Rattle.html_render_layout_nodes.specs.declared.tree.RenderNode.{RenderNode}
 use Rattle.html_render_layout_nodes.specs.Preorder.{flatten, forest_of}
-use Rattle.html_render_layout_estimates.specs.Words.{node_shape, worded_node}
+use Rattle.html_render_layout_estimates.specs.WordSteps.{node_shape, worded_node}
 use Rattle.html_render_layout_estimates.proofs.Backward.{Backward-start, Backward-at, Backward-done, Next-here, Next-part, Next-done}
 use Rattle.html_render_layout_estimates.proofs.Onward.{changed_worded}
 use Rattle.html_render_layout_estimates.proofs.whole_words.add_tree_words.Goals as goal

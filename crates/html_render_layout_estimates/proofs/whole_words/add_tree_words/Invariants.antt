@@ -1,5 +1,5 @@
 use Rattle.html_render_layout_nodes.specs.Preorder.{forest_of}
-use Rattle.html_render_layout_estimates.specs.Words.{node_shape, worded_node}
+use Rattle.html_render_layout_estimates.specs.WordSteps.{node_shape, worded_node}
 use Rattle.html_render_layout_estimates.proofs.Backward.{Backward}
 use Rattle.html_render_layout_estimates.proofs.whole_words.add_tree_words.Given as goal
 

@@ -2,7 +2,7 @@ use Rattle.std.proofs.Common.{◌++◌, sym, ap, ◌∙◌, subst}
 use Rattle.html_render_parts_widths.specs.Spans.{AreOver}
 use Rattle.html_render_parts.specs.TableCells.{columns_of}
 use Rattle.html_render_layout_nodes.specs.Preorder.{forest_of}
-use Rattle.html_render_layout_estimates.specs.Words.{cell_words}
+use Rattle.html_render_layout_estimates.specs.CellSteps.{cell_words}
 use Rattle.html_render_layout_estimates.proofs.WordSpans.{cells_over}
 use Rattle.html_render_layout_estimates.proofs.whole_words.cell_words.Goals as goal
 

@@ -2,7 +2,7 @@ use Rattle.std.proofs.Common.{map, ap, ◌∙◌}
 use Rattle.std.specs.List.{range_with_len}
 use Rattle.html_render_parts_widths.specs.Spans.{greatest_at}
 use Rattle.html_render_layout_nodes.specs.Preorder.{forest_of}
-use Rattle.html_render_layout_estimates.specs.Words.{cell_words}
+use Rattle.html_render_layout_estimates.specs.CellSteps.{cell_words}
 use Rattle.html_render_layout_estimates.proofs.WordSpans.{greatest_are}
 use Rattle.html_render_layout_estimates.proofs.whole_words.column_words.Goals as goal
 

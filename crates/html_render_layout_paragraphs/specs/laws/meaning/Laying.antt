@@ -9,8 +9,9 @@ use Rattle.html_render_layout_lines.specs.declared.character.Character.{Characte
 use Rattle.html_render_layout_lines.specs.declared.character.Item.TheVariants as item
 use Rattle.html_render_layout_lines.specs.Character.{width_of}
 use Rattle.html_render_layout_lines.specs.Line.{Line, columns, is_empty}
-use Rattle.html_render_layout_paragraphs.specs.Paragraph.{Piece, Word, Gap, Cut, Single, Loose, LineBuffer, Setting, with_waiting_mark, with_line_break, tab_spaces}
-use Rattle.html_render_layout_paragraphs.specs.Paragraph.{put_character, put_items, put_word, put_single, put_fitting, page_for_single, place, continued}
+use Rattle.html_render_layout_paragraphs.specs.Paragraph.{Piece, Word, Gap, Cut, Single, Loose, LineBuffer, Setting, with_waiting_mark, tab_spaces}
+use Rattle.html_render_layout_paragraphs.specs.Placing.{with_line_break, put_word}
+use Rattle.html_render_layout_paragraphs.specs.Paragraph.{put_character, put_items, put_single, put_fitting, page_for_single, place, continued}
 use Rattle.html_render_layout_paragraphs.specs.Paragraph.{page_for_word, fits, with_character}
 use Rattle.html_render_layout_paragraphs.specs.laws.Whole.{then_same}
 use Rattle.html_render_layout_lines.specs.laws.Cases.{if_cases, if_false, is_empty-cons}

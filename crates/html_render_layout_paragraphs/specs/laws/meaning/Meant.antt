@@ -7,7 +7,8 @@ use Rattle.html_render_layout_lines.specs.declared.character.Character.{Characte
 use Rattle.html_render_layout_lines.specs.declared.character.Item.{Item}
 use Rattle.html_render_layout_lines.specs.declared.character.Item.TheVariants as item
 use Rattle.html_render_layout_lines.specs.Line.{Line, columns, word_columns}
-use Rattle.html_render_layout_paragraphs.specs.Paragraph.{LineBuffer, Setting, all_lines, pieces, paragraph, empty_buffer, put_items, put_word, put_character}
+use Rattle.html_render_layout_paragraphs.specs.Paragraph.{LineBuffer, Setting, all_lines, pieces, paragraph, empty_buffer, put_items, put_character}
+use Rattle.html_render_layout_paragraphs.specs.Placing.{put_word}
 use Rattle.html_render_layout_paragraphs.specs.Meaning.{Part, Whole, Between, Soft, Break, Stop, SoftStop, Marked, letter, spaced, with_whole, with_letter, IsNotEmpty}
 use Rattle.html_render_layout_paragraphs.specs.Meaning.{StandOn, nothing, whole, between, no_between, soft, no_soft, marked, none, last, broken, full, stop, soft_stop}
 use Rattle.html_render_layout_paragraphs.specs.Meaning.{spaces_behind, parts, IsParagraph, character_count, alone, cut}

@@ -7,7 +7,8 @@ use Rattle.html_render_layout_lines.specs.declared.character.Item.{Item}
 use Rattle.html_render_layout_lines.specs.declared.character.Item.TheVariants as item
 use Rattle.html_render_layout_lines.specs.Line.{Line, columns, is_empty}
 use Rattle.html_render_layout_paragraphs.specs.Paragraph.{LineBuffer, Setting, all_lines, continued, pieces, paragraph, empty_buffer, put_character, put_items}
-use Rattle.html_render_layout_paragraphs.specs.Paragraph.{put_word, put_fitting}
+use Rattle.html_render_layout_paragraphs.specs.Paragraph.{put_fitting}
+use Rattle.html_render_layout_paragraphs.specs.Placing.{put_word}
 use Rattle.html_render_layout_paragraphs.specs.laws.Whole.{then_assoc, then_same, put_items-append}
 use Rattle.html_render_layout_lines.specs.laws.Cases.{is_empty-cons}
 use Rattle.html_render_layout_paragraphs.specs.Meaning.{Part, Whole, Soft, Break, Stop, SoftStop, letter, with_whole, with_letter, IsNotEmpty}

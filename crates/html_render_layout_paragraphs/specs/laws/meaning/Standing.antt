@@ -7,7 +7,8 @@ use Rattle.html_render_layout_lines.specs.declared.character.Item.{Item}
 use Rattle.html_render_layout_lines.specs.declared.character.Kind.TheVariants.{Preserved}
 use Rattle.html_render_layout_lines.specs.Character.{width_of}
 use Rattle.html_render_layout_lines.specs.Line.{Line, columns, word_columns}
-use Rattle.html_render_layout_paragraphs.specs.Paragraph.{LineBuffer, Setting, continued, page_for_word, page_for_single, put_word, put_items, put_fitting}
+use Rattle.html_render_layout_paragraphs.specs.Paragraph.{LineBuffer, Setting, continued, page_for_word, page_for_single, put_items, put_fitting}
+use Rattle.html_render_layout_paragraphs.specs.Placing.{put_word}
 use Rattle.html_render_layout_paragraphs.specs.Paragraph.{with_due_space, fits}
 use Rattle.html_render_layout_lines.specs.laws.Cases.{if_true, if_false, is_empty-cons}
 use Rattle.html_render_layout_paragraphs.specs.Meaning.{Part, Whole, Between, Soft, Marked, spaced, with_whole, with_letter, character_count, StandOn}

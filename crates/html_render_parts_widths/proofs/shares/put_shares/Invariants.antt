@@ -1,5 +1,6 @@
 use Rattle.std.proofs.Common.{◌≡◌, ◌++◌, drop, map}
-use Rattle.html_render_parts_widths.specs.Shares.{greater_ones, share}
+use Rattle.html_render_parts_widths.specs.Shares.{share}
+use Rattle.html_render_parts_widths.specs.CutSteps.{greater_ones}
 use Rattle.html_render_parts_widths.proofs.shares.put_shares.Given as goal
 
 -- the shares of the first columns, and those of the others, are all shares

@@ -2,7 +2,7 @@ use Rattle.std.proofs.Common.{◌≡◌, map-id, sym, ◌∙◌, subst}
 use Rattle.std.proofs.lemmas.Iterator.{YieldsList-from_chars}
 use Rattle.std.proofs.lemmas.Iterator.Consumers.{YieldsList-end}
 use Rattle.std.specs.Str.{chars}
-use Rattle.html_render_layout_blocks.specs.Closing.{on_one_line}
+use Rattle.html_render_layout_blocks.specs.RowSteps.{on_one_line}
 use Rattle.html_render_layout_blocks.proofs.block.closing.is_on_one_line.Goals as goal
 
 pub returns : goal.returns

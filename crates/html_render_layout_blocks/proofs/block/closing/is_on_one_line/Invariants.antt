@@ -1,5 +1,5 @@
 use Rattle.std.proofs.Common.{◌≡◌}
-use Rattle.html_render_layout_blocks.specs.Closing.{on_one_line}
+use Rattle.html_render_layout_blocks.specs.RowSteps.{on_one_line}
 use Rattle.html_render_layout_blocks.proofs.block.closing.is_on_one_line.Given as goal
 
 abbrev pub invariant-loop-c : goal.invariant-loop-c

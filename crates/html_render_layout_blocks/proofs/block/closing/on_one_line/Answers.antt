@@ -3,7 +3,7 @@ use Rattle.std.proofs.lemmas.Iterator.{YieldsList-from_chars}
 use Rattle.std.proofs.lemmas.Iterator.Consumers.{YieldsList-end}
 use Rattle.std.specs.Str.{chars}
 use lib.Utf8.{encodes}
-use Rattle.html_render_layout_blocks.specs.Closing.{on_one_line}
+use Rattle.html_render_layout_blocks.specs.RowSteps.{on_one_line}
 use Rattle.html_render_layout_blocks.proofs.Closing.{chars-unbroken}
 use Rattle.html_render_layout_blocks.proofs.block.closing.on_one_line.Goals as goal
 

@@ -3,7 +3,7 @@ use Rattle.std.proofs.lemmas.List.Elements.{All-nil}
 use Rattle.std.proofs.lemmas.List.{append-nil, drop_all, length-append}
 use Rattle.html_render_parts.specs.Placement.{bottom_rows, lists, own_from, placed_rows, rising, row_from, rows_from}
 use Rattle.html_render_parts.specs.OwnCells.{own_rows_from}
-use Rattle.html_render_parts.specs.Grid.{ends, positions_fit}
+use Rattle.html_render_parts.specs.Positions.{ends, positions_fit}
 use Rattle.html_render_parts.specs.PlacementSteps.{Placing, row_told}
 use Rattle.html_render_parts.specs.SimpleRows.{own_or_simple, own_placed, own_with_simple}
 use Rattle.html_render_parts.proofs.EdgeRanks.{Contains-here}

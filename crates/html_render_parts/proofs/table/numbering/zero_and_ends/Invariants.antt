@@ -1,5 +1,5 @@
 use Rattle.std.proofs.Common.{◌≡◌, ◌∷◌, ◌++◌, drop}
-use Rattle.html_render_parts.specs.Grid.{ends}
+use Rattle.html_render_parts.specs.Positions.{ends}
 use Rattle.html_render_parts.specs.Placement.{lists}
 use Rattle.html_render_parts.proofs.table.numbering.zero_and_ends.Given as goal
 

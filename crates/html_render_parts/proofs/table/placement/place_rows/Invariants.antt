@@ -1,6 +1,6 @@
 use Rattle.std.proofs.Common.{◌≡◌, ◌++◌, drop, length}
 use Rattle.html_render_parts.specs.Placement.{bottom_rows, lists, placed_rows, rows_from}
-use Rattle.html_render_parts.specs.Grid.{positions_fit}
+use Rattle.html_render_parts.specs.Positions.{positions_fit}
 use Rattle.html_render_parts.proofs.table.placement.place_rows.Given as goal
 
 abbrev pub invariant-loop-row : goal.invariant-loop-row

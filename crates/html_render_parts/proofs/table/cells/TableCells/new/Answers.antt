@@ -1,7 +1,8 @@
 use Rattle.std.proofs.Common.{◌≡◌, ◌+◌, ◌<◌, ◌^◌, ◌∷◌, [], All, ap, map, refl, subst, sym, ◌∙◌}
 use Rattle.html_render_parts.specs.Placement.{lists, placed_rows}
 use Rattle.html_render_parts.specs.OwnCells.{own_rows_from, on_columns}
-use Rattle.html_render_parts.specs.Grid.{edges_of, ends}
+use Rattle.html_render_parts.specs.Grid.{edges_of}
+use Rattle.html_render_parts.specs.Positions.{ends}
 use Rattle.html_render_parts.specs.laws.OwnCells.{cells-own}
 use Rattle.html_render_parts.proofs.CellsOnColumns.{cells-valid, own-within}
 use Rattle.html_render_parts.proofs.EdgeRanks.{IsStrictlyIncreasing-rising}

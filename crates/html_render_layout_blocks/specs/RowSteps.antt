@@ -1,0 +1,11 @@
+-- Parts of a row and of closing lines, as code makes them one by one.
+use Rattle.std.specs.Prelude.{ℕ, ◌==◌, List, [], map, Option, option_map, option_to_list, if◌then◌else◌}
+use Rattle.html_render_layout_pictures.specs.Picture.{KeptCell}
+
+-- Empty cell of a place, unless that is skipped.
+abbrev pub empty_cell : {T M : Type 0} → Option ℕ → List (KeptCell T M)
+empty_cell width = option_to_list (option_map (λ w. record { width = w; lines = []; marks = [] }) width)
+
+-- Text with a space for each newline.
+abbrev pub on_one_line : List ℕ → List ℕ
+on_one_line cs = map (λ c. if c == 10 then 32 else c) cs
