@@ -142,11 +142,17 @@ impl Recorder {
 
     #[inline]
     fn push(&mut self, step: Step) {
-        if self.steps.len() == self.steps.capacity() && self.steps.try_reserve(1).is_err() {
-            self.is_out_of_memory = true;
-            return;
+        if self.steps.len() < self.steps.capacity() || self.make_room() {
+            self.steps.push(step);
         }
-        self.steps.push(step);
+    }
+
+    /// Makes room for another step. Returns whether there is memory for it.
+    #[cold]
+    fn make_room(&mut self) -> bool {
+        let has_room = self.steps.try_reserve(1).is_ok();
+        self.is_out_of_memory |= !has_room;
+        has_room
     }
 
     /// Returns the number of nodes that were made.
@@ -163,6 +169,7 @@ impl Recorder {
     }
 
     /// Appends an element to the children of a node.
+    #[inline]
     pub fn element(&mut self, parent: Handle, space: u32, name: &LocalName) -> Handle {
         let (name, name_length) = self.keep_name(name);
         self.push(Step { kind: kind::APPEND_ELEMENT, flags: space, node: parent, name, name_length, ..Step::default() });
@@ -195,6 +202,7 @@ impl Recorder {
     }
 
     /// Appends a text to the children of a node. It joins a text before it.
+    #[inline]
     pub fn text(&mut self, parent: Handle, (value, value_length): Piece) {
         self.push(Step { kind: kind::PUT_TEXT, node: parent, value, value_length, ..Step::default() });
     }

@@ -343,10 +343,18 @@ impl Tree {
         self.insert(parent, before, node);
     }
 
+    /// Makes room for so many bytes of text. Returns whether there is memory for them.
+    #[cold]
+    fn make_room_for_text(&mut self, length: usize) -> bool {
+        self.text.try_reserve(length).is_ok()
+    }
+
     /// Keeps a text, without what the filter drops of it.
+    #[inline]
     fn keep(&mut self, text: &str) -> Piece {
         let start = self.text.len();
-        if start + text.len() > u32::MAX as usize || self.text.try_reserve(text.len()).is_err() {
+        let end = start + text.len();
+        if end > u32::MAX as usize || end > self.text.capacity() && !self.make_room_for_text(text.len()) {
             self.is_out_of_memory = true;
             return (0, 0);
         }
