@@ -2,7 +2,6 @@
 
 use crate::error::Error;
 use crate::lines::TaggedLine;
-use std::fmt::Write;
 use std::rc::Rc;
 use unicode_width::UnicodeWidthChar;
 
@@ -18,6 +17,24 @@ pub(crate) struct Footnotes {
 
 /// Maximum number of bytes of a line of fewer than 10 billion, beside its target and with its end.
 const NUMBER: usize = 16;
+
+/// Maximum number of digits of a number.
+const MAX_DIGITS: usize = 20;
+
+/// Appends a number in decimal.
+pub(crate) fn push_number(number: usize, text: &mut String) {
+    let mut digits = [0; MAX_DIGITS];
+    let (mut start, mut rest) = (MAX_DIGITS, number);
+    loop {
+        start -= 1;
+        digits[start] = b'0' + (rest % 10) as u8;
+        rest /= 10;
+        if rest == 0 {
+            break;
+        }
+    }
+    text.push_str(std::str::from_utf8(&digits[start..]).unwrap_or_default());
+}
 
 impl Footnotes {
     /// Returns the lines of all targets, in order.
@@ -35,8 +52,9 @@ impl Footnotes {
     /// Appends the line of a target to a text.
     fn push_line(&self, place: usize, target: &str, text: &mut String) {
         if self.are_numbered {
-            // a `String` takes all that is written
-            let _ = write!(text, "[{}]: ", place + 1);
+            text.push('[');
+            push_number(place + 1, text);
+            text.push_str("]: ");
         }
         text.push_str(target);
     }
@@ -107,6 +125,15 @@ mod tests {
 
     fn targets() -> Vec<Rc<str>> {
         vec!["abcdef".into(), "\u{4e16}\u{754c}".into()]
+    }
+
+    #[test]
+    fn numbers_are_decimal() {
+        for number in [0, 7, 10, 1_234, usize::MAX] {
+            let mut text = "a".to_owned();
+            push_number(number, &mut text);
+            assert_eq!(text, format!("a{number}"));
+        }
     }
 
     #[test]

@@ -24,6 +24,7 @@ mod edits;
 mod encoding;
 mod error;
 mod footnotes;
+mod hashing;
 mod hiding;
 mod limits;
 mod lines;

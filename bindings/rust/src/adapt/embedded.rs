@@ -38,7 +38,14 @@ pub(crate) fn image_name(tree: &Tree, image: Id, link: Id) -> String {
 
 /// Returns the scheme of an address, if it states one.
 pub(crate) fn scheme(address: &str) -> Option<&str> {
-    let address = address.trim_start();
+    match ["https://", "http://"].iter().find(|usual| address.starts_with(**usual)) {
+        Some(usual) => Some(&usual[..usual.len() - "://".len()]),
+        None => other_scheme(address.trim_start()),
+    }
+}
+
+/// Returns what precedes the colon of an address, if it can be a scheme.
+fn other_scheme(address: &str) -> Option<&str> {
     let length = address.bytes().position(|byte| !byte.is_ascii_alphanumeric() && !matches!(byte, b'+' | b'-' | b'.'))?;
     let is_scheme = address.as_bytes()[length] == b':' && address.starts_with(|c: char| c.is_ascii_alphabetic());
     is_scheme.then(|| &address[..length])

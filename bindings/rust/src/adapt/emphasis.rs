@@ -65,9 +65,9 @@ impl Emphasis {
         self.open.push(signed);
     }
 
-    /// Notes a text before it is recorded. Returns what of it is recorded: white space at the start of an element is recorded before it.
-    pub fn add_text(&mut self, recorder: &mut Recorder, flow: &mut Flow, piece: Piece) -> Piece {
-        let blank = flow::blank_start(flow::bytes(&recorder.text, piece)) as u32;
+    /// Notes a text before it is recorded, which begins with so many bytes that show nothing. Returns what of it is recorded: white space
+    /// at the start of an element is recorded before it.
+    pub fn add_text(&mut self, recorder: &mut Recorder, flow: &mut Flow, piece: Piece, blank: u32) -> Piece {
         let (start, length) = piece;
         let is_waiting = self.filled < self.open.len();
         if is_waiting && blank > 0 {
@@ -77,8 +77,9 @@ impl Emphasis {
             self.ended.clear();
             return if is_waiting { (start, 0) } else { piece };
         }
+        let can_drop = is_waiting || !self.ended.is_empty();
         let is_direct = blank == 0 && !self.has_space_before;
-        if is_direct && flow.ends_in_word(&recorder.text) && flow::begins_in_word(flow::bytes(&recorder.text, piece)) {
+        if can_drop && is_direct && flow.ends_in_word(&recorder.text) && flow::begins_in_word(flow::bytes(&recorder.text, piece)) {
             self.drop_of_ended(recorder);
             self.drop_of_open(recorder, self.filled);
         }
@@ -172,9 +173,11 @@ impl Emphasis {
     }
 
     fn drop_of_ended(&mut self, recorder: &mut Recorder) {
-        for mut signed in std::mem::take(&mut self.ended) {
+        for number in 0..self.ended.len() {
+            let mut signed = self.ended[number];
             self.drop_signs(recorder, &mut signed);
         }
+        self.ended.clear();
     }
 
     /// Drops the signs of the open elements from a number on.

@@ -80,13 +80,36 @@ fn last_of(text: &[u8]) -> Option<char> {
 }
 
 /// Reports whether a text begins with a character of a word.
+#[inline]
 pub(crate) fn begins_in_word(text: &[u8]) -> bool {
-    first_char(text).map_or(false, is_word_char)
+    match text {
+        [byte, ..] if byte.is_ascii() => byte.is_ascii_alphanumeric(),
+        _ => first_char(text).map_or(false, is_word_char),
+    }
+}
+
+/// Reports whether a byte of a text is a character that is shown, for itself.
+fn is_shown(byte: Option<&u8>) -> bool {
+    byte.map_or(false, u8::is_ascii_graphic)
+}
+
+/// Reports whether a byte is white space in ASCII.
+fn is_space(byte: u8) -> bool {
+    matches!(byte, b'\t'..=b'\r' | b' ')
 }
 
 /// Returns the number of bytes that show nothing at the start of a text.
+#[inline(always)]
 pub(crate) fn blank_start(text: &[u8]) -> usize {
-    let mut length = 0;
+    if is_shown(text.first()) {
+        0
+    } else {
+        long_blank_start(text)
+    }
+}
+
+fn long_blank_start(text: &[u8]) -> usize {
+    let mut length = text.iter().take_while(|&&byte| is_space(byte)).count();
     while let Some(c) = first_char(&text[length..]).filter(|&c| is_blank_char(c)) {
         length += c.len_utf8();
     }
@@ -94,8 +117,17 @@ pub(crate) fn blank_start(text: &[u8]) -> usize {
 }
 
 /// Returns the number of bytes that show nothing at the end of a text.
+#[inline(always)]
 pub(crate) fn blank_end(text: &[u8]) -> usize {
-    let mut length = 0;
+    if is_shown(text.last()) {
+        0
+    } else {
+        long_blank_end(text)
+    }
+}
+
+fn long_blank_end(text: &[u8]) -> usize {
+    let mut length = text.iter().rev().take_while(|&&byte| is_space(byte)).count();
     while let Some(c) = last_char(&text[..text.len() - length]).filter(|&c| is_blank_char(c)) {
         length += c.len_utf8();
     }
@@ -162,8 +194,12 @@ impl Flow {
     }
 
     /// Reports whether the last character is part of a word.
+    #[inline(always)]
     pub fn ends_in_word(&self, text: &[u8]) -> bool {
-        last_char(bytes(text, self.last)).map_or(false, is_word_char)
+        match bytes(text, self.last) {
+            [.., byte] if byte.is_ascii() => byte.is_ascii_alphanumeric(),
+            text => last_char(text).map_or(false, is_word_char),
+        }
     }
 
     /// Moves what goes outside of signs to the end of another node. Returns whether there is any.

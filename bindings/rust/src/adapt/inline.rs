@@ -54,11 +54,12 @@ impl Inline {
 
     #[inline(never)]
     fn add_watched_text(&mut self, recorder: &mut Recorder, piece: Piece) -> Piece {
+        let text = flow::bytes(&recorder.text, piece);
+        let blank = flow::blank_start(text);
         if self.links.is_open() {
-            let text = flow::bytes(&recorder.text, piece);
-            self.links.add_text(text, flow::blank_start(text) == text.len());
+            self.links.add_text(text, blank);
         }
-        let rest = self.emphasis.add_text(recorder, &mut self.flow, piece);
+        let rest = self.emphasis.add_text(recorder, &mut self.flow, piece, blank as u32);
         if let Some(step) = self.emphasis.take_inserted() {
             self.links.shift(step);
         }
@@ -184,7 +185,7 @@ impl Inline {
     fn record_sign(&mut self, recorder: &mut Recorder, handle: Handle, link: EndedLink) {
         let block = link.block;
         let sign = match self.links.sign(link) {
-            Some(sign) => recorder.keep(&sign),
+            Some(sign) => recorder.keep(sign),
             None => return,
         };
         if self.flow.insert_before_break(recorder, sign) {

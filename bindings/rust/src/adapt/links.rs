@@ -5,19 +5,17 @@
 //! keeps its target, and a terminal can open it.
 
 use super::targets;
+use crate::footnotes::push_number;
+use crate::hashing::Seed;
 use crate::options::LinkMode;
 use crate::record::Handle;
 use crate::tree::{Id, Tree};
 use std::collections::HashMap;
-use std::fmt::Write;
 use std::rc::Rc;
 use url::Url;
 
 /// Number of bytes of a link's text that are looked at beyond the length of its target: for a slash and white space.
 const MORE: usize = 4;
-
-/// Number of bytes that memory is allocated for at the sign of a number.
-const NOTE: usize = 16;
 
 /// The links of a page.
 pub(crate) struct Links {
@@ -31,7 +29,9 @@ pub(crate) struct Links {
     open: Vec<OpenLink>,
     /// Text of the innermost one, as far as it can be its target.
     text: Vec<u8>,
-    numbers: HashMap<Rc<str>, usize>,
+    /// What is shown after the last link.
+    sign: String,
+    numbers: HashMap<Rc<str>, usize, Seed>,
     targets: Vec<Rc<str>>,
 }
 
@@ -42,7 +42,7 @@ pub(crate) struct OpenLink {
     /// Number of the step that made it.
     step: usize,
     /// The target that is shown, if one is.
-    target: Option<String>,
+    target: Option<Rc<str>>,
     /// Whether something in it is shown.
     is_shown: bool,
     /// Whether its text can't be its target.
@@ -63,13 +63,13 @@ pub(crate) struct EndedLink {
     pub image: Option<(Handle, Id, Id)>,
     /// The block in it to whose end its number belongs.
     pub block: Option<Handle>,
-    target: Option<String>,
+    target: Option<Rc<str>>,
 }
 
 impl Links {
     /// Returns the links of a page, which may have an address of its own.
     pub fn new(mode: Option<LinkMode>, page: Option<Url>) -> Links {
-        Links { mode, page, base: None, open: Vec::new(), text: Vec::new(), numbers: HashMap::new(), targets: Vec::new() }
+        Links { mode, page, base: None, open: Vec::new(), text: Vec::new(), sign: String::new(), numbers: HashMap::default(), targets: Vec::new() }
     }
 
     /// Reports whether links keep their targets.
@@ -98,7 +98,7 @@ impl Links {
             None | Some(LinkMode::None) => None,
             Some(_) => Some(targets::written(href)).filter(|written| targets::leads_out(written)),
         };
-        let target = target.map(|written| self.resolved(tree, &written).unwrap_or_else(|| written.into_owned()));
+        let target = target.map(|written| self.resolved(tree, &written).map_or_else(|| Rc::from(&*written), Rc::from));
         self.text.clear();
         self.open.push(OpenLink { node, step, target, is_shown: false, differs: false, image: None, is_line_open: false, last_block: None });
     }
@@ -110,14 +110,15 @@ impl Links {
         }
     }
 
-    /// Notes a text in the innermost link.
-    pub fn add_text(&mut self, text: &[u8], is_blank: bool) {
+    /// Notes a text in the innermost link, which begins with so many bytes that show nothing.
+    pub fn add_text(&mut self, text: &[u8], blank: usize) {
+        let is_blank = blank == text.len();
         if !is_blank {
             self.show();
         }
         let buffer = &mut self.text;
         if let Some(OpenLink { target: Some(target), differs: differs @ false, .. }) = self.open.last_mut() {
-            let text = if buffer.is_empty() { &text[super::flow::blank_start(text)..] } else { text };
+            let text = if buffer.is_empty() { &text[blank..] } else { text };
             let room = (target.len() + MORE).saturating_sub(buffer.len());
             buffer.extend_from_slice(&text[..room.min(text.len())]);
             *differs = text.len() > room && !is_blank && super::flow::blank_start(&text[room..]) < text.len() - room;
@@ -169,12 +170,20 @@ impl Links {
         }
     }
 
+    /// Reports whether the text of the innermost link is its target.
+    fn text_tells(&self, target: &str) -> bool {
+        if self.text.len() + targets::MAX_UNTOLD < target.len() {
+            return false;
+        }
+        let text = std::str::from_utf8(&self.text).unwrap_or("");
+        targets::is_told_by(text.trim_end_matches(super::flow::is_blank_char), target)
+    }
+
     /// Ends the innermost link.
     pub fn close(&mut self) -> Option<EndedLink> {
         let link = self.open.pop()?;
-        let text = std::str::from_utf8(&self.text).unwrap_or("").trim_end_matches(super::flow::is_blank_char);
         let is_shown = link.is_shown || link.image.is_some();
-        let is_told = !link.differs && link.is_shown && link.target.as_ref().map_or(false, |target| targets::is_told_by(text, target));
+        let is_told = !link.differs && link.is_shown && link.target.as_ref().map_or(false, |target| self.text_tells(target));
         if let Some(around) = self.open.last_mut() {
             around.differs = true;
             around.is_shown |= is_shown;
@@ -189,23 +198,27 @@ impl Links {
     }
 
     /// Returns what is shown of an ended link's target after it.
-    pub fn sign(&mut self, link: EndedLink) -> Option<String> {
+    pub fn sign(&mut self, link: EndedLink) -> Option<&str> {
         let target = link.target?;
+        self.sign.clear();
         match self.mode? {
-            LinkMode::Notes => Some(note(self.number(target))),
-            LinkMode::Inline => Some(format!(" <{target}>")),
+            LinkMode::Notes => {
+                let number = self.number(target);
+                push_note(number, &mut self.sign);
+            }
+            LinkMode::Inline => [" <", &target, ">"].iter().for_each(|part| self.sign.push_str(part)),
             LinkMode::List => {
                 self.number(target);
-                None
+                return None;
             }
-            LinkMode::None => None,
+            LinkMode::None => return None,
         }
+        Some(&self.sign)
     }
 
     /// Returns the number of a target, from 1.
-    fn number(&mut self, target: String) -> usize {
+    fn number(&mut self, target: Rc<str>) -> usize {
         let next = self.targets.len() + 1;
-        let target: Rc<str> = target.into();
         let number = *self.numbers.entry(Rc::clone(&target)).or_insert(next);
         if number == next {
             self.targets.push(target);
@@ -219,10 +232,9 @@ impl Links {
     }
 }
 
-/// Returns the sign of a target's number.
-fn note(number: usize) -> String {
-    let mut sign = String::with_capacity(NOTE);
-    // a `String` takes all that is written
-    let _ = write!(sign, "[{number}]");
-    sign
+/// Appends the sign of a target's number.
+fn push_note(number: usize, sign: &mut String) {
+    sign.push('[');
+    push_number(number, sign);
+    sign.push(']');
 }

@@ -9,7 +9,10 @@ use url::Url;
 
 /// Returns a target as it is written, without the white space that a browser drops.
 pub(crate) fn written(href: &str) -> Cow<'_, str> {
-    let trimmed = href.trim_matches(|c: char| c.is_ascii_whitespace());
+    let trimmed = match href.as_bytes() {
+        [first, .., last] if first.is_ascii_graphic() && last.is_ascii_graphic() => href,
+        _ => href.trim_matches(|c: char| c.is_ascii_whitespace()),
+    };
     if memchr3(b'\t', b'\n', b'\r', trimmed.as_bytes()).is_some() {
         trimmed.chars().filter(|c| !matches!(c, '\t' | '\n' | '\r')).collect()
     } else {
@@ -27,6 +30,9 @@ pub(crate) fn leads_out(written: &str) -> bool {
 fn without_slash(target: &str) -> &str {
     target.strip_suffix('/').unwrap_or(target)
 }
+
+/// Maximum number of bytes of a target that are missing in a text which tells it: a scheme and a slash.
+pub(crate) const MAX_UNTOLD: usize = "https://".len() + "/".len();
 
 /// Reports whether a text is a target, or one without its scheme; a slash at the end doesn't count.
 pub(crate) fn is_told_by(text: &str, target: &str) -> bool {
