@@ -206,7 +206,7 @@ impl<'a> Contents<'a> {
     }
 
     fn is_hidden_by_rule(self, element: &Element, attributes: &[Attr]) -> bool {
-        let said = said_by(attributes, true, |text| InlineStyle::of(text));
+        let said = said_by(attributes, true, |text| InlineStyle::of(text).into());
         self.adaptation.is_hidden_by_rule(element, attributes, &said)
     }
 

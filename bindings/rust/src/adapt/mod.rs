@@ -99,6 +99,16 @@ impl Flags {
         self.0 = self.0 & !flag.0 | if is_set { flag.0 } else { 0 };
         was_set
     }
+
+    /// Notes whether a style hides or shows texts.
+    fn hide_by(&mut self, style: &InlineStyle) {
+        if let Some(is_visible) = style.is_visible() {
+            self.set(Flags::INVISIBLE, !is_visible);
+        }
+        if let Some(has_size) = style.has_size() {
+            self.set(Flags::WITHOUT_SIZE, !has_size);
+        }
+    }
 }
 
 /// What is known of the elements around a place.
@@ -187,7 +197,7 @@ pub(crate) struct Adaptation {
 impl Adaptation {
     /// Reports whether a rule hides an element of these attributes, which say something of it.
     fn is_hidden_by_rule(&self, element: &Element, attributes: &[Attr], said: &Said) -> bool {
-        let is_displayed = said.style.as_ref().map_or(false, InlineStyle::is_displayed);
+        let is_displayed = said.style.as_deref().map_or(false, InlineStyle::is_displayed);
         self.hiding.hides(&element.name, attributes, is_displayed)
     }
 }
@@ -241,7 +251,7 @@ pub(crate) fn is_asked(name: &LocalName) -> bool {
 /// What an element's attributes say of it.
 #[derive(Default)]
 struct Said {
-    style: Option<InlineStyle>,
+    style: Option<Rc<InlineStyle>>,
     is_hidden: bool,
 }
 
@@ -262,22 +272,30 @@ struct Opened<'a> {
     attributes: &'a [Attr],
     parent: Handle,
     said: Said,
+    detail: Detail,
+}
+
+/// What is recorded of an element otherwise than its attributes say.
+#[derive(Clone, Copy)]
+enum Detail {
+    Nothing,
     /// The number that an `ol` starts with, where it isn't 1.
-    start: Option<i64>,
-    href: Href,
-    /// Whether the private class of elements without signs follows the element's classes in the text.
-    may_be_unsigned: bool,
+    Start(i64),
+    /// The target of a link.
+    Target(Href),
+    /// The private class of elements without signs follows the element's classes in the text.
+    MayBeUnsigned,
 }
 
 impl<'a> Opened<'a> {
     #[inline(always)]
     fn new(node: Id, element: &'a Element, attributes: &'a [Attr], parent: Handle, said: Said) -> Opened<'a> {
-        Opened { node, element, attributes, parent, said, start: None, href: Href::Kept, may_be_unsigned: false }
+        Opened { node, element, attributes, parent, said, detail: Detail::Nothing }
     }
 
     /// Keeps what follows the element's classes in the text.
     fn keep_after_classes(&self, recorder: &mut Recorder) {
-        if self.may_be_unsigned {
+        if matches!(self.detail, Detail::MayBeUnsigned) {
             recorder.keep(UNSIGNED_SUFFIX);
         }
     }
@@ -513,7 +531,9 @@ impl<'a> Adapter<'a> {
                 let plan = Plan::of(self.tree, &recorder.text, node, |item| !self.is_hidden_item(item));
                 context.holds = Holds::Items;
                 context.margins.add_items(plan.columns);
-                opened.start = Some(plan.first).filter(|&first| first != 1);
+                if plan.first != 1 {
+                    opened.detail = Detail::Start(plan.first);
+                }
                 let handle = self.record(recorder, opened);
                 let numbers = Box::new(plan.numbers(around.handle));
                 Some(Entered { numbers: Some(numbers), end, ..Entered::new(handle, context) })
@@ -572,7 +592,7 @@ impl<'a> Adapter<'a> {
     fn is_hidden_item(&self, item: Id) -> bool {
         self.tree.element(item).map_or(false, |element| {
             let attributes = self.tree.attributes(element);
-            self.is_hidden(element, attributes, &said_by(attributes, true, |text| InlineStyle::of(text)))
+            self.is_hidden(element, attributes, &said_by(attributes, true, |text| InlineStyle::of(text).into()))
         })
     }
 
@@ -585,7 +605,7 @@ impl<'a> Adapter<'a> {
         let element = self.tree.element(list)?;
         let attributes = self.tree.attributes(element);
         let said = self.said_by(attributes, true);
-        let part = Opened { start: Some(start), ..Opened::new(list, element, attributes, numbers.parent, said) };
+        let part = Opened { detail: Detail::Start(start), ..Opened::new(list, element, attributes, numbers.parent, said) };
         Some(self.record(recorder, &part))
     }
 
@@ -614,7 +634,7 @@ impl<'a> Adapter<'a> {
     #[inline]
     fn record_as(&mut self, recorder: &mut Recorder, opened: &Opened<'_>, name: &LocalName, class: &str) -> Handle {
         let handle = recorder.element(opened.parent, record::space(&opened.element.space), name);
-        if !opened.attributes.is_empty() || !class.is_empty() || opened.start.is_some() {
+        if !opened.attributes.is_empty() || !class.is_empty() || matches!(opened.detail, Detail::Start(_)) {
             self.record_attributes(recorder, handle, opened, class);
         }
         handle
@@ -776,7 +796,9 @@ impl<'a> Adapter<'a> {
 
     /// Records emphasis: without signs if its texts are hidden or in a `pre`.
     fn open_signed(&mut self, recorder: &mut Recorder, opened: &mut Opened<'_>, context: Context) -> Entered {
-        opened.may_be_unsigned = self.inline.has_signs();
+        if self.inline.has_signs() {
+            opened.detail = Detail::MayBeUnsigned;
+        }
         let step = recorder.steps.len();
         let handle = self.record(recorder, opened);
         let is_starred = opened.element.name != local_name!("code");
@@ -813,7 +835,7 @@ impl<'a> Adapter<'a> {
         if is_inside && self.adaptation.contents(self.tree, &recorder.text).is_citation(opened.node) {
             context.texts = Texts::Citation;
         }
-        opened.href = self.recorded_href(recorder, &href);
+        opened.detail = Detail::Target(self.recorded_href(recorder, &href));
         let step = recorder.steps.len();
         let handle = self.record(recorder, opened);
         self.inline.links.open(self.tree, opened.node, step, &href);
@@ -953,21 +975,19 @@ impl<'a> Adapter<'a> {
     }
 
     /// Notes whether an element hides or shows the texts in it.
+    #[inline]
     fn hide_texts(&self, context: &mut Context, said: &Said, change: Change) {
-        let style = said.style.as_ref();
-        if let Some(is_visible) = style.and_then(InlineStyle::is_visible) {
-            context.flags.set(Flags::INVISIBLE, !is_visible);
+        if context.flags.has(Flags::WITHOUT_SIZE) && self.has_own_size(change) {
+            context.flags.set(Flags::WITHOUT_SIZE, false);
         }
-        let has_own_size = matches!(change, Change::Field(_)) || self.adaptation.is_quirky && change == Change::Table(Part::Table);
-        match style.and_then(InlineStyle::has_size) {
-            Some(has_size) => {
-                context.flags.set(Flags::WITHOUT_SIZE, !has_size);
-            }
-            None if has_own_size => {
-                context.flags.set(Flags::WITHOUT_SIZE, false);
-            }
-            None => {}
+        if let Some(style) = &said.style {
+            context.flags.hide_by(style);
         }
+    }
+
+    /// Reports whether the size of an element's texts isn't that of the texts around it.
+    fn has_own_size(&self, change: Change) -> bool {
+        matches!(change, Change::Field(_)) || self.adaptation.is_quirky && change == Change::Table(Part::Table)
     }
 
     /// Records an element's attributes, and the private classes that its change and its style give it.
@@ -999,10 +1019,10 @@ impl<'a> Adapter<'a> {
                     opened.keep_after_classes(recorder);
                     recorder.attribute_of_piece(handle, name, piece);
                 }
-                (name @ &local_name!("href"), _) => match opened.href {
-                    Href::Kept => recorder.attribute(handle, name, &attribute.value),
-                    Href::Resolved(target) => recorder.attribute_of_piece(handle, name, target),
-                    Href::Dropped => {}
+                (name @ &local_name!("href"), _) => match opened.detail {
+                    Detail::Target(Href::Resolved(target)) => recorder.attribute_of_piece(handle, name, target),
+                    Detail::Target(Href::Dropped) => {}
+                    _ => recorder.attribute(handle, name, &attribute.value),
                 },
                 // without it an image may be named later
                 (&local_name!("alt"), _) if attribute.value.trim().is_empty() => {}
@@ -1013,7 +1033,7 @@ impl<'a> Adapter<'a> {
                 (name, _) => recorder.attribute(handle, name, &attribute.value),
             }
         }
-        if let Some(start) = opened.start {
+        if let Detail::Start(start) = opened.detail {
             recorder.attribute(handle, &local_name!("start"), &start.to_string());
         }
         if !classes.is_empty() {
@@ -1031,7 +1051,7 @@ fn names_contents(attributes: &[Attr]) -> bool {
 
 /// Returns what an element's attributes say of it; only HTML has `hidden`. `read` reads the value of a `style`.
 #[inline]
-fn said_by(attributes: &[Attr], is_html: bool, mut read: impl FnMut(&StrTendril) -> InlineStyle) -> Said {
+fn said_by(attributes: &[Attr], is_html: bool, mut read: impl FnMut(&StrTendril) -> Rc<InlineStyle>) -> Said {
     let mut said = Said::default();
     for attribute in attributes {
         match attribute.name {
@@ -1045,7 +1065,7 @@ fn said_by(attributes: &[Attr], is_html: bool, mut read: impl FnMut(&StrTendril)
 
 /// Reports whether nothing is shown of an element of these attributes, nor of what is in it.
 fn is_dropped(attributes: &[Attr], is_html: bool) -> bool {
-    said_by(attributes, is_html, |text| InlineStyle::of(text)).drops()
+    said_by(attributes, is_html, |text| InlineStyle::of(text).into()).drops()
 }
 
 /// Reports whether an element is an image or a drawing, which has a text of its own.

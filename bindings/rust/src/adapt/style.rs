@@ -1,11 +1,13 @@
 //! What an attribute `style` declares, of the properties that change what is shown.
 
 use crate::css::{self, Read, Value};
+use crate::hashing::Seed;
 use crate::lines::Colour;
 use cssparser::{
     parse_important, AtRuleParser, CowRcStr, DeclarationListParser, DeclarationParser, Parser, ParserInput, Token,
 };
 use std::collections::HashMap;
+use std::rc::Rc;
 use tendril::StrTendril;
 
 /// A value, and whether it is important.
@@ -35,18 +37,18 @@ const MAX_REMEMBERED: usize = 1_000;
 /// Reads values of the attribute `style`. A value that is repeated is read once.
 #[derive(Default)]
 pub(crate) struct Styles {
-    read: HashMap<StrTendril, InlineStyle>,
+    read: HashMap<StrTendril, Rc<InlineStyle>, Seed>,
 }
 
 impl Styles {
     /// Returns what a value declares.
-    pub fn of(&mut self, text: &StrTendril) -> InlineStyle {
+    pub fn of(&mut self, text: &StrTendril) -> Rc<InlineStyle> {
         if let Some(style) = self.read.get(text) {
-            return *style;
+            return Rc::clone(style);
         }
-        let style = InlineStyle::of(text);
+        let style = Rc::new(InlineStyle::of(text));
         if self.read.len() < MAX_REMEMBERED {
-            self.read.insert(text.clone(), style);
+            self.read.insert(text.clone(), Rc::clone(&style));
         }
         style
     }
