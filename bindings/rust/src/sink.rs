@@ -1,5 +1,6 @@
 //! html5ever's tree builder over the tree of a page.
 
+use crate::classes::{class_of, Class};
 use crate::tree::{Attr, Data, Element, Id, Tree, DOCUMENT, NONE};
 use html5ever::tree_builder::{ElementFlags, NodeOrText, QuirksMode, TreeSink};
 use html5ever::{local_name, namespace_url, ns, Attribute, ExpandedName, LocalName, QualName};
@@ -43,12 +44,11 @@ impl Sink {
 
     /// Appends an HTML element other than the root to the children of a node.
     #[inline]
-    pub fn append_element(&mut self, parent: Id, name: LocalName, attributes: &mut Vec<Attribute>) -> Id {
-        let is_table = name == local_name!("table");
-        if attributes.is_empty() && !is_table {
-            return self.tree.append_plain(parent, name);
+    pub fn append_element(&mut self, parent: Id, name: LocalName, class: Class, attributes: &mut Vec<Attribute>) -> Id {
+        if attributes.is_empty() && class != Class::Table {
+            return self.tree.append_plain(parent, name, class);
         }
-        let node = self.add_element(QualName::new(None, ns!(html), name), attributes);
+        let node = self.add_element(QualName::new(None, ns!(html), name), class, attributes);
         self.tree.append(parent, node);
         node
     }
@@ -60,10 +60,9 @@ impl Sink {
     }
 
     /// Adds an element that has no parent.
-    fn add_element(&mut self, name: QualName, attributes: &mut Vec<Attribute>) -> Id {
-        let is_table = name.local == local_name!("table");
-        let node = self.tree.add_element(name, attributes.drain(..), self.wanted.is_asked);
-        if is_table {
+    fn add_element(&mut self, name: QualName, class: Class, attributes: &mut Vec<Attribute>) -> Id {
+        let node = self.tree.add_element_of(class, name, attributes.drain(..), self.wanted.is_asked);
+        if class == Class::Table {
             self.tree.tables.push(node);
         }
         node
@@ -109,7 +108,8 @@ impl TreeSink for Sink {
         if name.local == local_name!("html") && name.ns == ns!(html) {
             attributes.iter().for_each(|attribute| self.note_language(attribute));
         }
-        let node = self.add_element(name, &mut attributes);
+        let class = class_of(&name.local);
+        let node = self.add_element(name, class, &mut attributes);
         if flags.mathml_annotation_xml_integration_point {
             if let Some(element) = self.tree.element_mut(node) {
                 element.is_integration_point = true;

@@ -5,6 +5,7 @@
 //! it. A text that is appended to one whose bytes aren't the vector's last becomes a piece of its own, which continues that one.
 
 use crate::characters::Filter;
+use crate::classes::Class;
 use html5ever::{namespace_url, ns, Attribute, LocalName, Namespace, QualName};
 use tendril::StrTendril;
 
@@ -32,6 +33,8 @@ pub(crate) struct Attr {
 pub(crate) struct Element {
     pub space: Namespace,
     pub name: LocalName,
+    /// The class of HTML elements of this name.
+    pub class: Class,
     attributes: u32,
     attribute_count: u16,
     /// Whether it is an HTML integration point of MathML's `annotation-xml`.
@@ -41,8 +44,14 @@ pub(crate) struct Element {
 impl Element {
     /// Returns an element whose attributes are `count` of the tree's, from the one at `attributes` on.
     #[inline]
-    fn new(space: Namespace, name: LocalName, attributes: usize, count: usize) -> Element {
-        Element { space, name, attributes: attributes as u32, attribute_count: count as u16, is_integration_point: false }
+    fn new(space: Namespace, name: LocalName, class: Class, attributes: usize, count: usize) -> Element {
+        Element { space, name, class, attributes: attributes as u32, attribute_count: count as u16, is_integration_point: false }
+    }
+
+    /// Reports whether attributes were asked for that the element has.
+    #[inline]
+    pub fn has_attributes(&self) -> bool {
+        self.attribute_count > 0
     }
 }
 
@@ -126,20 +135,38 @@ impl Tree {
         node
     }
 
-    /// Adds an element that has no parent, with those of the attributes that are asked for.
-    #[inline]
+    /// Adds an element that has no parent.
+    #[cfg(test)]
     pub fn add_element(&mut self, name: QualName, attributes: impl IntoIterator<Item = Attribute>, is_asked: impl Fn(&LocalName) -> bool) -> Id {
+        let class = crate::classes::class_of(&name.local);
+        self.add_element_of(class, name, attributes, is_asked)
+    }
+
+    /// Adds an element of a class that has no parent, with those of the attributes that are asked for.
+    #[inline]
+    pub fn add_element_of(&mut self, class: Class, name: QualName, attributes: impl IntoIterator<Item = Attribute>, is_asked: impl Fn(&LocalName) -> bool) -> Id {
         let start = self.attributes.len();
         let asked = attributes.into_iter().filter(|attribute| is_asked(&attribute.name.local));
         self.attributes.extend(asked.take(MAX_ATTRIBUTES).map(|attribute| Attr { name: attribute.name.local, value: attribute.value }));
-        self.add(Data::Element(Element::new(name.ns, name.local, start, self.attributes.len() - start)))
+        self.add(Data::Element(Element::new(name.ns, name.local, class, start, self.attributes.len() - start)))
     }
 
     /// Appends an HTML element without attributes to the children of a node.
     #[inline]
-    pub fn append_plain(&mut self, parent: Id, name: LocalName) -> Id {
-        let node = self.add(Data::Element(Element::new(ns!(html), name, self.attributes.len(), 0)));
-        self.append(parent, node);
+    pub fn append_plain(&mut self, parent: Id, name: LocalName, class: Class) -> Id {
+        self.add_child(parent, Data::Element(Element::new(ns!(html), name, class, self.attributes.len(), 0)))
+    }
+
+    /// Adds a node after the children of another.
+    #[inline]
+    fn add_child(&mut self, parent: Id, data: Data) -> Id {
+        let node = self.nodes.len() as Id;
+        let previous = std::mem::replace(&mut self.nodes[parent as usize].last, node);
+        match previous {
+            NONE => self.nodes[parent as usize].first = node,
+            _ => self.nodes[previous as usize].next = node,
+        }
+        self.nodes.push(Node { parent, previous, next: NONE, first: NONE, last: NONE, data });
         node
     }
 
@@ -183,6 +210,7 @@ impl Tree {
     }
 
     /// Returns the attributes that were asked for of an element; none of another node.
+    #[inline]
     pub fn attributes_of(&self, node: Id) -> &[Attr] {
         self.element(node).map_or(&[], |element| self.attributes(element))
     }
@@ -194,6 +222,7 @@ impl Tree {
     }
 
     /// Returns the value of an element's attribute.
+    #[inline]
     pub fn attribute(&self, node: Id, name: &LocalName) -> Option<&StrTendril> {
         self.attributes_of(node).iter().find(|attribute| attribute.name == *name).map(|attribute| &attribute.value)
     }
@@ -310,8 +339,7 @@ impl Tree {
         let last = self.nodes[parent as usize].last;
         if length > 0 && !self.join_text(last, start, length) {
             let continues = last != NONE && matches!(self.nodes[last as usize].data, Data::Text { .. });
-            let node = self.add(Data::Text { start, length, continues });
-            self.append(parent, node);
+            self.add_child(parent, Data::Text { start, length, continues });
         }
     }
 

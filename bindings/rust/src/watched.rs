@@ -258,7 +258,7 @@ impl<'a> Watched<'a> {
     #[inline]
     fn open_element(&mut self, tag: TagName, attributes: &mut Vec<Attribute>, start: usize) {
         if let Some(open) = self.direct.innermost() {
-            let node = self.builder.sink.append_element(open.node, tag.name, attributes);
+            let node = self.builder.sink.append_element(open.node, tag.name, tag.class, attributes);
             if !matches!(tag.class, Class::Void | Class::Rule) {
                 self.direct.push(node, tag.class, start);
             }

@@ -1,6 +1,7 @@
 //! What a cell has to show, and how many columns that takes on one line.
 
-use super::elements::{change_of, Change, Field, Part};
+use super::elements::{change_in, Change, Field, Part};
+use super::flow::bytes;
 use super::{drawings, embedded, forms, is_drawing, is_dropped, names_contents, said_by, targets, Adaptation, InlineStyle};
 use crate::options::LinkMode;
 use crate::tree::{Attr, Data, Element, Id, Piece, Tree, NONE};
@@ -85,7 +86,7 @@ pub(super) fn text_of(text: &[u8], (start, length): Piece) -> &str {
 
 /// Reports whether a piece of a text can't be seen.
 pub(super) fn is_unseen(text: &[u8], piece: Piece) -> bool {
-    !is_visible(text_of(text, piece))
+    !bytes(text, piece).iter().any(u8::is_ascii_graphic) && !is_visible(text_of(text, piece))
 }
 
 /// Columns of a text on one line, as it is read.
@@ -193,8 +194,14 @@ impl<'a> Contents<'a> {
         NONE
     }
 
-    /// Reports whether nothing is shown of an element. Its style is read only where it can say so.
+    /// Reports whether nothing is shown of an element.
+    #[inline]
     pub fn is_hidden(self, element: &Element) -> bool {
+        (element.has_attributes() || self.adaptation.hiding.has_rules()) && self.is_hidden_by_any(element)
+    }
+
+    /// Reports whether an attribute or a rule hides an element. Its style is read only where it can say so.
+    fn is_hidden_by_any(self, element: &Element) -> bool {
         let attributes = self.tree.attributes(element);
         let is_html = element.space == ns!(html);
         let can_hide = |attribute: &Attr| match attribute.name {
@@ -225,7 +232,7 @@ impl<'a> Contents<'a> {
                 end_of_link = None;
             }
             let shown = match self.tree.data(node) {
-                &Data::Text { start, length, .. } if is_visible(text_of(self.text, (start, length))) && !(has_drawing && self.is_in_drawing(node)) => return true,
+                &Data::Text { start, length, .. } if !is_unseen(self.text, (start, length)) && !(has_drawing && self.is_in_drawing(node)) => return true,
                 Data::Element(element) => {
                     has_drawing |= element.space == ns!(svg);
                     self.shown(node, element)
@@ -255,7 +262,7 @@ impl<'a> Contents<'a> {
                 return false;
             }
             if let Data::Element(element) = self.tree.data(node) {
-                let is_field = element.space == ns!(html) && matches!(change_of(&element.name), Change::Field(_));
+                let is_field = element.space == ns!(html) && matches!(change_in(element), Change::Field(_));
                 if is_field && !matches!(self.shown(node, element), Shown::Nothing) {
                     return true;
                 }
@@ -272,13 +279,17 @@ impl<'a> Contents<'a> {
         while node != NONE {
             match self.tree.data(node) {
                 &Data::Text { start, length, .. } => {
-                    let text = text_of(self.text, (start, length));
+                    let piece = (start, length);
+                    if matches!(bytes(self.text, piece), [first, ..] if first.is_ascii_graphic()) {
+                        return false;
+                    }
+                    let text = text_of(self.text, piece);
                     if !text.chars().all(char::is_whitespace) {
                         return false;
                     }
                     has_spaces |= !text.is_ascii();
                 }
-                Data::Element(element) if element.space == ns!(html) => match change_of(&element.name) {
+                Data::Element(element) if element.space == ns!(html) => match change_in(element) {
                     Change::Kept | Change::Signed | Change::Link => {}
                     _ => return false,
                 },
@@ -411,12 +422,7 @@ impl<'a> Contents<'a> {
             return Shown::Nothing;
         }
         let attributes = self.tree.attributes(element);
-        let change = match element.space {
-            ns!(html) => change_of(&element.name),
-            ns!(svg) => Change::Drawing,
-            _ => Change::Kept,
-        };
-        match change {
+        match change_in(element) {
             Change::Dropped => Shown::Nothing,
             Change::Kept if matches!(element.name, local_name!("script") | local_name!("style") | local_name!("template")) => Shown::Nothing,
             Change::Kept | Change::Signed | Change::Superscript => Shown::Contents,

@@ -1,6 +1,8 @@
 //! What becomes of HTML's elements, by their names.
 
-use html5ever::{local_name, LocalName};
+use crate::classes::Class;
+use crate::tree::Element;
+use html5ever::{local_name, namespace_url, ns, LocalName};
 
 /// What becomes of an element.
 #[derive(Clone, Copy, Debug, PartialEq, Eq)]
@@ -146,7 +148,43 @@ impl Change {
     }
 }
 
+/// Returns what becomes of an element.
+#[inline(always)]
+pub(crate) fn change_in(element: &Element) -> Change {
+    match element.space {
+        ns!(html) => change_by_class(element),
+        ns!(svg) => Change::Drawing,
+        _ => Change::Kept,
+    }
+}
+
+/// Returns what becomes of an HTML element. The class says it of the most frequent ones.
+#[inline(always)]
+fn change_by_class(element: &Element) -> Change {
+    match element.class {
+        Class::Anchor => Change::Link,
+        Class::Caption => Change::Table(Part::Caption),
+        Class::Cell => Change::Table(Part::Cell),
+        Class::Formatting if is_signed(&element.name) => Change::Signed,
+        Class::Formatting => Change::Kept,
+        Class::Item => Change::Item,
+        Class::Paragraph => Change::Paragraph,
+        Class::Row => Change::Table(Part::Row),
+        Class::Rule => Change::Rule,
+        Class::Section => Change::Table(Part::Section),
+        Class::Table => Change::Table(Part::Table),
+        _ => change_of(&element.name),
+    }
+}
+
+/// Reports whether signs are written around elements of a name.
+#[inline]
+fn is_signed(name: &LocalName) -> bool {
+    matches!(*name, local_name!("b") | local_name!("code") | local_name!("em") | local_name!("strong"))
+}
+
 /// Returns what becomes of an HTML element.
+#[inline(never)]
 pub(crate) fn change_of(name: &LocalName) -> Change {
     match *name {
         // the most frequent ones
@@ -201,7 +239,6 @@ pub(crate) fn change_of(name: &LocalName) -> Change {
         local_name!("tbody") | local_name!("tfoot") | local_name!("thead") => Change::Table(Part::Section),
         local_name!("tr") => Change::Table(Part::Row),
         local_name!("td") | local_name!("th") => Change::Table(Part::Cell),
-        local_name!("b") | local_name!("code") | local_name!("em") | local_name!("strong") => Change::Signed,
         local_name!("body") | local_name!("caption") | local_name!("frameset") | local_name!("head") | local_name!("html") => Change::Block,
         local_name!("pre") => Change::Preformatted,
         local_name!("sup") => Change::Superscript,
@@ -209,6 +246,7 @@ pub(crate) fn change_of(name: &LocalName) -> Change {
         local_name!("input") => Change::Field(Field::Input),
         local_name!("select") => Change::Field(Field::Select),
         local_name!("textarea") => Change::Field(Field::Lines),
+        _ if is_signed(name) => Change::Signed,
         // newer than html5ever's table of names
         _ if name.len() == 6 && **name == *"search" => Change::Within(Inner::Division),
         _ => Change::Kept,
@@ -218,6 +256,19 @@ pub(crate) fn change_of(name: &LocalName) -> Change {
 #[cfg(test)]
 mod tests {
     use super::*;
+    use crate::characters::Filter;
+    use crate::tree::Tree;
+    use html5ever::QualName;
+
+    #[test]
+    fn classes_say_what_names_say() {
+        let names = "a abbr address b big br button caption code dd div dl dt em font h1 hr i img input li menu ol p pre q s search small span strike strong sup table tbody td tfoot th thead tr tt u ul";
+        for name in names.split(' ').map(LocalName::from) {
+            let mut tree = Tree::new(Filter::default());
+            let node = tree.add_element(QualName::new(None, ns!(html), name.clone()), Vec::new(), |_| true);
+            assert_eq!(tree.element(node).map(change_in), Some(change_of(&name)), "{name}");
+        }
+    }
 
     #[test]
     fn names() {
