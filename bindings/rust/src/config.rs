@@ -11,7 +11,7 @@ use crate::hiding::Hiding;
 use crate::lines::{RichAnnotation, TaggedLine, TaggedLineElement, TaggedString};
 use crate::options::{LinkMode, Options};
 use crate::page::{links_of, RenderedPage};
-use crate::pass::Pass;
+use crate::pass;
 use crate::record::Recorder;
 use crate::recorded::Recorded;
 use crate::records::Setting;
@@ -291,7 +291,7 @@ impl<D: TextDecorator> Config<D> {
         let options = page.reading.options.as_ref();
         let adaptation = options.map(|options| self.adaptation(page, options, &mut sheets, width));
         let filter = Filter { drops_soft_hyphens: false, ..page.tree.filter };
-        let (mut recorder, adapted) = Pass::record(&page.tree, Recorder::new(text, filter), adaptation);
+        let (mut recorder, adapted) = pass::record(&page.tree, Recorder::new(text, filter), adaptation);
         let settings = self.settings_of(&mut recorder, sheets, &adapted, options.is_some());
         if recorder.is_out_of_memory {
             return Err(Error::OutOfMemory);

@@ -60,24 +60,25 @@ pub(crate) struct Entered {
     pub last: Last,
     /// What is done after the children.
     pub end: End,
-    /// The numbers of the children, if these are the items of an `ol`.
-    pub numbers: Option<Box<Numbers>>,
 }
 
 impl Entered {
     /// Returns an element in which nothing is recorded yet.
+    #[inline]
     pub fn new(handle: Handle, context: Context) -> Entered {
-        Entered { handle, context, last: Last::Other, end: End::Inline, numbers: None }
+        Entered { handle, context, last: Last::Other, end: End::Inline }
     }
 }
 
-/// What was recorded last directly in a list.
-#[derive(Clone, Copy, Default)]
-struct Items {
+/// A list whose children are being recorded, and what was recorded last directly in it.
+#[derive(Default)]
+struct List {
     /// The item.
     item: Option<Handle>,
     /// The element after it that shows what isn't an item.
     loose: Option<Handle>,
+    /// The numbers of the items of an `ol`.
+    numbers: Option<Numbers>,
 }
 
 /// A node whose children are being recorded.
@@ -85,36 +86,91 @@ struct Frame {
     node: Id,
     place: Place,
     last: Last,
-    items: Items,
-    numbers: Option<Box<Numbers>>,
     end: End,
 }
 
-/// Records a tree as it is, or as a browser shows it.
+/// Records a tree as a browser shows it.
 pub(crate) struct Pass<'a> {
     tree: &'a Tree,
     recorder: Recorder,
-    adapter: Option<Adapter<'a>>,
+    adapter: Adapter<'a>,
     frames: Vec<Frame>,
+    /// The lists among the frames: those whose context doesn't hold anything.
+    lists: Vec<List>,
+}
+
+/// Records a tree into a recorder that has the tree's text, as a browser shows it if there is an adaptation. Returns it, with what the
+/// document needs beside its steps.
+pub(crate) fn record(tree: &Tree, recorder: Recorder, adaptation: Option<Adaptation>) -> (Recorder, Adapted) {
+    match adaptation {
+        Some(adaptation) => Pass::new(tree, recorder, adaptation).record(),
+        None => (record_as_it_is(tree, recorder), Adapted::default()),
+    }
+}
+
+/// Records a tree without changes.
+fn record_as_it_is(tree: &Tree, mut recorder: Recorder) -> Recorder {
+    // the nodes whose children are being recorded, and what they are recorded as
+    let mut open = vec![(DOCUMENT, DOCUMENT)];
+    let mut next = tree.first_child(DOCUMENT);
+    let mut is_after_text = false;
+    while let Some(&(outer, parent)) = open.last() {
+        let node = next;
+        if node == NONE {
+            next = tree.next_sibling(outer);
+            is_after_text = false;
+            open.pop();
+            continue;
+        }
+        next = tree.next_sibling(node);
+        match tree.data(node) {
+            &Data::Text { start, length, continues } => {
+                if is_after_text && !continues {
+                    recorder.part_texts(parent);
+                }
+                is_after_text = true;
+                recorder.text(parent, (start, length));
+            }
+            Data::Element(element) => {
+                let handle = record_element(tree, &mut recorder, parent, element);
+                is_after_text = false;
+                if !is_head(element) {
+                    open.push((node, handle));
+                    next = tree.first_child(node);
+                }
+            }
+            Data::Comment | Data::Root => {}
+        }
+    }
+    recorder
+}
+
+/// Records an element with its attributes.
+#[inline]
+fn record_element(tree: &Tree, recorder: &mut Recorder, parent: Handle, element: &Element) -> Handle {
+    let handle = recorder.element(parent, record::space(&element.space), &element.name);
+    for attribute in tree.attributes(element) {
+        recorder.attribute(handle, &attribute.name, &attribute.value);
+    }
+    handle
+}
+
+/// Reports whether an element is a `head`, in which nothing is shown.
+#[inline]
+fn is_head(element: &Element) -> bool {
+    element.name == local_name!("head") && element.space == ns!(html)
 }
 
 impl<'a> Pass<'a> {
-    /// Records a tree into a recorder that has the tree's text. Returns it, with what the document needs beside its steps.
-    pub fn record(tree: &'a Tree, recorder: Recorder, adaptation: Option<Adaptation>) -> (Recorder, Adapted) {
-        let adapter = adaptation.map(|adaptation| Adapter::new(tree, adaptation));
-        let mut pass = Pass { tree, recorder, adapter, frames: Vec::new() };
-        pass.go();
-        (pass.recorder, pass.adapter.map(Adapter::finish).unwrap_or_default())
+    fn new(tree: &'a Tree, recorder: Recorder, adaptation: Adaptation) -> Pass<'a> {
+        Pass { tree, recorder, adapter: Adapter::new(tree, adaptation), frames: Vec::new(), lists: Vec::new() }
     }
 
-    fn go(&mut self) {
-        if let Some(adapter) = &mut self.adapter {
-            adapter.begin(&mut self.recorder);
-        }
-        let document = Place { handle: DOCUMENT, context: Context::default() };
-        self.frames.push(Frame { node: DOCUMENT, place: document, last: Last::Other, items: Items::default(), numbers: None, end: End::Inline });
+    fn record(mut self) -> (Recorder, Adapted) {
+        self.adapter.begin(&mut self.recorder);
+        self.frames.push(Frame { node: DOCUMENT, place: Place { handle: DOCUMENT, context: Context::default() }, last: Last::Other, end: End::Inline });
         let mut next = self.tree.first_child(DOCUMENT);
-        while let Some(frame) = self.frames.last_mut() {
+        while let Some(frame) = self.frames.last() {
             let node = next;
             if node == NONE {
                 next = self.tree.next_sibling(frame.node);
@@ -123,63 +179,95 @@ impl<'a> Pass<'a> {
             }
             next = self.tree.next_sibling(node);
             match self.tree.data(node) {
-                Data::Text { start, length, continues } => {
-                    let context = frame.place.context;
-                    let mut piece = (*start, *length);
-                    if context.is_in_line() {
-                        let adapter = self.adapter.as_mut();
-                        match adapter.and_then(|adapter| adapter.cut_text(&self.recorder.text, node, piece)) {
-                            Some(cut) => piece = cut,
-                            None => continue,
-                        }
-                    }
-                    if context.hides_texts() {
-                        continue;
-                    }
-                    let is_apart = frame.last == Last::Text && !continues;
-                    frame.last = Last::Text;
-                    let parent = self.parent_of_text(piece);
-                    if is_apart {
-                        self.recorder.part_texts(parent);
-                    }
-                    let piece = match &mut self.adapter {
-                        Some(adapter) => {
-                            if context.changes_texts() {
-                                piece = adapter.changed_text(&mut self.recorder, &context, piece);
-                                if piece.1 == 0 {
-                                    continue;
-                                }
-                            }
-                            adapter.add_text(&mut self.recorder, piece)
-                        }
-                        None => piece,
-                    };
-                    if piece.1 > 0 {
-                        self.recorder.text(parent, piece);
-                    }
-                }
+                &Data::Text { start, length, continues } => self.record_text(node, (start, length), continues),
                 Data::Element(element) => {
-                    if let Some(Entered { handle, context, last, end, numbers }) = self.open(node, element) {
-                        let place = Place { handle, context };
-                        self.frames.push(Frame { node, place, last, items: Items::default(), numbers, end });
+                    if self.enter(node, element) {
                         next = self.tree.first_child(node);
                     }
                 }
                 Data::Comment | Data::Root => {}
             }
         }
+        (self.recorder, self.adapter.finish())
     }
 
-    /// Records an element in the innermost one whose children are recorded. Returns where its own children are recorded, if they are.
-    fn open(&mut self, node: Id, element: &'a Element) -> Option<Entered> {
-        let place = self.frames.last()?.place;
-        match place.context.holds {
-            Holds::Anything => self.record_element(node, element, place),
-            holds if holds.takes(element) => self.open_item(node, element, place),
-            _ => {
-                let place = self.place_of_other(node, element, place);
-                self.record_element(node, element, place)
+    /// Records a text among the children of the innermost frame.
+    #[inline]
+    fn record_text(&mut self, node: Id, piece: Piece, continues: bool) {
+        let Pass { recorder, adapter, frames, .. } = self;
+        let (place, last) = match frames.last_mut() {
+            Some(Frame { place, last, .. }) => (*place, last),
+            None => return,
+        };
+        let context = place.context;
+        let mut piece = piece;
+        if context.is_in_line() {
+            match adapter.cut_text(&recorder.text, node, piece) {
+                Some(cut) => piece = cut,
+                None => return,
             }
+        }
+        if context.hides_texts() {
+            return;
+        }
+        let is_apart = *last == Last::Text && !continues;
+        *last = Last::Text;
+        let parent = if context.holds == Holds::Anything { place.handle } else { self.parent_of_text(place.handle, piece) };
+        if is_apart {
+            self.recorder.part_texts(parent);
+        }
+        if context.changes_texts() {
+            piece = self.adapter.changed_text(&mut self.recorder, &context, piece);
+            if piece.1 == 0 {
+                return;
+            }
+        }
+        let piece = self.adapter.add_text(&mut self.recorder, piece);
+        if piece.1 > 0 {
+            self.recorder.text(parent, piece);
+        }
+    }
+
+    /// Records an element in the innermost one whose children are recorded. Returns whether its own children are recorded.
+    #[inline]
+    fn enter(&mut self, node: Id, element: &'a Element) -> bool {
+        let entered = match self.frames.last() {
+            Some(Frame { place, .. }) if place.context.holds == Holds::Anything => {
+                let count = self.recorder.node_count();
+                let entered = self.adapter.open(&mut self.recorder, node, element, place);
+                self.note_nodes(count);
+                entered
+            }
+            Some(&Frame { place, .. }) => self.open_in_list(node, element, place),
+            None => None,
+        };
+        match entered {
+            Some(Entered { handle, context, last, end }) if !is_head(element) => {
+                if context.holds != Holds::Anything {
+                    self.lists.push(List { numbers: self.adapter.take_numbers(), ..List::default() });
+                }
+                self.frames.push(Frame { node, place: Place { handle, context }, last, end });
+                true
+            }
+            _ => false,
+        }
+    }
+
+    /// Notes in the innermost frame whether nodes were made since there were so many.
+    #[inline]
+    fn note_nodes(&mut self, count: u32) {
+        if let (true, Some(frame)) = (self.recorder.node_count() != count, self.frames.last_mut()) {
+            frame.last = Last::Other;
+        }
+    }
+
+    /// Records an element that is directly in a list.
+    fn open_in_list(&mut self, node: Id, element: &'a Element, place: Place) -> Option<Entered> {
+        if place.context.holds.takes(element) {
+            self.open_item(node, element, place)
+        } else {
+            let place = self.place_of_other(node, element, place);
+            self.record_element(node, element, &place)
         }
     }
 
@@ -188,58 +276,43 @@ impl<'a> Pass<'a> {
         if place.context.holds == Holds::Items {
             place.handle = self.list_of(Some(node));
         }
-        let entered = self.record_element(node, element, place)?;
-        self.frames.last_mut()?.items = Items { item: Some(entered.handle), loose: None };
+        let entered = self.record_element(node, element, &place)?;
+        let list = self.lists.last_mut()?;
+        (list.item, list.loose) = (Some(entered.handle), None);
         Some(entered)
     }
 
-    fn record_element(&mut self, node: Id, element: &'a Element, place: Place) -> Option<Entered> {
+    fn record_element(&mut self, node: Id, element: &'a Element, place: &Place) -> Option<Entered> {
         let count = self.recorder.node_count();
-        let entered = match &mut self.adapter {
-            Some(adapter) => adapter.open(&mut self.recorder, node, element, place),
-            None => {
-                let handle = self.recorder.element(place.handle, record::space(&element.space), &element.name);
-                for attribute in self.tree.attributes_of(node) {
-                    self.recorder.attribute(handle, &attribute.name, &attribute.value);
-                }
-                Some(Entered::new(handle, place.context))
-            }
-        };
-        if self.recorder.node_count() != count {
-            self.frames.last_mut()?.last = Last::Other;
-        }
-        // nothing in a head is shown
-        entered.filter(|_| element.name != local_name!("head") || element.space != ns!(html))
+        let entered = self.adapter.open(&mut self.recorder, node, element, place);
+        self.note_nodes(count);
+        entered
     }
 
-    /// Returns the node among whose children a text is put: one of its own, where it is directly in a list.
-    fn parent_of_text(&mut self, piece: Piece) -> Handle {
-        match self.frames.last() {
-            Some(&Frame { place, items, .. }) => match items.loose {
-                Some(loose) => loose,
-                None if place.context.holds == Holds::Anything || adapt::is_blank(&self.recorder.text, piece) => place.handle,
-                None => self.open_loose(),
-            },
-            None => DOCUMENT,
+    /// Returns the node among whose children a text is put that is directly in a list: one of its own, unless the text is blank.
+    fn parent_of_text(&mut self, list: Handle, piece: Piece) -> Handle {
+        match self.lists.last() {
+            Some(List { loose: Some(loose), .. }) => *loose,
+            _ if adapt::is_blank(&self.recorder.text, piece) => list,
+            _ => self.open_loose(),
         }
     }
 
     /// Returns where an element is recorded that is directly in a list and isn't an item: in an element of its own, if it is shown.
     fn place_of_other(&mut self, node: Id, element: &Element, place: Place) -> Place {
-        let text = &self.recorder.text;
-        if !self.adapter.as_mut().map_or(false, |adapter| adapter.is_loose(text, node, element)) {
+        if !self.adapter.is_loose(&self.recorder.text, node, element) {
             return place;
         }
-        let loose = self.frames.last().and_then(|frame| frame.items.loose);
+        let loose = self.lists.last().and_then(|list| list.loose);
         Place { handle: loose.unwrap_or_else(|| self.open_loose()), context: place.context.in_loose() }
     }
 
     /// Returns the node of the list that an item is put in: another one where the numbers of an `ol` jump.
     fn list_of(&mut self, item: Option<Id>) -> Handle {
-        match (self.frames.last_mut(), &mut self.adapter) {
-            (Some(frame), Some(adapter)) => {
-                if let Some(numbers) = &mut frame.numbers {
-                    frame.place.handle = adapter.open_item(&mut self.recorder, frame.node, item, numbers).unwrap_or(frame.place.handle);
+        match (self.frames.last_mut(), self.lists.last_mut()) {
+            (Some(frame), Some(list)) => {
+                if let Some(numbers) = &mut list.numbers {
+                    frame.place.handle = self.adapter.open_item(&mut self.recorder, frame.node, item, numbers).unwrap_or(frame.place.handle);
                 }
                 frame.place.handle
             }
@@ -249,13 +322,13 @@ impl<'a> Pass<'a> {
 
     /// Records an element for what is directly in a list.
     fn open_loose(&mut self) -> Handle {
-        if matches!(self.frames.last(), Some(Frame { items: Items { item: None, .. }, .. })) {
+        if matches!(self.lists.last(), Some(List { item: None, .. })) {
             self.list_of(None);
         }
-        match (self.frames.last_mut(), &mut self.adapter) {
-            (Some(frame), Some(adapter)) => {
-                let loose = adapter.open_loose(&mut self.recorder, frame.place, frame.items.item);
-                frame.items.loose = Some(loose);
+        match (self.frames.last(), self.lists.last_mut()) {
+            (Some(frame), Some(list)) => {
+                let loose = self.adapter.open_loose(&mut self.recorder, frame.place, list.item);
+                list.loose = Some(loose);
                 loose
             }
             _ => DOCUMENT,
@@ -263,10 +336,13 @@ impl<'a> Pass<'a> {
     }
 
     /// Ends the innermost element whose children are recorded.
+    #[inline]
     fn leave(&mut self) {
-        match (self.frames.pop(), &mut self.adapter) {
-            (Some(Frame { end: End::Inline, .. }) | None, _) | (_, None) => {}
-            (Some(Frame { place, end, .. }), Some(adapter)) => adapter.close(&mut self.recorder, place.handle, end),
+        if let Some(Frame { place, end, .. }) = self.frames.pop() {
+            if place.context.holds != Holds::Anything {
+                self.lists.pop();
+            }
+            self.adapter.close(&mut self.recorder, place.handle, end);
         }
     }
 }

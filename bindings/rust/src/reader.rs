@@ -413,7 +413,7 @@ mod tests {
     use crate::characters::Filter;
     use crate::config::plain;
     use crate::moves::Moves;
-    use crate::pass::Pass;
+    use crate::pass;
     use crate::record::{self, Recorder};
     use crate::records::Step;
     use crate::tree::{Tree, MAX_ATTRIBUTES};
@@ -436,7 +436,7 @@ mod tests {
 
     fn recorded(mut sink: Sink) -> (Vec<Step>, String, String) {
         let text = std::mem::take(&mut sink.tree.text);
-        let (recorder, _) = Pass::record(&sink.tree, Recorder::new(text, sink.tree.filter), None);
+        let (recorder, _) = pass::record(&sink.tree, Recorder::new(text, sink.tree.filter), None);
         (recorder.steps, String::from_utf8(recorder.text).unwrap(), sink.css)
     }
 

@@ -36,7 +36,7 @@ use crate::pass::{End, Entered, Last, Place};
 use crate::record::{self, Handle, Recorder};
 use crate::tree::{Attr, Element, Id, Piece, Tree, DOCUMENT};
 use code::Code;
-use elements::{change_of, Change, Field, Inner, List, Part};
+use elements::{change_in, Change, Field, Inner, List, Part};
 use emphasis::{Signed, UNSIGNED_SUFFIX};
 use html5ever::{local_name, namespace_url, ns, LocalName};
 use inline::Inline;
@@ -152,7 +152,30 @@ impl Context {
         self.texts != Texts::Own
     }
 
+    /// Reports whether elements are recorded as in most places: outside of preformatted blocks, of rows that are one line, and of a `dl`
+    /// directly around.
+    #[inline]
+    fn is_plain(&self) -> bool {
+        self.texts != Texts::Code && self.line == Line::Elsewhere && self.holds != Holds::Descriptions
+    }
+
+    /// Reports whether emphasis has no signs.
+    fn drops_signs(&self) -> bool {
+        self.flags.has(Flags(Flags::HIDDEN.0 | Flags::PRE.0 | Flags::UNSIGNED.0))
+    }
+
+    /// Enters the cell of a table that is drawn.
+    fn enter_cell(&mut self, is_heading: bool) {
+        self.flags.set(Flags::TABLE, true);
+        if is_heading {
+            self.flags.set(Flags::UNSIGNED, true);
+        }
+        self.part = Some(Part::Cell);
+        self.margins.enter_cell();
+    }
+
     /// Returns the context in an element, before what the element itself changes.
+    #[inline]
     fn inside(self) -> Context {
         Context { part: None, line: self.line.inside(), holds: Holds::Anything, margins: self.margins.inside(), ..self }
     }
@@ -320,13 +343,15 @@ pub(crate) struct Adapter<'a> {
     end_of_citation: usize,
     /// Whether the last row that lines part from its neighbours has no mark yet.
     is_mark_missing: bool,
+    /// The numbers of the items of the `ol` that was opened last, until they are taken.
+    numbers: Option<Numbers>,
 }
 
 impl<'a> Adapter<'a> {
     pub fn new(tree: &'a Tree, mut adaptation: Adaptation) -> Adapter<'a> {
         let inline = Inline::new(Links::new(adaptation.links, adaptation.base.take()), adaptation.has_signs);
         let (filled, styles, nesting, row, rules, code) = Default::default();
-        Adapter { tree, adaptation, filled, styles, inline, nesting, row, rules, code, has_tables: false, has_row_marks: false, is_first_row: false, end_of_citation: 0, is_mark_missing: false }
+        Adapter { tree, adaptation, filled, styles, inline, nesting, row, rules, code, has_tables: false, has_row_marks: false, is_first_row: false, end_of_citation: 0, is_mark_missing: false, numbers: None }
     }
 
     /// Returns what the recorded document needs beside its steps.
@@ -444,7 +469,49 @@ impl<'a> Adapter<'a> {
     }
 
     /// Records an element, and what of its contents isn't in the tree. Returns where its children are recorded, if they are.
-    pub fn open(&mut self, recorder: &mut Recorder, node: Id, element: &'a Element, around: Place) -> Option<Entered> {
+    #[inline]
+    pub fn open(&mut self, recorder: &mut Recorder, node: Id, element: &'a Element, around: &Place) -> Option<Entered> {
+        let is_bare = !element.has_attributes() && element.space == ns!(html) && !self.adaptation.hiding.has_rules();
+        let change = change_in(element);
+        if is_bare && around.context.is_plain() {
+            self.open_bare(recorder, node, element, change, around)
+        } else {
+            self.open_any(recorder, node, element, change, around)
+        }
+    }
+
+    /// Records an element of HTML without attributes, in a place as most. The most frequent elements take few instructions.
+    fn open_bare(&mut self, recorder: &mut Recorder, node: Id, element: &'a Element, change: Change, around: &Place) -> Option<Entered> {
+        match change {
+            Change::Kept | Change::Block | Change::Item => Some(self.open_in_run(recorder, element, around, change.run())),
+            Change::Division | Change::Paragraph if !self.is_spacer(recorder, node, around.context) => Some(self.open_in_run(recorder, element, around, change.run())),
+            Change::Signed => {
+                let step = recorder.steps.len();
+                let entered = self.open_in_run(recorder, element, around, Run::Inline);
+                Some(self.enter_signed(recorder, element, around.handle, step, None, entered))
+            }
+            Change::Table(Part::Cell) if around.context.part == Some(Part::Row) => {
+                let mut entered = self.open_in_run(recorder, element, around, Run::Block);
+                self.inline.gaps.begin_place();
+                entered.context.enter_cell(element.name == local_name!("th"));
+                Some(entered)
+            }
+            _ => self.open_any(recorder, node, element, change, around),
+        }
+    }
+
+    /// Records an element of HTML without attributes under its own name.
+    #[inline]
+    fn open_in_run(&mut self, recorder: &mut Recorder, element: &Element, around: &Place, run: Run) -> Entered {
+        self.inline.begin(recorder, run);
+        let handle = recorder.element(around.handle, record::HTML, &element.name);
+        let end = if run == Run::Inline { End::Inline } else { End::Run(run) };
+        Entered { end, ..Entered::new(handle, around.context.inside()) }
+    }
+
+    /// Records any element. Returns where its children are recorded, if they are.
+    #[inline(never)]
+    fn open_any(&mut self, recorder: &mut Recorder, node: Id, element: &'a Element, change: Change, around: &Place) -> Option<Entered> {
         if around.context.is_in_line() {
             self.row.reach(node);
         }
@@ -452,11 +519,6 @@ impl<'a> Adapter<'a> {
         let is_html = element.space == ns!(html);
         let said = self.said_by(attributes, is_html);
         let mut opened = Opened::new(node, element, attributes, around.handle, said);
-        let change = match element.space {
-            ns!(html) => change_of(&element.name),
-            ns!(svg) => Change::Drawing,
-            _ => Change::Kept,
-        };
         let mut context = around.context.inside();
         self.hide_texts(&mut context, &opened.said, change);
         if self.is_hidden(element, attributes, &opened.said) || context.flags.has(Flags::INVISIBLE) && is_picture(element) {
@@ -486,7 +548,7 @@ impl<'a> Adapter<'a> {
 
     /// Records an element with what its name changes.
     #[inline(always)]
-    fn open_changed(&mut self, recorder: &mut Recorder, opened: &mut Opened<'_>, change: Change, around: Place, mut context: Context) -> Option<Entered> {
+    fn open_changed(&mut self, recorder: &mut Recorder, opened: &mut Opened<'_>, change: Change, around: &Place, mut context: Context) -> Option<Entered> {
         let (node, attributes) = (opened.node, opened.attributes);
         match change {
             Change::Kept | Change::Block | Change::Division | Change::Item | Change::Paragraph => Some(Entered::new(self.record(recorder, opened), context)),
@@ -535,8 +597,8 @@ impl<'a> Adapter<'a> {
                     opened.detail = Detail::Start(plan.first);
                 }
                 let handle = self.record(recorder, opened);
-                let numbers = Box::new(plan.numbers(around.handle));
-                Some(Entered { numbers: Some(numbers), end, ..Entered::new(handle, context) })
+                self.numbers = Some(plan.numbers(around.handle));
+                Some(Entered { end, ..Entered::new(handle, context) })
             }
             Change::Descriptions => {
                 context.holds = Holds::Descriptions;
@@ -570,7 +632,7 @@ impl<'a> Adapter<'a> {
     pub fn is_loose(&mut self, text: &[u8], node: Id, element: &Element) -> bool {
         let is_html = element.space == ns!(html);
         let attributes = self.tree.attributes(element);
-        let is_shown = match change_of(&element.name) {
+        let is_shown = match change_in(element) {
             _ if !is_html => true,
             Change::Dropped => false,
             Change::Dialog => attributes.iter().any(|attribute| attribute.name == local_name!("open")),
@@ -589,11 +651,20 @@ impl<'a> Adapter<'a> {
         said.drops() || self.adaptation.hiding.has_rules() && self.adaptation.is_hidden_by_rule(element, attributes, said)
     }
 
+    #[inline]
     fn is_hidden_item(&self, item: Id) -> bool {
         self.tree.element(item).map_or(false, |element| {
+            if !element.has_attributes() && !self.adaptation.hiding.has_rules() {
+                return false;
+            }
             let attributes = self.tree.attributes(element);
             self.is_hidden(element, attributes, &said_by(attributes, true, |text| InlineStyle::of(text).into()))
         })
+    }
+
+    /// Returns the numbers of the items of a list that was just opened, if it is an `ol`.
+    pub fn take_numbers(&mut self) -> Option<Numbers> {
+        self.numbers.take()
     }
 
     /// Counts an item of an `ol`. Returns the list that it is put in, if its number isn't the next one: lists count upwards one by one.
@@ -800,11 +871,17 @@ impl<'a> Adapter<'a> {
             opened.detail = Detail::MayBeUnsigned;
         }
         let step = recorder.steps.len();
-        let handle = self.record(recorder, opened);
-        let is_starred = opened.element.name != local_name!("code");
-        let signed = Signed { handle, parent: opened.parent, step, class_step: recorder.class_step(step), is_starred, is_signed: true };
-        self.inline.open_signed(recorder, signed, !context.hides_texts() && !context.flags.has(Flags(Flags::PRE.0 | Flags::UNSIGNED.0)));
-        Entered { end: End::Signed, ..Entered::new(handle, context) }
+        let entered = Entered::new(self.record(recorder, opened), context);
+        let class_step = recorder.class_step(step);
+        self.enter_signed(recorder, opened.element, opened.parent, step, class_step, entered)
+    }
+
+    /// Enters emphasis that a step recorded in a node, and that another step may have given classes.
+    fn enter_signed(&mut self, recorder: &mut Recorder, element: &Element, parent: Handle, step: usize, class_step: Option<usize>, entered: Entered) -> Entered {
+        let is_starred = element.name != local_name!("code");
+        let signed = Signed { handle: entered.handle, parent, step, class_step, is_starred, is_signed: true };
+        self.inline.open_signed(recorder, signed, !entered.context.drops_signs());
+        Entered { end: End::Signed, ..entered }
     }
 
     /// Records a `sup`: without signs around nothing and around brackets, and a number in brackets as raised digits, as citations have.
@@ -837,7 +914,8 @@ impl<'a> Adapter<'a> {
         }
         opened.detail = Detail::Target(self.recorded_href(recorder, &href));
         let step = recorder.steps.len();
-        let handle = self.record(recorder, opened);
+        let is_bare = opened.attributes.len() == 1 && matches!(opened.detail, Detail::Target(Href::Dropped));
+        let handle = if is_bare { recorder.element(opened.parent, record::HTML, &opened.element.name) } else { self.record(recorder, opened) };
         self.inline.links.open(self.tree, opened.node, step, &href);
         Entered { end: End::Link, ..Entered::new(handle, context) }
     }
@@ -890,12 +968,7 @@ impl<'a> Adapter<'a> {
         }
         context.part = Some(part);
         match part {
-            Part::Cell => {
-                if opened.element.name == local_name!("th") {
-                    context.flags.set(Flags::UNSIGNED, true);
-                }
-                context.margins.enter_cell();
-            }
+            Part::Cell => context.enter_cell(opened.element.name == local_name!("th")),
             Part::Row => {
                 let is_apart = apart::is_apart(self.adaptation.contents(self.tree, &recorder.text), opened.node, std::mem::take(&mut self.is_first_row));
                 if is_apart {

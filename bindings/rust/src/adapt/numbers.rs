@@ -49,7 +49,8 @@ fn is_nothing(tree: &Tree, text: &[u8], node: Id) -> bool {
 
 /// Returns the number of columns of a number and the full stop and space after it.
 fn columns_of(number: i64) -> u8 {
-    number.to_string().len() as u8 + 2
+    let digits = std::iter::successors(Some(number.unsigned_abs()), |&number| (number >= 10).then(|| number / 10)).count() as u8;
+    digits + u8::from(number < 0) + 2
 }
 
 impl Plan {

@@ -220,7 +220,7 @@ mod tests {
     use super::super::contents::tests::{adaptation, tree_of};
     use super::*;
     use crate::characters::Filter;
-    use crate::pass::Pass;
+    use crate::pass;
     use crate::records::Step;
     use std::mem;
 
@@ -228,7 +228,7 @@ mod tests {
     fn recorded(page: &str, by: Adaptation) -> String {
         let mut tree = tree_of(page);
         let text = mem::take(&mut tree.text);
-        let (recorder, _) = Pass::record(&tree, Recorder::new(text, Filter::default()), Some(by));
+        let (recorder, _) = pass::record(&tree, Recorder::new(text, Filter::default()), Some(by));
         let mut children: Vec<Vec<String>> = vec![Vec::new()];
         let mut nodes: Vec<(u32, String, String)> = vec![(0, String::new(), String::new())];
         for Step { kind, node, name, name_length, value, value_length, .. } in recorder.steps {
