@@ -24,7 +24,6 @@ mod edits;
 mod encoding;
 mod error;
 mod footnotes;
-mod hashing;
 mod hiding;
 mod limits;
 mod lines;

@@ -6,7 +6,6 @@
 
 use super::targets;
 use crate::footnotes::push_number;
-use crate::hashing::Seed;
 use crate::options::LinkMode;
 use crate::record::Handle;
 use crate::tree::{Id, Tree};
@@ -31,7 +30,7 @@ pub(crate) struct Links {
     text: Vec<u8>,
     /// What is shown after the last link.
     sign: String,
-    numbers: HashMap<Rc<str>, usize, Seed>,
+    numbers: HashMap<Rc<str>, usize>,
     targets: Vec<Rc<str>>,
 }
 

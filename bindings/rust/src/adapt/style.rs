@@ -1,7 +1,6 @@
 //! What an attribute `style` declares, of the properties that change what is shown.
 
 use crate::css::{self, Read, Value};
-use crate::hashing::Seed;
 use crate::lines::Colour;
 use cssparser::{
     parse_important, AtRuleParser, CowRcStr, DeclarationListParser, DeclarationParser, Parser, ParserInput, Token,
@@ -37,7 +36,7 @@ const MAX_REMEMBERED: usize = 1_000;
 /// Reads values of the attribute `style`. A value that is repeated is read once.
 #[derive(Default)]
 pub(crate) struct Styles {
-    read: HashMap<StrTendril, Rc<InlineStyle>, Seed>,
+    read: HashMap<StrTendril, Rc<InlineStyle>>,
 }
 
 impl Styles {
