@@ -25,9 +25,9 @@ impl<T: Tag, M: Copy> LineBuffer<T, M> {
         place.text_end.saturating_sub(place.text)
     }
 
-    /// Reports whether an ended line has more than `bytes` bytes with its newline.
-    pub(crate) fn has_longer_line(&self, bytes: usize) -> bool {
-        for n in 0..self.line_count() {
+    /// Reports whether an ended line, from line `from` on, has more than `bytes` bytes with its newline.
+    pub(crate) fn has_longer_line(&self, from: usize, bytes: usize) -> bool {
+        for n in from..self.line_count() {
             if self.line_bytes(n) > bytes {
                 return true;
             }

@@ -42,7 +42,7 @@ impl<T: Tag, M: Copy> FinishedLines<T, M> {
     pub(super) fn separate(&mut self) -> Result<(), AllocError>
         ensures { OnOk result (self.new ≡ self.old) }
     {
-        if self.last.byte_count() <= LONG || !self.last.has_longer_line(LONG) {
+        if self.last.byte_count() <= LONG || !self.last.has_longer_line(0, LONG) {
             return Ok(());
         }
         let lines = self.take_last();
@@ -74,9 +74,12 @@ impl<T: Tag, M: Copy> FinishedLines<T, M> {
             return self.push_piece(piece.with_prefix(first)?.marked_first(marks)?);
         }
         piece.has_line();
+        let before = self.last.line_count();
         self.push_lines_behind(&piece.into_buffer()?, marks, first, later)?;
-        // lines that are long now are copied no more
-        self.separate()?;
+        // so that later prefixes don't copy the lines that are long with this one
+        if self.last.has_longer_line(before, LONG) {
+            self.separate()?;
+        }
         Ok(())
     }
 
