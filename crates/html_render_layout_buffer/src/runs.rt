@@ -168,12 +168,12 @@ impl<T: Tag> TagRuns<T> {
         }
     }
 
-    /// Appends another list's tags from the place `from` to the place `to`.
+    /// Appends another list's tags from the place `from` to the place `to`. Most lists have one run.
     ///
     /// # Errors
     ///
     /// `AllocError`. Some of the tags may then be appended.
-    #[inline]
+    #[inline(always)]
     pub fn append_range(
         &mut self,
         other: &TagRuns<T>,
@@ -188,6 +188,21 @@ impl<T: Tag> TagRuns<T> {
         if runs.is_empty() {
             return self.push_last(other.tag, to - from);
         }
+        self.append_runs(other, from, to)
+    }
+
+    /// Appends the tags from the place `from` to the place `to` of another list, which may have several runs.
+    ///
+    /// # Errors
+    ///
+    /// `AllocError`. Some of the tags may then be appended.
+    #[inline(never)]
+    fn append_runs(&mut self, other: &TagRuns<T>, from: usize, to: usize) -> Result<(), AllocError>
+        requires range { from ≤ to }
+        requires within { to ≤ length other.now }
+        ensures { OnOk result (self.new ≡ self.old ++ drop from (take to other.now)) }
+    {
+        let runs = other.closed.as_slice();
         let first = first_after(runs, from);
         self.push_runs(&runs[first..], other.tag, from, to)
     }

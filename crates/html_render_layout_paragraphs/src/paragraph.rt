@@ -189,6 +189,7 @@ impl<T: Tag, M: Copy> Paragraph<T, M> {
     /// - `TooNarrow`, with overflow off, if a character of the open word is wider than a line.
     ///
     /// The contents of the paragraph and of `lines` are then unspecified.
+    #[inline(always)]
     #[tactic(auto, using(crate::proofs::Flushing::flushing))]
     pub fn flush(&mut self, lines: &mut FinishedLines<T, M>) -> Result<bool, Error>
         ensures ok { OnOk result (option_map (flushed_to self.old.setting lines.old) (finished self.old) ≡ Some (lines.new, self.new)) }
@@ -198,6 +199,20 @@ impl<T: Tag, M: Copy> Paragraph<T, M> {
         if self.is_blank() {
             return Ok(false);
         }
+        self.flush_contents(lines)
+    }
+
+    /// Flushes a paragraph that may have contents.
+    ///
+    /// # Errors
+    ///
+    /// Those of [`Paragraph::flush`].
+    #[inline(never)]
+    fn flush_contents(&mut self, lines: &mut FinishedLines<T, M>) -> Result<bool, Error>
+        ensures ok { OnOk result (option_map (flushed_to self.old.setting lines.old) (finished self.old) ≡ Some (lines.new, self.new)) }
+        ensures some { IfOk result (λ some. some ≡ not (length lines.new == length lines.old)) }
+        ensures err { IfErr result (λ e. Refuses e (finished self.old)) }
+    {
         self.end_word()?;
         self.end_open_line()?;
         let some = self.lines.line_count() > 0;

@@ -116,6 +116,7 @@ impl<T: Tag, M: Copy> LineBuffer<T, M> {
     /// # Errors
     ///
     /// `AllocError`. The buffer then has no lines.
+    #[inline(always)]
     fn append_line_after(
         &mut self,
         prefix: &Prefix<'_, T>,
@@ -296,7 +297,7 @@ fn put_all<T: Tag, M: Copy>(
 }
 
 /// Appends a prefix, a line with its newline, and the line's end.
-#[inline]
+#[inline(always)]
 fn put_after<T: Tag, M: Copy>(
     text: &mut String,
     slots: &mut TagRuns<Slot<T, M>>,

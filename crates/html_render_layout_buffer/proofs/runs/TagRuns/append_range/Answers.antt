@@ -1,11 +1,8 @@
 use Rattle.std.proofs.Common.{rules, ◌≡◌, [], ◌++◌, length, sym, ap, ◌∙◌, subst, OnOk}
 use Rattle.std.proofs.lemmas.List.{nil_from_length}
 use Rattle.html_render_layout_buffer.specs.Runs.{tags_between}
-use Rattle.html_render_layout_buffer.proofs.TagLists.{part-is, between_is, rising-is}
+use Rattle.html_render_layout_buffer.proofs.TagLists.{between_is}
 use Rattle.html_render_layout_buffer.proofs.runs.TagRuns.append_range.Goals as goal
-
-pub first_after-first-requires : goal.first_after-first-requires
-first_after-first-requires g c = rising-is _ _ _ _ c.other.invariant c.as_slice-runs.ensures.value
 
 pub returns-then-is_empty : goal.returns-then-is_empty
 returns-then-is_empty g c =
@@ -16,9 +13,3 @@ returns-then-is_empty g c =
     ∙ between_is _ runs c.other.inside.tag c.args.from c.args.to _ _ c.other.invariant c.other.view_is c.as_slice-runs.ensures.value
     c.requires.range c.requires.within in
     subst (λ ts. OnOk c.push_last.result (c.push_last.new.self ≡ c.args.self.now ++ ts)) part c.push_last.ensures
-
-pub returns : goal.returns
-returns g c =
-    let part = part-is _ _ _ _ _ _ _ _ c.other.invariant c.other.view_is c.as_slice-runs.ensures.value c.requires.range c.requires.within
-    c.first_after-first.ensures.ended c.first_after-first.ensures.bound in
-    subst (λ ts. OnOk c.push_runs.result (c.push_runs.new.self ≡ c.args.self.now ++ ts)) part c.push_runs.ensures
