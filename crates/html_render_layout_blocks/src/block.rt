@@ -265,6 +265,7 @@ impl<T: Tag, M: Copy> Block<T, M> {
     }
 
     /// Flushes the open paragraph. Returns whether it had no line.
+    #[inline(always)]
     #[tactic(auto, using(html_render_dom_values::specs::laws::Outcome::refusals, crate::proofs::Behind::flushed))]
     fn flush_paragraph(&mut self) -> Result<bool, Error>
         ensures ok { OnOk result (block.flush machine self.old ≡ Some self.new) }

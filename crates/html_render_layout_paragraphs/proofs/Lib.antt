@@ -5,3 +5,4 @@ pub mod Letters
 pub mod WholeWords
 pub mod SpacedWords
 pub mod Flushing
+pub mod Nearby

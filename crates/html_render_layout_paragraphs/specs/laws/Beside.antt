@@ -16,7 +16,7 @@ use Rattle.html_render_layout_lines.specs.laws.Cases.{if_cases, nil_from_is_empt
 use Rattle.html_render_layout_lines.specs.laws.Columns.{columns-push}
 use Rattle.html_render_layout_paragraphs.specs.CutText.{kept_style, text_lines}
 use Rattle.html_render_layout_paragraphs.specs.Paragraph.{Piece, Word, Gap, Cut, Single, Loose, pieces, LineBuffer, Setting, with_waiting_mark}
-use Rattle.html_render_layout_paragraphs.specs.Placing.{with_line_break, put_word}
+use Rattle.html_render_layout_paragraphs.specs.Placing.{put_word}
 use Rattle.html_render_layout_paragraphs.specs.Paragraph.{put_character, put_items, put_single, page_for_word, page_for_single, put_fitting}
 use Rattle.html_render_layout_paragraphs.specs.Paragraph.{tab_spaces, place, paragraph, empty_buffer, continued, with_character, with_due_space, fits}
 use Rattle.html_render_layout_paragraphs.specs.Paragraph.{without_overflow, with_overflow, all_lines}

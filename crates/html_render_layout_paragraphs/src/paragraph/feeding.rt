@@ -2,7 +2,7 @@
 //!
 //! A letter is a character of [`Kind::Letter`], a part of a word.
 
-ghost use Rattle.std.specs.Prelude.{IfErr, IfOk, length, take, drop, ◌≡◌, ◌+◌, ◌≤◌, ◌<◌, [], Some, None, OnOk, true};
+ghost use Rattle.std.specs.Prelude.{IfErr, IfOk, IfSome, length, take, drop, ◌≡◌, ◌+◌, ◌≤◌, ◌<◌, [], Some, None, OnOk, true};
 ghost use Rattle.std.specs.Bool.{OnTrue};
 ghost use Rattle.std.specs.List.{list_all, slice_index};
 ghost use Rattle.std.specs.Str.{chars, IsUtf8};
@@ -23,6 +23,7 @@ use html_render_layout_lines::character::{
 };
 use html_render_layout_lines::tag::Tag;
 use std::alloc::AllocError;
+use std::simd::prelude::*;
 
 /// Letters at the start of a text: their number of bytes, and their columns.
 #[derive(Clone, Copy)]
@@ -347,6 +348,25 @@ fn has_space_at(text: &[u8], at: usize) -> bool
     at < text.len() && matches!(text[at], b' ' | b'\n')
 }
 
+/// Number of bytes that are tested at once. Most words are shorter.
+const LANES: usize = 8;
+
+/// Returns the number of printable ASCII characters, the space excluded, at the start of a text, if it is less than `LANES`.
+#[inline(always)]
+fn few_plain_in_front(text: &[u8]) -> Option<usize>
+    requires { LANES ≤ length text.now }
+    ensures within { IfSome result (λ count. count ≤ length text.now) }
+    ensures plain { IfSome result (λ count. list_all is_plain (take count text.now) ≡ true) }
+{
+    let block = u8x8::from_slice(text);
+    let others = block.simd_lt(u8x8::splat(b'!')) | block.simd_gt(u8x8::splat(b'~'));
+    let others = others.to_bitmask();
+    if others == 0 {
+        return None;
+    }
+    Some(others.trailing_zeros() as usize)
+}
+
 /// Returns the number of printable ASCII characters, the space excluded, at the start of a text. Each has one byte and
 /// one column.
 #[inline]
@@ -354,6 +374,11 @@ pub(super) fn plain_in_front(text: &[u8]) -> usize
     ensures within { result ≤ length text.now }
     ensures plain { list_all is_plain (take result text.now) ≡ true }
 {
+    if text.len() >= LANES {
+        if let Some(count) = few_plain_in_front(text) {
+            return count;
+        }
+    }
     let mut count = 0;
     while count < text.len() && matches!(text[count], b'!'..=b'~') {
         count += 1;
