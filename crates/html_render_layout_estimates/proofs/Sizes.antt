@@ -8,7 +8,8 @@ use Rattle.std.proofs.lemmas.Grind.{common_steps}
 use Rattle.std.specs.Str.{chars}
 use Rattle.html_render_layout_lines.specs.Character.{is_collapsible, width_of}
 use Rattle.html_render_layout_lines.specs.laws.Characters.{plain_width}
-use Rattle.std.proofs.lemmas.Bool.{cases_eq, cases_lt}
+use Rattle.std.proofs.lemmas.Bool.{cases_eq, cases_lt, eqb-true}
+use Rattle.std.proofs.Math.Dec.{eqb}
 use Rattle.html_render_layout_estimates.proofs.Latin.{latin_width, latin-collapsible, next-latin}
 use Rattle.html_render_layout_estimates.specs.TextSize.{collapsed_columns, inner_columns, size_of, IsPlainBetween}
 
@@ -87,27 +88,6 @@ Sized-letter bs at k n spaced s w within low high is_n is_s = rw (is_n, is_s) (r
     few : (spaced : Bool) → k + cond spaced 1 0 ≤ at → k + cond spaced 2 1 + cond false 1 0 ≤ at + 1
     few true h = omega (arith, h)
     few false h = omega (arith, h)
-
--- a run of letters without white space before it adds its length
-Sized-letters : (bs : List ℕ) (at k n : ℕ) → Sized bs at k false → at + n ≤ length bs →
-    AllWithin (λ b. (33 ≤ b) × (b ≤ 126)) bs at (at + n) → Sized bs (at + n) (k + n) false
-Sized-letters bs at k zero w within letters = subst (λ m. Sized bs m (k + 0) false) (omega arith) (subst (λ m. Sized bs at m false) (omega arith) w)
-Sized-letters bs at k (suc n) w within letters =
-    let so_far = Sized-letters bs at k n w (omega (arith, within)) (λ i d low high. letters i d low (omega (arith, high))) in
-    let letter = letters (at + n) 0 (omega arith) (omega arith) in
-    let more = Sized-letter bs (at + n) (k + n) (k + suc n) false false so_far (omega (arith, within)) letter.0 letter.1 (omega arith) refl in
-    subst (λ m. Sized bs m (k + suc n) false) (omega arith) more
-
--- a letter and the letters after it
-pub Sized-run : (bs : List ℕ) (at k end n : ℕ) (spaced s : Bool) → Sized bs at k spaced → at < length bs →
-    33 ≤ get_or bs at 0 → get_or bs at 0 ≤ 126 → at + 1 ≤ end → end ≤ length bs →
-    AllWithin (λ b. (33 ≤ b) × (b ≤ 126)) bs (at + 1) end → n ≡ k + cond spaced 2 1 + (end - (at + 1)) → s ≡ false → Sized bs end n s
-Sized-run bs at k end n spaced s w within low high behind inside letters is_n is_s =
-    let first = Sized-letter bs at k (k + cond spaced 2 1) spaced false w within low high refl refl in
-    let is_end : at + 1 + (end - (at + 1)) ≡ end = omega (arith, behind) in
-    let all = Sized-letters bs (at + 1) (k + cond spaced 2 1) (end - (at + 1)) first (omega (arith, inside, is_end))
-    (subst (λ m. AllWithin (λ b. (33 ≤ b) × (b ≤ 126)) bs (at + 1) m) (sym is_end) letters) in
-    rw (is_n, is_s) (subst (λ m. Sized bs m (k + cond spaced 2 1 + (end - (at + 1))) false) is_end all)
 
 pub Sized-space : (bs : List ℕ) (at k n : ℕ) (spaced s : Bool) → Sized bs at k spaced → at < length bs →
     is_collapsible (get_or bs at 0) ≡ true → get_or bs at 0 < 128 → n ≡ k → s ≡ true → Sized bs (at + 1) n s
@@ -193,14 +173,15 @@ space-columns bs spaced within space small = ap (collapsed_columns spaced) (next
     behind : (c : ℕ) → is_collapsible c ≡ true → collapsed_columns spaced (c ∷ chars (drop 1 bs)) ≡ collapsed_columns true (chars (drop 1 bs))
     behind c e = rw e refl
 
--- ---- a text of printable ASCII in which no space follows another space
+-- ---- printable ASCII in which no space follows another space
 
--- whether the preferred width of such a text follows from its first `m` bytes, the last of which is `last`
-record Plain (bs : List ℕ) (m last : ℕ) : Type 0 where
-  pub some : 1 ≤ m
+-- whether the preferred width of a text follows from its first `m` bytes, the last of which is `last`, if each of the bytes after
+-- the first `d` counts one column, but for a space at the end
+record Plain (bs : List ℕ) (d m last : ℕ) : Type 0 where
+  pub some : d + 1 ≤ m
   pub printable : 32 ≤ last
-  pub space : last ≡ 32 → Sized bs m (m - 1) true
-  pub letter : 33 ≤ last → Sized bs m m false
+  pub space : last ≡ 32 → Sized bs m (m - d - 1) true
+  pub letter : 33 ≤ last → Sized bs m (m - d) false
 
 no_space : (b : ℕ) → 32 ≤ b → (b ≡ 32 → ⊥) → 33 ≤ b
 no_space b printable other = elim (cases_lt 32 b) [
@@ -208,53 +189,72 @@ no_space b printable other = elim (cases_lt 32 b) [
   | inr le ↦ absurd (other (omega (arith, le, printable)))
 ]
 
-Plain-next : (bs : List ℕ) (m last : ℕ) → Plain bs m last → m < length bs → 32 ≤ get_or bs m 0 → get_or bs m 0 ≤ 126 →
-    (get_or bs m 0 ≡ 32 → last ≡ 32 → ⊥) → Plain bs (m + 1) (get_or bs m 0)
-Plain-next bs m last w within printable small single = record {
-  some = omega arith;
+Plain-next : (bs : List ℕ) (d m last : ℕ) → Plain bs d m last → m < length bs → 32 ≤ get_or bs m 0 → get_or bs m 0 ≤ 126 →
+    (get_or bs m 0 ≡ 32 → last ≡ 32 → ⊥) → Plain bs d (m + 1) (get_or bs m 0)
+Plain-next bs d m last w within printable small single = record {
+  some = omega (arith, w.some);
   printable = printable;
-  space = λ space. subst (λ k. Sized bs (m + 1) k true) (omega arith)
-      (Sized-space bs m m m false true (w.letter (no_space last w.printable (single space))) within (ap is_collapsible space) (omega (arith, space)) refl refl);
+  space = λ space. subst (λ k. Sized bs (m + 1) k true) (omega (arith, w.some))
+      (Sized-space bs m (m - d) (m - d) false true (w.letter (no_space last w.printable (single space))) within (ap is_collapsible space) (omega (arith, space)) refl refl);
   letter = λ letter. elim (cases_eq last 32) [
-    | inl before ↦ Sized-letter bs m (m - 1) (m + 1) true false (w.space before) within letter small (omega (arith, w.some)) refl
-    | inr other ↦ Sized-letter bs m m (m + 1) false false (w.letter (no_space last w.printable other)) within letter small (omega arith) refl
+    | inl before ↦ Sized-letter bs m (m - d - 1) (m + 1 - d) true false (w.space before) within letter small (omega (arith, w.some)) refl
+    | inr other ↦ Sized-letter bs m (m - d) (m + 1 - d) false false (w.letter (no_space last w.printable other)) within letter small (omega (arith, w.some)) refl
   ];
 }
 
-Plain-first : (bs : List ℕ) (m : ℕ) → 1 ≤ m → m ≤ length bs → 33 ≤ get_or bs 0 0 → get_or bs 0 0 ≤ 126 → IsPlainBetween bs 1 m →
-    Plain bs m (get_or bs (m - 1) 0)
-Plain-first bs zero some within low high plain = absurd (omega (arith, some))
-Plain-first bs (suc zero) some within low high plain = record {
-  some = omega arith;
-  printable = omega (arith, low);
-  space = λ space. absurd (omega (arith, space, low));
-  letter = λ letter. Sized-letter bs 0 0 1 false false (Sized-start bs) (omega (arith, within)) low high refl refl;
-}
-Plain-first bs (suc (suc m)) some within low high plain =
-    let before = Plain-first bs (suc m) (omega arith) (omega (arith, within)) low high (λ k from to. plain k from (omega (arith, to))) in
-    let here = plain (suc m) (omega arith) (omega arith) in
-    let next = Plain-next bs (suc m) (get_or bs (suc m - 1) 0) before (omega (arith, within)) here.0 here.1 here.2 in
-    subst (λ k. Plain bs k (get_or bs (k - 1) 0)) (omega arith) (subst (λ k. Plain bs (suc m + 1) (get_or bs k 0)) (omega arith) next)
+Plain-on : (bs : List ℕ) (d s n : ℕ) → Plain bs d s (get_or bs (s - 1) 0) → s + n ≤ length bs → IsPlainBetween bs s (s + n) →
+    Plain bs d (s + n) (get_or bs (s + n - 1) 0)
+Plain-on bs d s zero start within plain = subst (λ k. Plain bs d k (get_or bs (k - 1) 0)) (omega arith) start
+Plain-on bs d s (suc n) start within plain =
+    let before = Plain-on bs d s n start (omega (arith, within)) (λ k from to. plain k from (omega (arith, to))) in
+    let here = plain (s + n) (omega arith) (omega arith) in
+    let next = Plain-next bs d (s + n) (get_or bs (s + n - 1) 0) before (omega (arith, within)) here.0 here.1 here.2 in
+    subst (λ k. Plain bs d k (get_or bs (k - 1) 0)) (omega arith) (subst (λ k. Plain bs d (s + n + 1) (get_or bs k 0)) (omega arith) next)
 
--- such a text that begins with a letter takes a column for each byte, but for a space at its end
-pub plain_size : (bs : List ℕ) (last : ℕ) → last + 1 ≡ length bs → 33 ≤ get_or bs 0 0 → get_or bs 0 0 ≤ 126 →
-    IsPlainBetween bs 1 (length bs) →
-    (get_or bs last 0 ≡ 32 → last ≡ size_of (chars bs)) × ((get_or bs last 0 ≡ 32 → ⊥) → length bs ≡ size_of (chars bs))
-plain_size bs last all low high plain = (
-  λ space. sym less ∙ counted (length bs - 1) true (w.space (at_last ∙ space)),
-  λ other. counted (length bs) false (w.letter (no_space (get_or bs (length bs - 1) 0) w.printable (λ e. other (sym at_last ∙ e)))),
+pub not-eqb : (a b : ℕ) → (a ≡ b → ⊥) → eqb a b ≡ false
+not-eqb a b other = by (eqb a b) refl
+  where
+    by : (t : Bool) → eqb a b ≡ t → eqb a b ≡ false
+    by true e = absurd (other (eqb-true a b e))
+    by false e = e
+
+some_columns : (spaced : Bool) → 1 ≤ cond spaced 2 1
+some_columns true = omega arith
+some_columns false = omega arith
+
+-- a letter and such bytes after it take a column for each, but for a space at their end
+pub Sized-plain : (bs : List ℕ) (at k end : ℕ) (spaced : Bool) → Sized bs at k spaced → at < length bs →
+    33 ≤ get_or bs at 0 → get_or bs at 0 ≤ 126 → at + 1 ≤ end → end ≤ length bs → IsPlainBetween bs (at + 1) end →
+    (get_or bs (end - 1) 0 ≡ 32 → Sized bs end (k + cond spaced 2 1 + (end - (at + 1)) - 1) true)
+    × ((get_or bs (end - 1) 0 ≡ 32 → ⊥) → Sized bs end (k + cond spaced 2 1 + (end - (at + 1))) false)
+Sized-plain bs at k end spaced w within low high behind inside plain = (
+  λ space. subst (λ n. Sized bs end n true) (omega (arith, first.few, behind)) (all.space space),
+  λ other. subst (λ n. Sized bs end n false) (omega (arith, first.few, behind)) (all.letter (no_space _ all.printable other)),
 )
   where
-    w : Plain bs (length bs) (get_or bs (length bs - 1) 0)
-    w = Plain-first bs (length bs) (omega (arith, all)) (omega arith) low high plain
+    counted : ℕ
+    counted = k + cond spaced 2 1
 
-    less : length bs - 1 ≡ last
-    less = omega (arith, all)
+    d : ℕ
+    d = at + 1 - counted
 
-    at_last : get_or bs (length bs - 1) 0 ≡ get_or bs last 0
-    at_last = ap (λ k. get_or bs k 0) less
+    first : Sized bs (at + 1) counted false
+    first = Sized-letter bs at k counted spaced false w within low high refl refl
 
-    counted : (k : ℕ) (spaced : Bool) → Sized bs (length bs) k spaced → k ≡ size_of (chars bs)
-    counted k spaced sized =
-        let none : chars (drop (length bs) bs) ≡ [] = ap chars (drop_all (length bs) bs (omega arith)) ∙ chars-nil in
-        sym (size_on-none k spaced) ∙ ap (size_on k spaced) (sym none) ∙ sized.size
+    one : Plain bs d (at + 1) (get_or bs at 0)
+    one = record {
+      some = omega (arith, some_columns spaced);
+      printable = omega (arith, low);
+      space = λ space. absurd (omega (arith, space, low));
+      letter = λ _. subst (λ n. Sized bs (at + 1) n false) (omega (arith, first.few)) first;
+    }
+
+    start : Plain bs d (at + 1) (get_or bs (at + 1 - 1) 0)
+    start = subst (λ j. Plain bs d (at + 1) (get_or bs j 0)) (omega arith) one
+
+    is_end : at + 1 + (end - (at + 1)) ≡ end
+    is_end = omega (arith, behind)
+
+    all : Plain bs d end (get_or bs (end - 1) 0)
+    all = subst (λ m. Plain bs d m (get_or bs (m - 1) 0)) is_end (Plain-on bs d (at + 1) (end - (at + 1)) start (omega (arith, inside, is_end))
+        (subst (λ m. IsPlainBetween bs (at + 1) m) (sym is_end) plain))

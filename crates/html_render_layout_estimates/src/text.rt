@@ -28,7 +28,8 @@ pub fn columns(text: &str) -> usize
     columns
 }
 
-/// Returns the lesser of a text's preferred width and `limit`. Reads no further than the word that reaches the limit.
+/// Returns the lesser of a text's preferred width and `limit`. For a limit of a few columns, reads no further than the word that
+/// reaches it.
 ///
 /// White space at the text's end doesn't count. Each run of white space in it counts 1, and so does white space at its start
 /// if the rest has any column.
@@ -48,48 +49,11 @@ pub fn size_within(text: &str, limit: usize) -> usize
 pub fn size(text: &str) -> usize
     ensures { result ≡ saturated (size_of (chars text.now)) }
 {
-    match plain_size(text.as_bytes()) {
-        Some(size) => size,
-        None => size_within(text, usize::MAX),
-    }
+    size_within(text, usize::MAX)
 }
 
 /// Number of bytes that are tested at once.
 const LANES: usize = 8;
-
-/// Returns the preferred width of a text of more than `LANES` bytes if it is printable ASCII, begins with no space, and has no
-/// space after another space; `None` for other texts.
-#[inline]
-fn plain_size(text: &[u8]) -> Option<usize>
-    ensures { IfSome result (λ size. size ≡ size_of (chars text.now)) }
-{
-    if text.len() <= LANES || !is_letter(text[0]) || !is_plain(text) {
-        return None;
-    }
-    let last = text.len() - 1;
-    if text[last] == b' ' {
-        return Some(last);
-    }
-    Some(text.len())
-}
-
-/// Reports whether each byte after the first is printable ASCII, and no space after another space.
-///
-/// The last bytes that are tested at once may be among those before them.
-#[inline]
-fn is_plain(text: &[u8]) -> bool
-    requires { LANES < length text.now }
-    ensures { IsTrue result → IsPlainBetween text.now 1 (length text.now) }
-{
-    let mut at = 1;
-    while text.len() - at > LANES {
-        if !is_plain_block(text, at) {
-            return false;
-        }
-        at += LANES;
-    }
-    is_plain_block(text, text.len() - LANES)
-}
 
 /// Reports whether each of `LANES` bytes from `at` on is printable ASCII, and no space after another space.
 #[inline(always)]
@@ -149,10 +113,13 @@ fn size_by_bytes(text: &[u8], limit: usize) -> Result<usize, Counted>
     while columns < limit && at < text.len() {
         let byte = text[at];
         if is_letter(byte) {
-            let end = letters_end(text, at + 1);
+            let end = plain_end(text, at + 1, limit);
             columns += if spaced { 2 } else { 1 };
             columns += end - (at + 1);
-            spaced = false;
+            spaced = text[end - 1] == b' ';
+            if spaced {
+                columns -= 1;
+            }
             at = end;
         } else if is_space(byte) {
             spaced = true;
@@ -170,6 +137,23 @@ fn size_by_bytes(text: &[u8], limit: usize) -> Result<usize, Counted>
         }
     }
     Ok(columns.min(limit))
+}
+
+/// Returns the index after some bytes from `start` on that are printable ASCII, and no space after another space. They end with
+/// the letters of a word; for a limit of a few columns they are the letters from `start` on.
+#[inline(always)]
+fn plain_end(text: &[u8], start: usize, limit: usize) -> usize
+    requires { (0 < start) × (start ≤ length text.now) }
+    ensures within { (start ≤ result) × (result ≤ length text.now) }
+    ensures plain { IsPlainBetween text.now start result }
+{
+    let mut at = start;
+    if limit > LANES {
+        while text.len() - at >= LANES && is_plain_block(text, at) {
+            at += LANES;
+        }
+    }
+    letters_end(text, at)
 }
 
 /// Returns the index after the letters from `start` on. A letter is a printable ASCII character other than the space.

@@ -1,22 +1,40 @@
-use Rattle.std.proofs.Common.{◌≡◌, cond, refl, ◌∙◌, arith}
-use Rattle.html_render_layout_estimates.proofs.Sizes.{Sized-start, Sized-run, Sized-space, Sized-latin, Sized-end, Sized-reached}
+use Rattle.std.proofs.Common.{◌≡◌, true, false, cond, refl, sym, subst, ◌∙◌, arith}
+use Rattle.std.proofs.lemmas.Bool.{eq-eqb}
+use Rattle.html_render_layout_estimates.proofs.Sizes.{Sized, not-eqb, Sized-start, Sized-plain, Sized-space, Sized-latin, Sized-end, Sized-reached}
 use Rattle.html_render_layout_estimates.proofs.text.size_by_bytes.Goals.{then-loop-columns-test+else-at-text, else-loop-columns-test}
-use Rattle.html_render_layout_estimates.proofs.text.size_by_bytes.Goals.{then-spaced, else-spaced, then-spaced-2, else-spaced-2}
+use Rattle.html_render_layout_estimates.proofs.text.size_by_bytes.Goals.{then-spaced, else-spaced, then-spaced-3, else-spaced-3}
 use Rattle.html_render_layout_estimates.proofs.text.size_by_bytes.Goals as goal
 
 pub loop-columns-init : goal.loop-columns-init
 loop-columns-init c = Sized-start c.args.text.now
 
-pub loop-columns-preserved-then-is_letter : goal.loop-columns-preserved-then-is_letter
-loop-columns-preserved-then-is_letter c =
+pub loop-columns-preserved-then-spaced-2 : goal.loop-columns-preserved-then-spaced-2
+loop-columns-preserved-then-spaced-2 c =
     let low = c.if-is_letter.ensures.low in
     let high = c.if-is_letter.ensures.high in
     let step : c.if-spaced.columns ≡ cond c.loop-columns.spaced 2 1 = elim c.if-spaced.branch [
       | then-spaced w ↦ w.columns-is ∙ rw w.if-spaced.true refl
       | else-spaced w ↦ w.columns-is ∙ rw w.if-spaced.false refl
     ] in
-    Sized-run _ _ _ _ _ _ _ c.loop-columns.invariant c.if-at-text.true low high c.letters_end-end.ensures.within.0 c.letters_end-end.ensures.within.1
-    c.letters_end-end.ensures.letters (omega (arith, step)) refl
+    let plain = Sized-plain _ _ _ _ _ c.loop-columns.invariant c.if-at-text.true low high c.plain_end-end.ensures.within.0
+    c.plain_end-end.ensures.within.1 c.plain_end-end.ensures.plain in
+    let spaced = sym (eq-eqb _ 32 c.if-spaced-2.true) in
+    subst (Sized c.args.text.now c.plain_end-end.result _) spaced
+    (subst (λ n. Sized c.args.text.now c.plain_end-end.result n true) (omega (arith, step)) (plain.0 c.if-spaced-2.true))
+
+pub loop-columns-preserved-else-spaced-2 : goal.loop-columns-preserved-else-spaced-2
+loop-columns-preserved-else-spaced-2 c =
+    let low = c.if-is_letter.ensures.low in
+    let high = c.if-is_letter.ensures.high in
+    let step : c.if-spaced.columns ≡ cond c.loop-columns.spaced 2 1 = elim c.if-spaced.branch [
+      | then-spaced w ↦ w.columns-is ∙ rw w.if-spaced.true refl
+      | else-spaced w ↦ w.columns-is ∙ rw w.if-spaced.false refl
+    ] in
+    let plain = Sized-plain _ _ _ _ _ c.loop-columns.invariant c.if-at-text.true low high c.plain_end-end.ensures.within.0
+    c.plain_end-end.ensures.within.1 c.plain_end-end.ensures.plain in
+    let letter = sym (not-eqb _ 32 c.if-spaced-2.false) in
+    subst (Sized c.args.text.now c.plain_end-end.result _) letter
+    (subst (λ n. Sized c.args.text.now c.plain_end-end.result n false) (omega (arith, step)) (plain.1 c.if-spaced-2.false))
 
 pub loop-columns-preserved-then-is_space : goal.loop-columns-preserved-then-is_space
 loop-columns-preserved-then-is_space c =
@@ -24,9 +42,9 @@ loop-columns-preserved-then-is_space c =
 
 pub loop-columns-preserved : goal.loop-columns-preserved
 loop-columns-preserved c =
-    let step : c.if-spaced-2.columns ≡ cond c.loop-columns.spaced 2 1 = elim c.if-spaced-2.branch [
-      | then-spaced-2 w ↦ w.columns-is ∙ rw w.if-spaced-2.true refl
-      | else-spaced-2 w ↦ w.columns-is ∙ rw w.if-spaced-2.false refl
+    let step : c.if-spaced-3.columns ≡ cond c.loop-columns.spaced 2 1 = elim c.if-spaced-3.branch [
+      | then-spaced-3 w ↦ w.columns-is ∙ rw w.if-spaced-3.true refl
+      | else-spaced-3 w ↦ w.columns-is ∙ rw w.if-spaced-3.false refl
     ] in
     Sized-latin _ _ _ _ _ _ c.loop-columns.invariant (omega (arith, c.if-at-text-2.true)) c.if-byte.true
     (omega (arith, c.if-text-at-lt192.true)) (omega (arith, step)) refl
