@@ -8,3 +8,4 @@ pub mod Moves
 pub mod Outcomes
 pub mod RuleIndex
 pub mod Words
+pub mod Nearby

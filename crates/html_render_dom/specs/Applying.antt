@@ -1,5 +1,5 @@
 -- Styles as declarations are applied to them, one after another.
-use Rattle.std.specs.Prelude.{ℕ, Bool, false, List, ◌++◌, Option, Some, None, map, option_map, option_to_list}
+use Rattle.std.specs.Prelude.{false, List, ◌++◌, Option, Some, None, map, option_map, option_to_list}
 use Rattle.std.specs.List.{filter_map}
 use Rattle.html_render_dom_styles.specs.declared.origins.StyleOrigin.{StyleOrigin}
 use Rattle.html_render_dom_styles.specs.declared.specificities.Specificity.{Specificity}

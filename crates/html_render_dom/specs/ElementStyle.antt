@@ -1,5 +1,5 @@
 -- The style of an element: for each property the winner among the declarations of the rules that select it.
-use Rattle.std.specs.Prelude.{ℕ, Bool, false, List, codes, Option, Some, None, filter, option_map}
+use Rattle.std.specs.Prelude.{ℕ, false, List, codes, Option, Some, None, filter, option_map}
 use Rattle.std.specs.List.{filter_map, flat_map}
 use Rattle.html_render_dom_values.specs.declared.colours.Colour.{Colour}
 use Rattle.html_render_dom_values.specs.declared.white_space.WhiteSpace.{WhiteSpace}

@@ -1,12 +1,45 @@
 //! Parts of a script: its lines, and the texts around a byte.
 
-ghost use Rattle.std.specs.Prelude.{◌≡◌, ◌==◌, ◌<◌, ◌-◌, ◌∷◌, ◌++◌, [], length, take, drop, true, MatchOption};
+ghost use Rattle.std.specs.Prelude.{◌≡◌, ◌==◌, ◌≤◌, ◌<◌, ◌-◌, ◌∷◌, ◌++◌, [], length, take, drop, true, IfSome, MatchOption};
 ghost use Rattle.std.specs.List.{after_first, before_first, position_or_len};
 ghost use Rattle.std.specs.Str.Lines.{lines, strip_carriage_return};
 ghost use Rattle.html_render_dom.specs.script.Plain.{Lacks};
 
 use memchr::memchr;
 use std::marker::Model;
+use std::simd::prelude::*;
+
+/// Number of bytes that are searched at once. Most lines are shorter.
+const LANES: usize = 32;
+
+/// Returns the index of the first byte with this value among the first `LANES` bytes.
+#[inline(always)]
+fn place_nearby(byte: u8, text: &[u8]) -> Option<usize>
+    requires { LANES ≤ length text.now }
+    ensures { IfSome result (λ at. (at < length text.now) × (position_or_len (λ b. b == byte) text.now ≡ at)) }
+{
+    let found = u8x32::from_slice(text).simd_eq(u8x32::splat(byte));
+    let found = found.to_bitmask();
+    if found == 0 {
+        return None;
+    }
+    Some(found.trailing_zeros() as usize)
+}
+
+/// Returns the index of the first byte with this value.
+#[inline(always)]
+fn place_of(byte: u8, text: &[u8]) -> Option<usize>
+    ensures { MatchOption result (position_or_len (λ b. b == byte) text.now ≡ length text.now)
+        (λ at. (at < length text.now) × (position_or_len (λ b. b == byte) text.now ≡ at)) }
+{
+    if text.len() >= LANES {
+        let nearby = place_nearby(byte, text);
+        if nearby.is_some() {
+            return nearby;
+        }
+    }
+    memchr(byte, text)
+}
 
 /// Returns the text before the first byte with this value, which is an ASCII character, and the text after that byte; `None`
 /// if there is no such byte.
@@ -17,7 +50,7 @@ pub fn split_at_byte(byte: u8, text: &str) -> Option<(&str, &str)>
         (λ x. (position_or_len (λ b. b == byte) text.now < length text.now) × (x.0.now ≡ before_first (λ b. b == byte) text.now)
         × (x.1.now ≡ after_first (λ b. b == byte) text.now)) }
 {
-    match memchr(byte, text.as_bytes()) {
+    match place_of(byte, text.as_bytes()) {
         Some(at) => {
             let before = &text[..at];
             let after = &text[at + 1..];
