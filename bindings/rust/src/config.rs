@@ -299,7 +299,7 @@ impl<D: TextDecorator> Config<D> {
         let edits = Edits {
             is_padded: self.is_padded(options),
             joins_lines: adapted.has_long_lines,
-            has_row_marks: adapted.has_row_marks,
+            row_marks: adapted.row_marks,
             // a line of the page itself could be taken for a border
             drops_rules: adapted.has_tables && self.drops_rules(options) && !edits::has_crossings(&recorder.text),
         };

@@ -7,7 +7,7 @@ use crate::characters::mark;
 use crate::error::Error;
 use crate::lines::{RichAnnotation, TaggedLine};
 use crate::padding;
-use memchr::{memchr, memmem, memrchr};
+use memchr::{memchr, memchr_iter, memmem, memrchr};
 use std::borrow::Cow;
 use std::ops::Range;
 
@@ -18,14 +18,14 @@ pub(crate) struct Edits {
     pub is_padded: bool,
     /// Whether lines between marks are joined.
     pub joins_lines: bool,
-    /// Whether rows of tables have marks.
-    pub has_row_marks: bool,
+    /// Number of rows of tables that have a mark.
+    pub row_marks: usize,
     /// Whether lines between rows of one line are dropped.
     pub drops_rules: bool,
 }
 
 /// The character of a table's borders that lies between two columns and between two rows.
-const CROSS: &str = "\u{253c}";
+const CROSS: &[u8] = "\u{253c}".as_bytes();
 
 type Line = TaggedLine<Vec<RichAnnotation>>;
 
@@ -37,6 +37,9 @@ pub(crate) fn has_crossings(text: &[u8]) -> bool {
 /// Maximum number of lines of a row beside which a border is dropped.
 const MAX_ROW: u32 = 3;
 
+/// Number of lines after a border that are read one by one, before the next border is searched.
+const LINES_AFTER_BORDER: u32 = 16;
+
 /// The character between two columns in a row.
 const BAR: &[u8] = "\u{2502}".as_bytes();
 
@@ -45,24 +48,31 @@ fn begins_as_border(text: &[u8]) -> bool {
     matches!(text, [0xe2, 0x94, 0x80 | 0xac | 0xb4 | 0xbc, ..])
 }
 
+/// Reports whether a text ends with a character of borders.
+fn ends_as_border(text: &[u8]) -> bool {
+    text.len().checked_sub(BAR.len()).map_or(false, |last| begins_as_border(&text[last..]))
+}
+
 /// Reports whether the rest of a line from a byte on is a border: it begins and ends as one, and has no bar.
-fn is_border(line: &str, start: usize) -> bool {
-    let rest = line.as_bytes().get(start..).unwrap_or_default();
-    if !begins_as_border(rest) {
-        return false;
-    }
-    let length = rest.iter().rposition(|&byte| byte != b' ').map_or(0, |last| last + 1);
-    begins_as_border(&rest[length - 3..length]) && memchr(BAR[2], rest).is_none()
+#[inline]
+fn is_border(line: &[u8], start: usize) -> bool {
+    let rest = line.get(start..).unwrap_or_default();
+    begins_as_border(rest) && ends_as_border(&rest[..rest.len() - padding::count(rest)]) && memchr(BAR[2], rest).is_none()
+}
+
+/// Reports whether a line has a crossing of borders.
+fn has_cross(line: &[u8]) -> bool {
+    memchr_iter(CROSS[2], line).any(|last| line[..=last].ends_with(CROSS))
 }
 
 /// Returns the number of bytes before the border of a table that ends a line; `None` if none does.
-fn border_start(line: &str) -> Option<usize> {
-    memchr(BAR[0], line.as_bytes()).filter(|&start| is_border(line, start))
+fn border_start(line: &[u8]) -> Option<usize> {
+    memchr(BAR[0], line).filter(|&start| is_border(line, start))
 }
 
 /// Reports whether the first cell in a line of a row, which begins after so many bytes, has a text.
-fn has_first_cell(line: &str, start: usize) -> bool {
-    let cells = line.as_bytes().get(start..).unwrap_or_default();
+fn has_first_cell(line: &[u8], start: usize) -> bool {
+    let cells = line.get(start..).unwrap_or_default();
     cells.iter().position(|&byte| byte != b' ').map_or(false, |first| !cells[first..].starts_with(BAR))
 }
 
@@ -77,26 +87,38 @@ struct Row {
 }
 
 impl Row {
-    /// Returns the row of lines up to a border that begins after so many bytes: `None` if there are none, or more than `MAX_ROW`, or if
-    /// its first cell has a text in a later line than the first one. `is_upwards` says that the first line is the last of them.
-    fn of<'a>(lines: impl Iterator<Item = &'a str>, start: usize, is_upwards: bool) -> Option<Row> {
+    /// Returns the row of lines up to a border that begins after so many bytes, if it is one beside which a border may be dropped.
+    /// `is_upwards` says that the first line is the last of them.
+    fn of<'a>(lines: impl Iterator<Item = &'a [u8]>, start: usize, is_upwards: bool) -> Option<Row> {
         let mut row = Row::default();
         for line in lines {
             if is_border(line, start) {
-                return Some(row).filter(|row| row.count > 0);
+                return row.ended();
             }
-            if row.count == MAX_ROW {
-                break;
-            }
-            let has_text = has_first_cell(line, start);
-            if row.count > 0 && if is_upwards { row.first_cells != 0 } else { has_text } {
+            if !row.add(line, start, is_upwards) {
                 return None;
             }
-            row.first_cells |= u32::from(has_text) << row.count;
-            row.count += 1;
-            row.length += line.len() + 1;
         }
         None
+    }
+
+    /// Adds a line whose first cell begins after so many bytes. Returns whether a border may be dropped beside the row then: it has at most
+    /// `MAX_ROW` lines, and no text in its first cell after the first of them.
+    #[inline]
+    fn add(&mut self, line: &[u8], start: usize, is_upwards: bool) -> bool {
+        let has_text = has_first_cell(line, start);
+        if self.count == MAX_ROW || self.count > 0 && if is_upwards { self.first_cells != 0 } else { has_text } {
+            return false;
+        }
+        self.first_cells |= u32::from(has_text) << self.count;
+        self.count += 1;
+        self.length += line.len() + 1;
+        true
+    }
+
+    /// Returns the row, if it has lines.
+    fn ended(self) -> Option<Row> {
+        Some(self).filter(|row| row.count > 0)
     }
 
     /// Returns the row as it is seen from the border at its other end.
@@ -114,31 +136,21 @@ impl Row {
 }
 
 /// Returns where the line that ends at a place begins.
-fn line_start(text: &str, end: usize) -> usize {
-    memrchr(b'\n', &text.as_bytes()[..end]).map_or(0, |newline| newline + 1)
+fn line_start(text: &[u8], end: usize) -> usize {
+    memrchr(b'\n', &text[..end]).map_or(0, |newline| newline + 1)
 }
 
 /// Returns where the line that begins at a place ends.
-fn line_end(text: &str, start: usize) -> usize {
-    memchr(b'\n', &text.as_bytes()[start..]).map_or(text.len(), |length| start + length)
+fn line_end(text: &[u8], start: usize) -> usize {
+    memchr(b'\n', &text[start..]).map_or(text.len(), |length| start + length)
 }
 
 /// Returns the lines before a place where a line begins, the nearest one first.
-fn lines_before(text: &str, start: usize) -> impl Iterator<Item = &str> {
+fn lines_before(text: &[u8], start: usize) -> impl Iterator<Item = &[u8]> {
     let mut start = start;
     std::iter::from_fn(move || {
         let end = start.checked_sub(1)?;
         start = line_start(text, end);
-        Some(&text[start..end])
-    })
-}
-
-/// Returns the lines after a place where a line ends.
-fn lines_after(text: &str, end: usize) -> impl Iterator<Item = &str> {
-    let mut end = end;
-    std::iter::from_fn(move || {
-        let start = Some(end + 1).filter(|&start| start <= text.len())?;
-        end = line_end(text, start);
         Some(&text[start..end])
     })
 }
@@ -161,43 +173,166 @@ fn push_unmarked(text: &str, mark: &memmem::Finder<'_>, to: &mut String) {
     to.push_str(&text[kept..]);
 }
 
-/// Calls a function with the ranges of a text between the borders that aren't needed. Rows with a mark, whose places are given in order,
-/// are parted from those without.
-fn ranges_without_rules(text: &str, marks: &[usize], mut push: impl FnMut(Range<usize>)) {
-    let cross = memmem::Finder::new(CROSS);
-    let has_mark = |row: Range<usize>| !marks_in(marks, row).is_empty();
-    let (mut kept, mut line_after) = (0, 0);
-    // the row that ends before a place
-    let mut known = (usize::MAX, Row::default());
-    while let Some(distance) = cross.find(&text.as_bytes()[line_after..]) {
-        let at = line_after + distance;
-        let (start, end) = (line_start(text, at), line_end(text, at));
-        line_after = (end + 1).min(text.len());
-        let column = match border_start(&text[start..end]) {
-            Some(column) => column,
-            None => continue,
-        };
-        let below = match Row::of(lines_after(text, end), column, false) {
-            Some(below) => below,
-            None => continue,
-        };
-        let above = if known.0 == start { Some(known.1) } else { Row::of(lines_before(text, start), column, true) };
-        let end_below = line_after + below.length;
-        let is_needless = |above: Row| above.needs_no_border_before(below) && has_mark(start - above.length..start) == has_mark(line_after..end_below);
-        if above.map_or(false, is_needless) {
-            push(kept..start);
-            kept = line_after;
-        }
-        known = (end_below, below.turned());
-    }
-    push(kept..text.len());
+/// A border between two rows, as the row below it is read.
+struct Border {
+    /// Range of its line in the text.
+    line: Range<usize>,
+    /// Number of bytes before it on its line.
+    column: usize,
+    /// Range of its line in what is appended.
+    appended: Range<usize>,
+    /// The row above, if it was read as the row below another border.
+    above: Option<Row>,
+    below: Row,
 }
 
-/// Returns those of the places of marks that are in a range.
-fn marks_in(marks: &[usize], range: Range<usize>) -> &[usize] {
-    let start = marks.partition_point(|&mark| mark < range.start);
-    let length = marks[start..].partition_point(|&mark| mark < range.end);
-    &marks[start..start + length]
+/// A text whose lines are appended to another text, without marks and the borders that aren't needed.
+struct Ruled<'a> {
+    text: &'a str,
+    /// Whether spaces at the ends of lines are kept.
+    is_padded: bool,
+    /// Places of the marks of rows, in order.
+    marks: &'a [usize],
+    /// The marks in what isn't appended yet.
+    marks_left: &'a [usize],
+    /// Finds the ends of lines with spaces.
+    ends: memmem::Finder<'static>,
+    /// Where what isn't appended yet begins.
+    rest: usize,
+    /// The last border, until the row below it is read.
+    border: Option<Border>,
+    to: &'a mut String,
+}
+
+impl<'a> Ruled<'a> {
+    fn new(text: &'a str, is_padded: bool, marks: &'a [usize], to: &'a mut String) -> Ruled<'a> {
+        Ruled { text, is_padded, marks, marks_left: marks, ends: padding::ends(), rest: 0, border: None, to }
+    }
+
+    /// Reports whether the next mark is before a place.
+    #[inline]
+    fn has_marks_before(&self, end: usize) -> bool {
+        self.marks_left.first().map_or(false, |&mark| mark < end)
+    }
+
+    /// Appends the text up to a place.
+    #[inline]
+    fn push_to(&mut self, end: usize) {
+        self.push_marked(end, true);
+        self.to.push_str(&self.text[self.rest..end]);
+        self.rest = end;
+    }
+
+    /// Appends the lines of the text up to a place, without the spaces at their ends unless these are kept.
+    fn push_lines_to(&mut self, end: usize) {
+        self.push_marked(end, self.is_padded);
+        padding::push(&self.text[self.rest..end], self.is_padded, &self.ends, self.to);
+        self.rest = end;
+    }
+
+    /// Appends the text up to the last mark before a place.
+    #[inline]
+    fn push_marked(&mut self, end: usize, is_padded: bool) {
+        while self.has_marks_before(end) {
+            let mark = self.marks_left[0];
+            padding::push(&self.text[self.rest..mark], is_padded, &self.ends, self.to);
+            self.marks_left = &self.marks_left[1..];
+            self.rest = mark + mark::APART.len();
+        }
+    }
+
+    /// Appends all lines of the text.
+    fn push_lines(mut self) {
+        self.push_lines_to(self.text.len());
+    }
+
+    /// Appends all lines of the text but the borders that aren't needed.
+    fn push_needed_lines(mut self) {
+        let bytes = self.text.as_bytes();
+        let cross = memmem::Finder::new(CROSS);
+        let (mut start, mut lines_left) = (0, 0);
+        while start < bytes.len() {
+            if lines_left == 0 {
+                self.push_to(start);
+                start = cross.find(&bytes[start..]).map_or(bytes.len(), |distance| line_start(bytes, start + distance));
+                self.push_lines_to(start);
+                lines_left = LINES_AFTER_BORDER;
+            } else {
+                let end = line_end(bytes, start);
+                lines_left = if self.read_line(start..end) { LINES_AFTER_BORDER } else { lines_left - 1 };
+                start = end + 1;
+            }
+        }
+        self.push_to(bytes.len());
+    }
+
+    /// Reads a line. Returns whether it is a border between two rows.
+    #[inline]
+    fn read_line(&mut self, line: Range<usize>) -> bool {
+        let bytes = &self.text.as_bytes()[line.clone()];
+        let above = self.read_in_row(line.start, bytes);
+        let spaces = padding::count(bytes);
+        let shown = if self.is_padded { line.end } else { line.end - spaces };
+        let is_border = self.border.is_none() && ends_as_border(&bytes[..bytes.len() - spaces]) && self.begin_row(line.clone(), shown, above);
+        if shown < line.end {
+            self.push_to(shown);
+            self.rest = line.end;
+        }
+        is_border
+    }
+
+    /// Reads a line as one of the row below the last border. Returns that row if the line ends it.
+    #[inline]
+    fn read_in_row(&mut self, start: usize, line: &[u8]) -> Option<Row> {
+        let border = self.border.as_mut()?;
+        let (column, row) = (border.column, border.below);
+        if !is_border(line, column) {
+            if !border.below.add(line, column, false) {
+                self.border = None;
+            }
+            return None;
+        }
+        let border = self.border.take()?;
+        let row = row.ended()?;
+        if self.is_needless(&border) {
+            self.push_to(start);
+            self.to.drain(border.appended);
+        }
+        Some(row)
+    }
+
+    /// Begins the row below a line, if the line is a border between two rows. Returns whether it is. `shown` is where the line ends without
+    /// the spaces that are dropped, `above` the row that ends before it.
+    fn begin_row(&mut self, line: Range<usize>, shown: usize, above: Option<Row>) -> bool {
+        let bytes = &self.text.as_bytes()[line.clone()];
+        let column = match border_start(bytes) {
+            Some(column) if has_cross(bytes) && !self.has_mark(line.clone()) => column,
+            _ => return false,
+        };
+        if self.has_marks_before(line.start) {
+            self.push_to(line.start);
+        }
+        let start = self.to.len() + (line.start - self.rest);
+        let appended = start..start + (shown - line.start) + 1;
+        self.border = Some(Border { line, column, appended, above: above.map(Row::turned), below: Row::default() });
+        true
+    }
+
+    /// Reports whether a border isn't needed, when the row below it is read. Rows with a mark are parted from those without.
+    fn is_needless(&self, border: &Border) -> bool {
+        let Border { line, column, above, below, .. } = border;
+        let above = above.or_else(|| Row::of(lines_before(self.text.as_bytes(), line.start), *column, true));
+        above.map_or(false, |above| {
+            let below_start = line.end + 1;
+            above.needs_no_border_before(*below) && self.has_mark(line.start - above.length..line.start) == self.has_mark(below_start..below_start + below.length)
+        })
+    }
+
+    /// Reports whether a range of the text has a mark.
+    fn has_mark(&self, range: Range<usize>) -> bool {
+        let next = self.marks.partition_point(|&mark| mark < range.start);
+        self.marks.get(next).map_or(false, |&mark| mark < range.end)
+    }
 }
 
 /// Returns what follows the prefix of a line, where the line before it in the block has another, or else none: spaces stand for other
@@ -214,7 +349,7 @@ fn push_joined(text: &str, to: &mut String) {
     while let Some(at) = start.find(rest.as_bytes()) {
         let (before, after) = (&rest[..at], &rest[at + mark::LONG.len()..]);
         to.push_str(before);
-        let prefix = &before[line_start(before, before.len())..];
+        let prefix = &before[line_start(before.as_bytes(), before.len())..];
         rest = match end.find(after.as_bytes()).filter(|&length| start.find(after[..length].as_bytes()).is_none()) {
             Some(length) => {
                 push_line(&after[..length], prefix, to);
@@ -247,8 +382,8 @@ impl Edits {
         if self.joins_lines {
             text = made(text.len(), |to| push_joined(&text, to))?.into();
         }
-        if self.has_row_marks || self.drops_rules {
-            let marks: Vec<usize> = if self.has_row_marks { memmem::find_iter(text.as_bytes(), mark::APART).collect() } else { Vec::new() };
+        if self.row_marks > 0 || self.drops_rules {
+            let marks: Vec<usize> = memmem::find_iter(text.as_bytes(), mark::APART).take(self.row_marks).collect();
             return made(text.len(), |to| self.push_ruled(&text, &marks, to));
         }
         padding::kept(&text, self.is_padded)
@@ -256,19 +391,11 @@ impl Edits {
 
     /// Appends a text without the marks at some places, nor the borders that aren't needed.
     fn push_ruled(self, text: &str, marks: &[usize], to: &mut String) {
-        let ends = padding::ends();
-        let mut push = |range: Range<usize>| {
-            let mut start = range.start;
-            for &mark in marks_in(marks, range.clone()) {
-                padding::push(&text[start..mark], self.is_padded, &ends, to);
-                start = mark + mark::APART.len();
-            }
-            padding::push(&text[start..range.end], self.is_padded, &ends, to);
-        };
+        let ruled = Ruled::new(text, self.is_padded, marks, to);
         if self.drops_rules {
-            ranges_without_rules(text, marks, push);
+            ruled.push_needed_lines();
         } else {
-            push(0..text.len());
+            ruled.push_lines();
         }
     }
 
@@ -280,7 +407,7 @@ impl Edits {
         if self.drops_rules {
             lines = without_rules(lines);
         }
-        if self.has_row_marks {
+        if self.row_marks > 0 {
             lines.iter_mut().for_each(|line| line.remove(mark::APART));
         }
         lines
@@ -288,16 +415,16 @@ impl Edits {
 }
 
 fn without_rules(lines: Vec<Line>) -> Vec<Line> {
-    let has_cross = |line: &Line| line.tagged_strings().any(|string| string.s.contains(CROSS));
+    let has_cross = |line: &Line| line.tagged_strings().any(|string| has_cross(string.s.as_bytes()));
     let is_dropped = |at: usize| {
         has_cross(&lines[at]) && {
             let most = MAX_ROW as usize + 1;
             let first = at.saturating_sub(most);
             let texts: Vec<String> = lines[first..].iter().take(at - first + most + 1).map(Line::text).collect();
             let (above, rest) = texts.split_at(at - first);
-            border_start(&rest[0]).map_or(false, |start| {
-                let row_above = Row::of(above.iter().rev().map(String::as_str), start, true);
-                let rows = row_above.zip(Row::of(rest[1..].iter().map(String::as_str), start, false));
+            border_start(rest[0].as_bytes()).map_or(false, |start| {
+                let row_above = Row::of(above.iter().rev().map(String::as_bytes), start, true);
+                let rows = row_above.zip(Row::of(rest[1..].iter().map(String::as_bytes), start, false));
                 rows.map_or(false, |(row_above, below)| {
                     let has_mark = |lines: &[String]| lines.iter().any(|line| line.contains(mark::APART));
                     let marks = (has_mark(&above[above.len() - row_above.count as usize..]), has_mark(&rest[1..][..below.count as usize]));
@@ -364,8 +491,10 @@ fn joined(lines: Vec<Line>) -> Vec<Line> {
 mod tests {
     use super::*;
 
+    const EDITS: Edits = Edits { is_padded: false, joins_lines: false, row_marks: 2, drops_rules: true };
+
     fn without_rules_in(text: &str) -> String {
-        Edits { is_padded: false, joins_lines: false, has_row_marks: true, drops_rules: true }.text(text).unwrap()
+        EDITS.text(text).unwrap()
     }
 
     #[test]
@@ -393,8 +522,20 @@ mod tests {
     }
 
     #[test]
+    fn tables_far_apart() {
+        let table = "\u{206a}a │\n──┬──\nb │c  \n──┼── \nd │e  \n──┴──\n";
+        let page = [table, &"f  \n".repeat(40), table].concat();
+        let unruled = "a │\n──┬──\nb │c\nd │e\n──┴──\n";
+        assert_eq!(without_rules_in(&page), [unruled, &"f\n".repeat(40), unruled].concat());
+        let padded = page.replace("──┼── \n", "").replace('\u{206a}', "");
+        assert_eq!(Edits { is_padded: true, ..EDITS }.text(&page).unwrap(), padded);
+        let ruled = page.replace(" \n", "\n").replace(" \n", "\n").replace('\u{206a}', "");
+        assert_eq!(Edits { drops_rules: false, ..EDITS }.text(&page).unwrap(), ruled);
+    }
+
+    #[test]
     fn lines_are_joined() {
-        let join = |text: &str| Edits { is_padded: false, joins_lines: true, has_row_marks: false, drops_rules: false }.text(&text.replace('<', mark::LONG).replace('>', mark::LONG_END)).unwrap();
+        let join = |text: &str| Edits { joins_lines: true, row_marks: 0, drops_rules: false, ..EDITS }.text(&text.replace('<', mark::LONG).replace('>', mark::LONG_END)).unwrap();
         assert_eq!(join("a\n* <bc\n  d \n  e>\n* f\n"), "a\n* bcd e\n* f\n");
         assert_eq!(join("| <bc\n| d>\n| e\n"), "| bcd\n| e\n");
         assert_eq!(join("<a>\n<b\nc>\n"), "a\nbc\n");

@@ -16,6 +16,12 @@ pub(crate) fn ends() -> memmem::Finder<'static> {
     memmem::Finder::new(b" \n")
 }
 
+/// Returns the number of spaces at the end of a line.
+#[inline]
+pub(crate) fn count(line: &[u8]) -> usize {
+    line.iter().rev().take_while(|&&byte| byte == b' ').count()
+}
+
 /// Returns the end of the first line from a place on that has spaces at its end. In a table that is most often the next line, so
 /// this one is looked at before all others are searched.
 fn next_padded(bytes: &[u8], from: usize, ends: &memmem::Finder<'_>) -> Option<usize> {
@@ -32,8 +38,7 @@ pub(crate) fn push(text: &str, is_padded: bool, ends: &memmem::Finder<'_>, to: &
     let (mut start, mut from) = (0, 0);
     if !is_padded {
         while let Some(end) = next_padded(bytes, from, ends) {
-            let spaces = bytes[start..end].iter().rev().take_while(|&&byte| byte == b' ').count();
-            to.push_str(&text[start..end - spaces]);
+            to.push_str(&text[start..end - count(&bytes[start..end])]);
             start = end;
             from = end + 1;
         }

@@ -237,8 +237,8 @@ pub(crate) struct Adapted {
     pub has_long_lines: bool,
     /// Whether a table is drawn.
     pub has_tables: bool,
-    /// Whether a row of one has a mark.
-    pub has_row_marks: bool,
+    /// Number of rows that have a mark.
+    pub row_marks: usize,
 }
 
 /// What is recorded of a link's target.
@@ -336,7 +336,8 @@ pub(crate) struct Adapter<'a> {
     rules: PrivateRules,
     code: Code,
     has_tables: bool,
-    has_row_marks: bool,
+    /// Number of rows that have a mark.
+    row_marks: usize,
     /// Whether no row follows the start of the last table that is drawn.
     is_first_row: bool,
     /// Number of steps where the last citation ends.
@@ -351,7 +352,7 @@ impl<'a> Adapter<'a> {
     pub fn new(tree: &'a Tree, mut adaptation: Adaptation) -> Adapter<'a> {
         let inline = Inline::new(Links::new(adaptation.links, adaptation.base.take()), adaptation.has_signs);
         let (filled, styles, nesting, row, rules, code) = Default::default();
-        Adapter { tree, adaptation, filled, styles, inline, nesting, row, rules, code, has_tables: false, has_row_marks: false, is_first_row: false, end_of_citation: 0, is_mark_missing: false, numbers: None }
+        Adapter { tree, adaptation, filled, styles, inline, nesting, row, rules, code, has_tables: false, row_marks: 0, is_first_row: false, end_of_citation: 0, is_mark_missing: false, numbers: None }
     }
 
     /// Returns what the recorded document needs beside its steps.
@@ -362,7 +363,7 @@ impl<'a> Adapter<'a> {
             targets: self.inline.links.into_targets(),
             has_long_lines: self.code.has_long_lines,
             has_tables: self.has_tables,
-            has_row_marks: self.has_row_marks,
+            row_marks: self.row_marks,
         }
     }
 
@@ -388,7 +389,8 @@ impl<'a> Adapter<'a> {
             return piece;
         }
         let marked = [blank, mark::APART, rest].concat();
-        (self.is_mark_missing, self.has_row_marks) = (false, true);
+        self.is_mark_missing = false;
+        self.row_marks += 1;
         recorder.keep(&marked)
     }
 
