@@ -231,14 +231,18 @@ impl<'a> Pass<'a> {
     /// Records an element in the innermost one whose children are recorded. Returns whether its own children are recorded.
     #[inline]
     fn enter(&mut self, node: Id, element: &'a Element) -> bool {
-        let entered = match self.frames.last() {
-            Some(Frame { place, .. }) if place.context.holds == Holds::Anything => {
+        let entered = match self.frames.last_mut() {
+            Some(Frame { place, last, .. }) if place.context.holds == Holds::Anything => {
+                if self.adapter.record_cell(&mut self.recorder, node, element, place) {
+                    *last = Last::Other;
+                    return false;
+                }
                 let count = self.recorder.node_count();
                 let entered = self.adapter.open(&mut self.recorder, node, element, place);
                 self.note_nodes(count);
                 entered
             }
-            Some(&Frame { place, .. }) => self.open_in_list(node, element, place),
+            Some(&mut Frame { place, .. }) => self.open_in_list(node, element, place),
             None => None,
         };
         match entered {

@@ -235,6 +235,16 @@ impl Tree {
         }
     }
 
+    /// Returns the range of the text that is a node's only child; `None` if it has other children, or none.
+    #[inline]
+    pub fn only_text(&self, node: Id) -> Option<Piece> {
+        let Node { first, last, .. } = self.nodes[node as usize];
+        match self.nodes.get(first as usize) {
+            Some(&Node { data: Data::Text { start, length, .. }, .. }) if first == last => Some((start, length)),
+            _ => None,
+        }
+    }
+
     pub fn first_child(&self, node: Id) -> Id {
         self.nodes[node as usize].first
     }

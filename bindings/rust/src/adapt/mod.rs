@@ -30,6 +30,7 @@ pub(crate) use numbers::Numbers;
 pub(crate) use private::{PrivateRules, RULE_CLASS};
 
 use crate::characters::mark;
+use crate::classes::Class;
 use crate::hiding::Hiding;
 use crate::options::{LinkMode, Tables};
 use crate::pass::{End, Entered, Last, Place};
@@ -157,6 +158,12 @@ impl Context {
     #[inline]
     fn is_plain(&self) -> bool {
         self.texts != Texts::Code && self.line == Line::Elsewhere && self.holds != Holds::Descriptions
+    }
+
+    /// Reports whether texts are recorded as they are, outside of rows that are one line.
+    #[inline(always)]
+    fn shows_texts(&self) -> bool {
+        !self.changes_texts() && !self.hides_texts() && !self.is_in_line()
     }
 
     /// Reports whether emphasis has no signs.
@@ -482,6 +489,33 @@ impl<'a> Adapter<'a> {
         }
     }
 
+    /// Records a cell of a table that is drawn with its contents, if these are a text alone and its attributes are recorded as they are,
+    /// as those of most cells. Returns whether they are.
+    #[inline(always)]
+    pub fn record_cell(&mut self, recorder: &mut Recorder, node: Id, element: &Element, around: &Place) -> bool {
+        let context = &around.context;
+        if element.class != Class::Cell || context.part != Some(Part::Row) || !context.shows_texts() || self.adaptation.hiding.has_rules() {
+            return false;
+        }
+        let attributes = self.tree.attributes(element);
+        let piece = match self.tree.only_text(node) {
+            Some(piece) if element.space == ns!(html) && attributes.iter().all(is_kept_of_cell) => piece,
+            _ => return false,
+        };
+        self.inline.begin(recorder, Run::Block);
+        let handle = recorder.element(around.handle, record::HTML, &element.name);
+        for attribute in attributes {
+            recorder.attribute(handle, &attribute.name, &attribute.value);
+        }
+        self.inline.gaps.begin_place();
+        let piece = self.inline.add_text(recorder, piece);
+        if piece.1 > 0 {
+            recorder.text(handle, piece);
+        }
+        self.inline.end(handle, Run::Block);
+        true
+    }
+
     /// Records an element of HTML without attributes, in a place as most. The most frequent elements take few instructions.
     fn open_bare(&mut self, recorder: &mut Recorder, node: Id, element: &'a Element, change: Change, around: &Place) -> Option<Entered> {
         match change {
@@ -496,6 +530,11 @@ impl<'a> Adapter<'a> {
                 let mut entered = self.open_in_run(recorder, element, around, Run::Block);
                 self.inline.gaps.begin_place();
                 entered.context.enter_cell(element.name == local_name!("th"));
+                Some(entered)
+            }
+            Change::Table(Part::Row) if around.context.part == Some(Part::Section) => {
+                let mut entered = self.open_in_run(recorder, element, around, Run::Block);
+                self.enter_row(&recorder.text, node, &mut entered.context);
                 Some(entered)
             }
             _ => self.open_any(recorder, node, element, change, around),
@@ -971,16 +1010,7 @@ impl<'a> Adapter<'a> {
         context.part = Some(part);
         match part {
             Part::Cell => context.enter_cell(opened.element.name == local_name!("th")),
-            Part::Row => {
-                let is_apart = apart::is_apart(self.adaptation.contents(self.tree, &recorder.text), opened.node, std::mem::take(&mut self.is_first_row));
-                if is_apart {
-                    context.flags.set(Flags::UNSIGNED, true);
-                }
-                self.is_mark_missing = is_apart && self.adaptation.drops_rules;
-                if self.is_mark_missing && context.texts == Texts::Own {
-                    context.texts = Texts::Marked;
-                }
-            }
+            Part::Row => self.enter_row(&recorder.text, opened.node, &mut context),
             Part::Table => (self.has_tables, self.is_first_row) = (true, true),
             Part::Caption | Part::Section => {}
         }
@@ -995,6 +1025,19 @@ impl<'a> Adapter<'a> {
                 entered
             }
             Part::Section | Part::Row => entered,
+        }
+    }
+
+    /// Enters the row of a table that is drawn. The texts of the tree are ranges of `text`.
+    fn enter_row(&mut self, text: &[u8], row: Id, context: &mut Context) {
+        context.part = Some(Part::Row);
+        let is_apart = apart::is_apart(self.adaptation.contents(self.tree, text), row, std::mem::take(&mut self.is_first_row));
+        if is_apart {
+            context.flags.set(Flags::UNSIGNED, true);
+        }
+        self.is_mark_missing = is_apart && self.adaptation.drops_rules;
+        if self.is_mark_missing && context.texts == Texts::Own {
+            context.texts = Texts::Marked;
         }
     }
 
@@ -1117,6 +1160,11 @@ impl<'a> Adapter<'a> {
             recorder.attribute_of_piece(handle, &local_name!("class"), piece);
         }
     }
+}
+
+/// Reports whether an attribute of a cell is recorded as it is.
+fn is_kept_of_cell(attribute: &Attr) -> bool {
+    matches!(attribute.name, local_name!("class") | local_name!("colspan") | local_name!("id") | local_name!("rowspan"))
 }
 
 /// Reports whether an `object` names contents to show in the place of its children.

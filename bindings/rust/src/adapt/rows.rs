@@ -308,6 +308,13 @@ mod tests {
     }
 
     #[test]
+    fn cells_of_drawn_tables() {
+        let page = "<table border=1><tr><td class=k colspan=2>a<td rowspan=2 id=i>b<td hidden>c<td title=t>d<td style='visibility:hidden'>e<td><b>f</b><th>g</table>";
+        let row = "<td class=k colspan=2>a</><td rowspan=2 id=i>b</><td>d</><td></><td><b>f</></><th>g</>";
+        assert_eq!(recorded(page, adaptation()), format!("<table><tbody><tr>{row}</></></>"));
+    }
+
+    #[test]
     fn no_visible_text_is_lost() {
         for cell in ["<span style='visibility:hidden'>a</span> b", "<span style='font-size:0'>a</span><i>b</i><s style='font-size:0'>c</s>", "<q></q>b", "<button>b</button>", "b<img src=i style='visibility:hidden' alt=c>"] {
             let shown = recorded(&format!("<table><tr><td>{cell}<td>d</table>"), adaptation());
