@@ -1,12 +1,15 @@
 -- Places of a row as the code passes them, and columns that are split.
-use Rattle.std.proofs.Common.{◌≡◌, ℕ, suc, ◌+◌, ◌-◌, ◌<◌, Bool, List, [], ◌∷◌, ◌++◌, length, sum, take, drop, reverse, ap, ◌∙◌}
-use Rattle.std.proofs.Common.{arith, cond, get_or, sym, append_assoc, Option, length-append}
+use Rattle.std.proofs.Common.{◌≡◌, ℕ, ◌+◌, ◌-◌, ◌<◌, Bool, true, false, not, List, [], ◌∷◌, ◌++◌, length, sum, take, drop, find, reverse, ap, ◌∙◌}
+use Rattle.std.proofs.Common.{arith, cond, get_or, sym, append_assoc, Option, Some, option_and_then, length-append}
+use Rattle.std.specs.List.{position_or_len}
 use Rattle.std.proofs.lemmas.List.{take-append-drop, take_min, drop_min, reverse-append, at_drop_more}
 use Rattle.std.proofs.lemmas.List.Sums.{sum_by-append}
 use Rattle.html_render_parts.specs.declared.table.PlacedCell.{PlacedCell}
 use Rattle.html_render_layout_blocks.specs.declared.block.rows.RowPlace.{RowPlace}
 use Rattle.html_render_parts.specs.TableCells.{is_cell}
-use Rattle.html_render_layout_blocks.specs.OpenRows.{cell_width, places, next_width, before_cell, empty_cells}
+use Rattle.html_render_layout_blocks.specs.OpenRows.{cell_width, places, next_width, empty_cells}
+use Rattle.html_render_layout_blocks.specs.RowSteps.{after_cell, before_cell}
+use Rattle.html_render_layout_blocks.specs.laws.NextCells.{after-past, before-past}
 
 pub ruleset columns_at = (take_min, drop_min)
 
@@ -36,20 +39,33 @@ behind_fits n b ws h = (parts_fit n b ws h).1
 last-first : {X : Type 0} (xs before : List X) (x : X) → xs ≡ before ++ x ∷ [] → reverse xs ≡ x ∷ reverse before
 last-first xs before x e = ap reverse e ∙ reverse-append before (x ∷ [])
 
+-- Number of places before the next cell, in a place that may have one and others.
+abbrev to_cell : (stands : Bool) → List RowPlace → ℕ
+to_cell stands ps = cond (not stands) (1 + position_or_len (λ p. p.is_cell) ps) 0
+
 pub next-reversed : (xs before : List RowPlace) (p : RowPlace) (stands : Bool) → xs ≡ before ++ p ∷ [] → p.is_cell ≡ stands →
-    next_width (reverse xs) ≡ cond stands p.width (next_width (reverse before))
-next-reversed xs before p stands e is = ap next_width (last-first xs before p e) ∙ ap (λ b. cond b p.width (next_width (reverse before))) is
+    next_width (reverse xs) ≡ option_and_then (λ (q : RowPlace). q.width) (cond stands (Some p) (find (λ q. q.is_cell) (reverse before)))
+next-reversed xs before p stands e is =
+    ap next_width (last-first xs before p e)
+    ∙ ap (λ b. option_and_then (λ (q : RowPlace). q.width) (cond b (Some p) (find (λ q. q.is_cell) (reverse before)))) is
 
 pub behind-reversed : (xs before : List RowPlace) (p : RowPlace) (stands : Bool) → xs ≡ before ++ p ∷ [] → p.is_cell ≡ stands →
-    drop (suc (length (before_cell (reverse xs)))) (reverse xs) ≡ drop (length (cond stands [] (p ∷ before_cell (reverse before)))) (reverse before)
-behind-reversed xs before p stands e is =
-    ap (λ ps. drop (suc (length (before_cell ps))) ps) (last-first xs before p e)
-    ∙ ap (λ b. drop (length (cond b [] (p ∷ before_cell (reverse before)))) (reverse before)) is
+    after_cell (reverse xs) ≡ cond stands (reverse before) (after_cell (reverse before))
+behind-reversed xs before p true e is =
+    ap after_cell (last-first xs before p e) ∙ ap (λ b. drop (to_cell b (reverse before) + 1) (p ∷ reverse before)) is
+behind-reversed xs before p false e is =
+    ap after_cell (last-first xs before p e)
+    ∙ ap (λ b. drop (to_cell b (reverse before) + 1) (p ∷ reverse before)) is ∙ after-past p (reverse before)
 
 pub before-reversed : {T M : Type 0} (xs before : List RowPlace) (p : RowPlace) (stands : Bool) → xs ≡ before ++ p ∷ [] → p.is_cell ≡ stands →
     empty_cells {T = T} {M = M} (before_cell (reverse xs)) ≡ empty_cells (cond stands [] (p ∷ before_cell (reverse before)))
-before-reversed xs before p stands e is =
-    ap (λ ps. empty_cells (before_cell ps)) (last-first xs before p e) ∙ ap (λ b. empty_cells (cond b [] (p ∷ before_cell (reverse before)))) is
+before-reversed xs before p true e is =
+    ap (λ ps. empty_cells (before_cell ps)) (last-first xs before p e)
+    ∙ ap (λ b. empty_cells (take (to_cell b (reverse before)) (p ∷ reverse before))) is
+before-reversed xs before p false e is =
+    ap (λ ps. empty_cells (before_cell ps)) (last-first xs before p e)
+    ∙ ap (λ b. empty_cells (take (to_cell b (reverse before)) (p ∷ reverse before))) is
+    ∙ ap (λ ps. empty_cells ps) (before-past p (reverse before))
 
 -- ---- Places of cells
 

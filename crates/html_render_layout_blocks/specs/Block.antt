@@ -4,6 +4,7 @@
 use Rattle.std.specs.Prelude.{ℕ, ◌-◌, max, min, nat_le, Bool, true, false, not, ◌||◌, ◌&&◌, List, [], ◌∷◌, ◌++◌, map, length, ◌==◌}
 use Rattle.std.specs.Prelude.{Option, Some, None, option_map, unwrap_or, if◌then◌else◌}
 use Rattle.std.specs.List.{list_all}
+use Rattle.std.specs.Option.{option_map_or}
 use Rattle.html_render_layout_pictures.specs.declared.borders.TheConstants.{BORDERS}
 use Rattle.html_render_dom_values.specs.Outcome.{◌>>=◌}
 use Rattle.html_render_dom_values.specs.declared.white_space.WhiteSpace.{WhiteSpace}
@@ -117,9 +118,8 @@ module _ {P R T M : Type 0} (parts : Parts P R T M) where
   end_table b = end_open b b.table
 
   -- Block with a border, a line of one character as wide as the block, if borders are drawn.
-  abbrev pub add_border : Block P R T M → Option T → (character : ℕ) → Block P R T M
-  add_border b None character = b
-  add_border b (Some tag) character = add_lines b (repeated tag character b.setting.width ∷ [])
+  abbrev pub add_border : Block P R T M → (border : Option T) → (character : ℕ) → Block P R T M
+  add_border b border character = option_map_or (λ tag. add_lines b (repeated tag character b.setting.width ∷ [])) border b
 
   -- Flushed block with a stacked table, or with another row of it, below a border if borders are drawn.
   abbrev pub stacked_begun : Block P R T M → Option T → Block P R T M

@@ -1,7 +1,7 @@
 -- A row of a table: its cells, placeholders and gaps over the table's columns.
-use Rattle.std.specs.Prelude.{ℕ, suc, ◌+◌, ◌-◌, ◌==◌, Bool, true, false, List, [], ◌∷◌, ◌++◌, length, sum, take, drop}
-use Rattle.std.specs.Prelude.{Option, Some, None, flat_map, option_map, option_to_list, if◌then◌else◌}
-use Rattle.std.specs.List.{list_any}
+use Rattle.std.specs.Prelude.{ℕ, ◌+◌, ◌-◌, ◌==◌, Bool, true, false, List, [], ◌∷◌, ◌++◌, length, sum, take, drop, find}
+use Rattle.std.specs.Prelude.{Option, Some, None, flat_map, option_and_then, option_map, option_to_list, if◌then◌else◌}
+use Rattle.std.specs.List.{after_first, before_first, list_any}
 use Rattle.html_render_parts.specs.declared.table.CellKind.{CellKind}
 use Rattle.html_render_parts.specs.declared.table.CellKind.TheVariants.{Placeholder}
 use Rattle.html_render_parts.specs.declared.table.PlacedCell.{PlacedCell}
@@ -26,17 +26,11 @@ places widths (s ∷ ss) = record { is_cell = is_cell s.kind; width = cell_width
 
 -- Columns of the next cell of a row. None if it is skipped or there is none.
 abbrev pub next_width : List RowPlace → Option ℕ
-next_width [] = None
-next_width (p ∷ ps) = if p.is_cell then p.width else next_width ps
+next_width ps = option_and_then (λ (p : RowPlace). p.width) (find (λ p. p.is_cell) ps)
 
 -- Empty cells of places, without those that are skipped.
 abbrev pub empty_cells : {T M : Type 0} → List RowPlace → List (KeptCell T M)
 empty_cells ps = flat_map (λ p. option_to_list (option_map (λ w. record { width = w; lines = []; marks = [] }) p.width)) ps
-
--- Places before the next cell.
-abbrev pub before_cell : List RowPlace → List RowPlace
-before_cell [] = []
-before_cell (p ∷ ps) = if p.is_cell then [] else p ∷ before_cell ps
 
 -- An open row: the places ahead, the kept cells before them, and whether the whole row has a placeholder.
 pub record OpenRow (T M : Type 0) : Type 0 where
@@ -51,7 +45,7 @@ open_row widths cells = record { ahead = places widths cells; cells = []; placeh
 -- Row after its next cell, which is kept or, with an empty list, skipped. Places before it are empty cells.
 abbrev pub past_cell : {T M : Type 0} → OpenRow T M → List (KeptCell T M) → OpenRow T M
 past_cell r cell =
-    record r { ahead = drop (suc (length (before_cell r.ahead))) r.ahead; cells = r.cells ++ empty_cells (before_cell r.ahead) ++ cell }
+    record r { ahead = after_first (λ p. p.is_cell) r.ahead; cells = r.cells ++ empty_cells (before_first (λ p. p.is_cell) r.ahead) ++ cell }
 
 -- The whole row. Places ahead are empty cells.
 abbrev pub whole_row : {T M : Type 0} → OpenRow T M → TableRow T M

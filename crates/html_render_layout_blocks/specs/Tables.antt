@@ -1,5 +1,6 @@
 -- The open table of a block: side by side or stacked.
 use Rattle.std.specs.Prelude.{ℕ, ◌+◌, ◌-◌, ◌==◌, Bool, false, not, List, [], ◌∷◌, ◌++◌, sum, fold, count_by, Option, Some, None, drop, slice_index_or}
+use Rattle.std.specs.Option.{option_map_or}
 use Rattle.html_render_parts.specs.declared.table.PlacedCell.{PlacedCell}
 use Rattle.html_render_layout_lines.specs.Line.{Line}
 use Rattle.html_render_layout_pictures.specs.declared.picture.Frame.{Frame}
@@ -51,8 +52,7 @@ cell_place _ = Below
 module _ {P R T M : Type 0} (parts : Parts P R T M) where
   -- Picture with the open row, if there is one.
   abbrev pub with_open : R → Option (OpenRow T M) → R
-  with_open picture None = picture
-  with_open picture (Some row) = parts.with_row picture (whole_row row)
+  with_open picture row = option_map_or (λ r. parts.with_row picture (whole_row r)) row picture
 
   -- Table whose open row, if there is one, is drawn.
   abbrev pub with_row_over : OpenTable R T M → OpenTable R T M

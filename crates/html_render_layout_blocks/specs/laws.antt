@@ -2,6 +2,8 @@
 pub mod Related
 -- A machine's block shows what the definition's block shows.
 pub mod BlockSeen
+-- The next cell of a row, place by place.
+pub mod NextCells
 -- A block beside one with overflow on: both have the same lines. With overflow off no line passes the width. With
 -- overflow on no operation refuses.
 pub mod TableWithin

@@ -37,8 +37,8 @@ use Rattle.html_render_layout_buffer.specs.Prefixed.{prefixed}
 use Rattle.html_render_layout_blocks.specs.Joined.{fitting}
 use Rattle.html_render_layout_blocks.specs.Machine as worked
 use Rattle.html_render_layout_blocks.specs.Machine.{machine, MachineBlock}
-use Rattle.html_render_layout_blocks.specs.OpenRows.{OpenRow, empty_cells, before_cell, past_cell, whole_row}
-use Rattle.html_render_layout_blocks.specs.RowSteps.{empty_cell}
+use Rattle.html_render_layout_blocks.specs.OpenRows.{OpenRow, empty_cells, past_cell, whole_row}
+use Rattle.html_render_layout_blocks.specs.RowSteps.{before_cell, empty_cell}
 use Rattle.html_render_layout_blocks.specs.Tables.{Rows, frame_of}
 use Rattle.html_render_layout_paragraphs.specs.laws.Answers.{Both}
 use Rattle.html_render_layout_blocks.specs.laws.Related.{line_setting, OptionTags, Relates, RelatesEnds, RelatesParts, Related, operations-related, ends-related}

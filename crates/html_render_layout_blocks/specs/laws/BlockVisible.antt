@@ -35,8 +35,8 @@ use Rattle.html_render_layout_blocks.specs.Definition.{definition, DefinedBlock,
 use Rattle.html_render_layout_blocks.specs.declared.block.tables.OpenTable.{OpenTable}
 use Rattle.html_render_layout_blocks.specs.declared.block.tables.OpenTable.TheVariants.{Across, Stacked}
 use Rattle.html_render_layout_blocks.specs.declared.block.rows.RowPlace.{RowPlace}
-use Rattle.html_render_layout_blocks.specs.OpenRows.{OpenRow, open_row, empty_cells, before_cell, past_cell, whole_row}
-use Rattle.html_render_layout_blocks.specs.RowSteps.{empty_cell}
+use Rattle.html_render_layout_blocks.specs.OpenRows.{OpenRow, open_row, empty_cells, past_cell, whole_row}
+use Rattle.html_render_layout_blocks.specs.RowSteps.{before_cell, empty_cell}
 use Rattle.html_render_layout_blocks.specs.Tables.{Rows, with_row_open, skipped, with_open, with_ahead}
 use Rattle.html_render_parts.specs.declared.table.PlacedCell.{PlacedCell}
 use Rattle.html_render_parts.specs.TableCells.{rows_on}

@@ -1,16 +1,18 @@
 -- Rows of a table whose cells are side by side keep to the width of the block.
-use Rattle.std.proofs.Common.{◌≡◌, ℕ, suc, ◌+◌, ◌-◌, ◌≤◌, ◌==◌, Bool, true, false, not, cond, List, [], ◌∷◌, ◌++◌, length, sum, take, drop, Option, Some, None}
+use Rattle.std.proofs.Common.{◌≡◌, ℕ, ◌+◌, ◌-◌, ◌≤◌, ◌==◌, Bool, true, false, not, cond, List, [], ◌∷◌, ◌++◌, length, sum, take, drop, find, Option, Some, None, option_and_then}
 use Rattle.std.proofs.Common.{refl, ap, arith, All, sum_by, count_by, length-append}
 use Rattle.std.proofs.lemmas.List.{take-append-drop}
 use Rattle.std.proofs.lemmas.List.Elements.{All-nil, All-cons, All-append}
 use Rattle.std.proofs.lemmas.List.Sums.{sum_by-cons, sum_by-append, count_by-le-length}
+use Rattle.std.specs.List.{position_or_len}
 use Rattle.html_render_layout_lines.specs.Line.{Line, columns}
 use Rattle.html_render_parts.specs.declared.table.PlacedCell.{PlacedCell}
 use Rattle.html_render_layout_pictures.specs.Picture.{KeptCell}
 use Rattle.html_render_layout_pictures.specs.Widths.{row_width, KeepsToWidth, RowWithin}
 use Rattle.html_render_layout_blocks.specs.declared.block.rows.RowPlace.{RowPlace}
-use Rattle.html_render_layout_blocks.specs.OpenRows.{OpenRow, cell_width, places, next_width, empty_cells, before_cell}
-use Rattle.html_render_layout_blocks.specs.RowSteps.{empty_cell}
+use Rattle.html_render_layout_blocks.specs.OpenRows.{OpenRow, cell_width, places, next_width, empty_cells}
+use Rattle.html_render_layout_blocks.specs.RowSteps.{after_cell, before_cell, empty_cell}
+use Rattle.html_render_layout_blocks.specs.laws.NextCells.{after-past, before-past}
 use Rattle.html_render_layout_blocks.specs.OpenRows.{open_row, past_cell, whole_row}
 
 -- Columns of cells, each with a separator.
@@ -66,15 +68,17 @@ places-within ws (s ∷ ss) =
 
 -- The columns of a row's places are those before the next cell, that cell's, and those after it.
 places-parted : (ps : List RowPlace) →
-    places_room ps ≡ places_room (before_cell ps) + place_room (next_width ps) + places_room (drop (suc (length (before_cell ps))) ps)
+    places_room ps ≡ places_room (before_cell ps) + place_room (next_width ps) + places_room (after_cell ps)
 places-parted [] = refl
 places-parted (p ∷ ps) = by p.is_cell (places-parted ps)
   where
-    by : (b : Bool) → places_room ps ≡ places_room (before_cell ps) + place_room (next_width ps) + places_room (drop (suc (length (before_cell ps))) ps) →
+    by : (b : Bool) → places_room ps ≡ places_room (before_cell ps) + place_room (next_width ps) + places_room (after_cell ps) →
+        (let n = cond (not b) (1 + position_or_len (λ (q : RowPlace). q.is_cell) ps) 0 in
         place_room p.width + places_room ps
-        ≡ places_room (cond b [] (p ∷ before_cell ps)) + place_room (cond b p.width (next_width ps)) + places_room (drop (length (cond b [] (p ∷ before_cell ps))) ps)
+        ≡ places_room (take n (p ∷ ps)) + place_room (option_and_then (λ (q : RowPlace). q.width) (cond b (Some p) (find (λ (q : RowPlace). q.is_cell) ps)))
+        + places_room (drop (n + 1) (p ∷ ps)))
     by true h = omega arith
-    by false h = omega (arith, h)
+    by false h = omega (arith, h, ap places_room (before-past p ps), ap places_room (after-past p ps))
 
 module _ {T M : Type 0} where
   -- Empty cells of places keep to their widths, and are as wide as the places.

@@ -1,8 +1,8 @@
 -- A table that is laid out cell by cell in a block of the machine is the table of its finished cells.
-use Rattle.std.proofs.Common.{◌≡◌, ℕ, suc, Bool, true, false, not, cond, ◌||◌, ◌&&◌, ◌==◌, List, [], ◌∷◌, ◌++◌, length, drop, filter, fold, flat_map, map, slice_index_or}
-use Rattle.std.proofs.Common.{Option, Some, None, option_map, refl, sym, ap, ◌∙◌}
+use Rattle.std.proofs.Common.{◌≡◌, ℕ, suc, ◌+◌, Bool, true, false, not, cond, ◌||◌, ◌&&◌, ◌==◌, List, [], ◌∷◌, ◌++◌, length, take, drop, find, filter, fold, flat_map, map, slice_index_or}
+use Rattle.std.proofs.Common.{Option, Some, None, option_and_then, option_map, refl, sym, ap, ◌∙◌}
 use Rattle.std.proofs.lemmas.List.{append-nil, append_assoc}
-use Rattle.std.specs.List.{list_any}
+use Rattle.std.specs.List.{list_any, position_or_len}
 use Rattle.html_render_dom_values.specs.Outcome.{◌>>=◌}
 use Rattle.html_render_parts_widths.specs.declared.shares.ColumnNeed.{ColumnNeed}
 use Rattle.html_render_parts_widths.specs.Shares.{widths_across}
@@ -24,8 +24,9 @@ use Rattle.html_render_layout_blocks.specs.Block.{flush, feed, mark_items, put_l
 use Rattle.html_render_layout_blocks.specs.Block.{paragraph_setting, inner_block, with_table_begun, row_ended, end_table, operations}
 use Rattle.html_render_layout_blocks.specs.Machine.{machine, MachineBlock}
 use Rattle.html_render_layout_blocks.specs.CellByCell.{finished_of, with_finished, added_cell, added_cells, added_row, added_rows, inside_row, added_table}
-use Rattle.html_render_layout_blocks.specs.OpenRows.{OpenRow, open_row, next_width, before_cell, empty_cells, past_cell, whole_row, places}
-use Rattle.html_render_layout_blocks.specs.RowSteps.{empty_cell}
+use Rattle.html_render_layout_blocks.specs.OpenRows.{OpenRow, open_row, next_width, empty_cells, past_cell, whole_row, places}
+use Rattle.html_render_layout_blocks.specs.RowSteps.{after_cell, before_cell, empty_cell}
+use Rattle.html_render_layout_blocks.specs.laws.NextCells.{after-past, before-past}
 use Rattle.html_render_layout_blocks.specs.Tables.{frame_of, with_ahead}
 use Rattle.html_render_layout_blocks.specs.WholeTable.{FinishedBlock, empty_finished, TablePlan, table_plan, own_widths, cell_block_width}
 use Rattle.html_render_layout_blocks.specs.WholeTable.{kept_cell, kept_cells, table_row, table_rows, with_below, full_line, separated_cells, stacked_row, with_whole_table}
@@ -186,26 +187,31 @@ kept-none {T} {M} (p ∷ ps) = elim p.is_cell as (λ b. cond b (kept_cell {T = T
       | false ↦ ap (λ cs. empty_cell p.width ++ cs) (kept-none ps)
     ]
 
--- Places after the next cell.
-abbrev after_cell : List RowPlace → List RowPlace
-after_cell ps = drop (suc (length (before_cell ps))) ps
+-- Number of places before the next cell, in a place that may have one and others.
+abbrev to_cell : (stands : Bool) → List RowPlace → ℕ
+to_cell stands ps = cond (not stands) (1 + position_or_len (λ (p : RowPlace). p.is_cell) ps) 0
+
+-- Columns of the next cell, in a place that may have one and others.
+abbrev width_to : (stands : Bool) → RowPlace → List RowPlace → Option ℕ
+width_to stands p ps = option_and_then (λ (q : RowPlace). q.width) (cond stands (Some p) (find (λ (q : RowPlace). q.is_cell) ps))
 
 kept-next : {T M : Type 0} (ps : List RowPlace) (c : FinishedBlock T M) (cs : List (FinishedBlock T M)) →
     kept_cells ps (c ∷ cs) ≡ empty_cells (before_cell ps) ++ (kept_cell (next_width ps) c ++ kept_cells (after_cell ps) cs)
 kept-next [] c cs = refl
 kept-next {T} {M} (p ∷ ps) c cs = elim p.is_cell as (λ b.
     cond b (kept_cell p.width c ++ kept_cells ps cs) (empty_cell p.width ++ kept_cells ps (c ∷ cs))
-    ≡ empty_cells (cond b [] (p ∷ before_cell ps)) ++ (kept_cell (cond b p.width (next_width ps)) c
-    ++ kept_cells (drop (suc (length (cond b [] (p ∷ before_cell ps)))) (p ∷ ps)) cs)) [
+    ≡ empty_cells (take (to_cell b ps) (p ∷ ps)) ++ (kept_cell (width_to b p ps) c ++ kept_cells (drop (to_cell b ps + 1) (p ∷ ps)) cs)) [
       | true ↦ refl
       | false ↦
           ap (λ ks. empty_cell p.width ++ ks) (kept-next ps c cs)
           ∙ sym (append_assoc (empty_cell p.width) (empty_cells (before_cell ps)) (kept_cell (next_width ps) c ++ kept_cells (after_cell ps) cs))
+          ∙ sym (ap (λ qs. empty_cells qs ++ (kept_cell (next_width ps) c ++ kept_cells (after_cell ps) cs)) (before-past p ps))
+          ∙ sym (ap (λ qs. empty_cells (take (to_cell false ps) (p ∷ ps)) ++ (kept_cell (next_width ps) c ++ kept_cells qs cs)) (after-past p ps))
     ]
 
 widths-next : (ps : List RowPlace) → next_width ps ≡ slice_index_or (own_widths ps) 0 None
 widths-next [] = refl
-widths-next (p ∷ ps) = elim p.is_cell as (λ b. cond b p.width (next_width ps)
+widths-next (p ∷ ps) = elim p.is_cell as (λ b. width_to b p ps
     ≡ slice_index_or (map (λ (q : RowPlace). q.width) (cond b (p ∷ filter (λ (q : RowPlace). q.is_cell) ps) (filter (λ (q : RowPlace). q.is_cell) ps))) 0 None) [
       | true ↦ refl
       | false ↦ widths-next ps
@@ -213,10 +219,10 @@ widths-next (p ∷ ps) = elim p.is_cell as (λ b. cond b p.width (next_width ps)
 
 widths-after : (ps : List RowPlace) → own_widths (after_cell ps) ≡ drop 1 (own_widths ps)
 widths-after [] = refl
-widths-after (p ∷ ps) = elim p.is_cell as (λ b. own_widths (drop (suc (length (cond b [] (p ∷ before_cell ps)))) (p ∷ ps))
+widths-after (p ∷ ps) = elim p.is_cell as (λ b. own_widths (drop (to_cell b ps + 1) (p ∷ ps))
     ≡ drop 1 (map (λ (q : RowPlace). q.width) (cond b (p ∷ filter (λ (q : RowPlace). q.is_cell) ps) (filter (λ (q : RowPlace). q.is_cell) ps)))) [
       | true ↦ refl
-      | false ↦ widths-after ps
+      | false ↦ ap own_widths (after-past p ps) ∙ widths-after ps
     ]
 
 -- Open row after its next cell.

@@ -6,7 +6,7 @@ ghost use Rattle.html_render_dom_values.specs.Outcome.{OnlyOutOfMemory};
 ghost use Rattle.html_render_parts_widths.specs.Shares.{widths_across};
 ghost use Rattle.html_render_parts.specs.TableCells.{is_cell};
 ghost use Rattle.html_render_layout_blocks.specs.OpenRows as rows;
-ghost use Rattle.html_render_layout_blocks.specs.RowSteps.{empty_cell};
+ghost use Rattle.html_render_layout_blocks.specs.RowSteps.{after_cell, before_cell, empty_cell};
 
 use html_render_dom_values::Error;
 use html_render_layout_buffer::finished::FinishedLines;
@@ -188,9 +188,8 @@ fn pass_cell<T: Tag, M: Copy>(
     ahead: &mut Vec<RowPlace>,
     cells: &mut RowCells<T, M>,
 ) -> Result<(), AllocError>
-    ensures ahead { OnOk result (reverse ahead.new.items
-        ≡ drop (suc (length (rows.before_cell (reverse ahead.old.items)))) (reverse ahead.old.items)) }
-    ensures cells { OnOk result (cells.new ≡ cells.old ++ rows.empty_cells (rows.before_cell (reverse ahead.old.items))) }
+    ensures ahead { OnOk result (reverse ahead.new.items ≡ after_cell (reverse ahead.old.items)) }
+    ensures cells { OnOk result (cells.new ≡ cells.old ++ rows.empty_cells (before_cell (reverse ahead.old.items))) }
 {
     while let Some(place) = ahead.pop() {
         if place.is_cell {

@@ -1,6 +1,6 @@
 use Rattle.std.proofs.Common.{◌++◌, true, false, reverse, sym, ap, ◌∙◌, append_assoc, append-nil}
-use Rattle.html_render_layout_blocks.specs.OpenRows.{before_cell, empty_cells}
-use Rattle.html_render_layout_blocks.specs.RowSteps.{empty_cell}
+use Rattle.html_render_layout_blocks.specs.OpenRows.{empty_cells}
+use Rattle.html_render_layout_blocks.specs.RowSteps.{before_cell, empty_cell}
 use Rattle.html_render_layout_blocks.proofs.Places.{behind-reversed, before-reversed}
 use Rattle.html_render_layout_blocks.proofs.block.rows.pass_cell.Goals as goal
 
