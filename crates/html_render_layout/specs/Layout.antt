@@ -27,7 +27,7 @@ use Rattle.html_render_layout_nodes.specs.declared.tree.NodeKind.TheVariants.{Ta
 use Rattle.html_render_layout_nodes.specs.declared.tree.NodeStyle.{NodeStyle}
 use Rattle.html_render_layout_nodes.specs.declared.tree.Estimate.{Estimate}
 use Rattle.html_render_layout_nodes.specs.declared.tree.RenderNode.{RenderNode}
-use Rattle.html_render_layout_nodes.specs.Visitor.{NodePlace, Bare, Skipped, Within, bare, Visit, Leaf, Inner, Visits, followed, placed, run}
+use Rattle.html_render_layout_nodes.specs.Visitor.{NodePlace, Bare, Skipped, Within, bare, Visit, Leaf, Inner, Visits, placed, run}
 use Rattle.html_render_layout_blocks.specs.declared.block.BlockSetting.{BlockSetting}
 use Rattle.html_render_layout_blocks.specs.Operations.{Operations, DocumentEnd}
 use Rattle.html_render_layout_blocks.specs.Block.{empty_block, ending}
@@ -120,15 +120,9 @@ module _ {S A : Type 0} (d : Decoration S A) where
   abbrev pub end : Round S A → Step S A
   end round = Write (λ x. chars (round.end x))
 
-  -- shape of a superscript: digits as superscript characters, anything else in its decoration
-  abbrev pub superscript : (digits : Option (List ℕ)) → Shape S A
-  superscript None = Around (start d.superscript) (end d.superscript ∷ [])
-  superscript (Some digits) = Steps (Write (λ x. map raised digits) ∷ [])
-
   -- steps of an image, under its annotation; none without a title to show
   abbrev pub image : (source : List ℕ) → (title : Option (List ℕ)) → List (Step S A)
-  image source None = []
-  image source (Some title) = start (record { start = λ x. d.image x source title; end = λ x. [] })
+  image source title = option_map_or (λ shown. start (record { start = λ x. d.image x source shown; end = λ x. [] })) title []
 
   -- THE BLOCK of each kind: a sub-block with the decorator's prefix and the minimum width of the node without it, or the
   -- siblings' block
@@ -138,7 +132,8 @@ module _ {S A : Type 0} (d : Decoration S A) where
   block_of settings x Dd e = Indented (spaces 2) 2 (e.min_width - e.prefix)
   block_of settings x kind e = Shared
 
-  -- THE SHAPE of each kind over its child trees; numbers of items saturate
+  -- THE SHAPE of each kind over its child trees; numbers of items saturate, and digits in a superscript are superscript
+  -- characters
   abbrev pub shape_of : LayoutSettings → NodeKind → Estimate → (trees : Forest RenderNode) → Shape S A
   shape_of settings (Text t) e trees = Steps (Write (λ x. chars t) ∷ [])
   shape_of settings Break e trees = Steps (NewLineHard ∷ [])
@@ -153,7 +148,8 @@ module _ {S A : Type 0} (d : Decoration S A) where
   shape_of settings Dl e trees = Around (StartBlock ∷ []) []
   shape_of settings Dt e trees = Around (NewLine ∷ start d.em) (end d.em ∷ [])
   shape_of settings Strikeout e trees = Around (start d.strikeout ++ Strike ∷ []) (Unstrike ∷ (end d.strikeout ∷ []))
-  shape_of settings Superscript e trees = superscript (digits_of trees)
+  shape_of settings Superscript e trees =
+      option_map_or (λ digits. Steps (Write (λ x. map raised digits) ∷ [])) (digits_of trees) (Around (start d.superscript) (end d.superscript ∷ []))
   shape_of settings (Link target) e trees = Around (AddTarget target ∷ start (link d target)) (end (link d target) ∷ (Restore ∷ (WriteNumber ∷ [])))
   shape_of settings (Image i) e trees = Steps (image i.source (shown_title settings.empty_images i.source i.title))
   shape_of settings (Svg title) e trees = Steps (image [] (shown_title settings.empty_images [] title))
@@ -197,13 +193,11 @@ module _ {S A K T B : Type 0} (m : Algebra S A K T B) where
       let continuing = m.push first.0 text.tag (m.decoration.preformat_continuing decorator) in
       (continuing.0, record { mode = text.mode; tag = first.1; continuation_tag = continuing.1 })
 
-  -- state after characters are added in a style, with U+0336 if its texts are struck out
-  abbrev pub add_styled : K × TextStyle T → List ℕ → State → Option State
-  add_styled style cs s =
-      on_block (λ b. m.operations.add_inline_text b style.1 (if s.text.struck_out then struck cs else cs)) (record s { stacks = style.0 })
-
+  -- state after characters are added as a text, with U+0336 if texts are struck out
   abbrev pub write : List ℕ → State → Option State
-  write cs s = add_styled (text_style s.decorator s.stacks s.text s.text.preformatted) cs s
+  write cs s =
+      let style = text_style s.decorator s.stacks s.text s.text.preformatted in
+      on_block (λ b. m.operations.add_inline_text b style.1 (if s.text.struck_out then struck cs else cs)) (record s { stacks = style.0 })
 
   -- state whose texts have one more annotation, if there is one
   abbrev pub annotated : Option A → State → State
@@ -258,21 +252,18 @@ module _ {S A K T B : Type 0} (m : Algebra S A K T B) where
   abbrev pub joined : (B → B → Option B) → State → State → Option State
   joined f s r = option_map (λ b. record r { decorator = s.decorator; block = b }) (f s.block r.block)
 
-  -- state after a sub-block's lines are appended to the block of s, the first after a prefix and later ones after `columns`
-  -- spaces
-  abbrev pub appended : State → (prefix : List ℕ) → (columns : ℕ) → State → Option State
-  appended s prefix columns = joined (λ b c. m.operations.append b c s.text.tag (chars prefix) (spaces columns)) s
-
   -- block b after the lines of c are appended to it as a block, each after a prefix; none where it is too narrow
   abbrev pub appended_block : T → (prefix : List ℕ) → B → B → Option B
   appended_block tag prefix b c =
       m.operations.start_block b >>= λ e. option_map m.operations.end_block (m.operations.append e c tag (chars prefix) (chars prefix))
 
-  -- place of a node that is laid out into this block
+  -- place of a node that is laid out into this block. Of an indented sub-block the first line is appended after the prefix, and
+  -- later ones after `columns` spaces
   abbrev pub block_place : OwnBlock → State → NodePlace State
   block_place Shared s = Bare
   block_place (Prefixed prefix min_width) s = Within (nested (prefix_columns prefix) min_width s) (joined (appended_block s.text.tag prefix) s)
-  block_place (Indented prefix columns min_width) s = Within (nested columns min_width s) (appended s prefix columns)
+  block_place (Indented prefix columns min_width) s =
+      Within (nested columns min_width s) (joined (λ b c. m.operations.append b c s.text.tag (chars prefix) (spaces columns)) s)
 
   -- place of the next cell of a row, by its block; without one the cell is skipped
   abbrev pub cell_place : Option B → State → NodePlace State
@@ -298,8 +289,7 @@ module _ {S A K T B : Type 0} (m : Algebra S A K T B) where
   -- THE VISIT OF A NODE: that of its kind, in its style; after it texts are treated as before it
   abbrev pub layout_of : Visits RenderNode State
   layout_of n trees s =
-      option_map_or (λ q. followed (kind_layout n.kind n.estimate trees q) (λ r. Some (record r { text = s.text })))
-      (perform_all s (style_steps m.decoration n.style) s) (Leaf None)
+      placed (Within (perform_all s (style_steps m.decoration n.style) s) (λ r. Some (record r { text = s.text }))) (kind_layout n.kind n.estimate trees) s
 
   -- view of the state after all trees are laid out and the document is closed under the tag of the first texts; none where
   -- it is too narrow

@@ -9,6 +9,7 @@ use Rattle.html_render_dom_values.specs.Forest.{Forest}
 use Rattle.html_render_dom_values.specs.Outcome.{◌>>=◌}
 use Rattle.html_render_layout_blocks.specs.declared.held.Prefixing.{Prefixing}
 use Rattle.html_render_layout_estimates.specs.Estimates.{prefix_columns, number_columns}
+use Rattle.html_render_layout_lines.specs.declared.character.TextStyle.{TextStyle}
 use Rattle.html_render_layout_nodes.specs.declared.tree.Emphasis.TheVariants.{Em}
 use Rattle.html_render_layout_nodes.specs.declared.tree.Estimate.{Estimate}
 use Rattle.html_render_layout_nodes.specs.declared.tree.NodeKind.{NodeKind}
@@ -30,7 +31,7 @@ use Rattle.html_render_layout.specs.declared.state.Outer.{Outer}
 use Rattle.html_render_layout.specs.declared.state.TextContext.{TextContext}
 use Rattle.html_render_layout.specs.Layout.{Algebra, State, kind_text, spaces, padded, emphasis_decoration}
 use Rattle.html_render_layout.specs.Layout.{block_of, shape_of, style_steps, layout_of}
-use Rattle.html_render_layout.specs.Layout.{on_block, write, within, nested, appended_block, block_place, cell_place, Fence, perform, shape_layout, perform_all}
+use Rattle.html_render_layout.specs.Layout.{struck, on_block, write, within, nested, appended_block, block_place, cell_place, Fence, perform, shape_layout, perform_all}
 
 -- number of an item, by the list's first number and the item's index from 0; it saturates
 abbrev pub number_from : (first : ℤ) → ℕ → ℤ
@@ -41,6 +42,11 @@ abbrev pub digits_of_kind : NodeKind → Option (List ℕ)
 digits_of_kind kind = option_and_then (λ t. if list_all is_ascii_digit t then Some t else None) (kind_text kind)
 
 module _ {S A K T B : Type 0} (m : Algebra S A K T B) where
+  -- state after characters are added in a style, with U+0336 if texts are struck out
+  abbrev pub add_styled : K × TextStyle T → List ℕ → State m → Option (State m)
+  add_styled style cs s =
+      on_block (λ b. m.operations.add_inline_text b style.1 (if s.text.struck_out then struck cs else cs)) (record s { stacks = style.0 })
+
   -- state after a link's number is written, if links have footnotes
   abbrev pub write_number : ℕ → State m → Option (State m)
   write_number number s = if s.settings.link_footnotes then write m (chars (codes "[" ++ decimal number ++ codes "]")) s else Some s

@@ -38,7 +38,7 @@ use Rattle.html_render_layout.specs.Kept.{visited_nodes, KeepsTexts}
 use Rattle.html_render_layout.specs.Layout.{Algebra, kind_text, Step, Write, WriteNumber, Annotate, Treat, Strike, Unstrike, Restore, NewLine, NewLineHard}
 use Rattle.html_render_layout.specs.Layout.{StartBlock, EndBlock, Fence, BeginTable, EndTable, AddTarget, AddMark}
 use Rattle.html_render_layout.specs.Layout.{Shape, Steps, Around, Items, Cells, block_of, shape_of, style_steps}
-use Rattle.html_render_layout.specs.Layout.{annotated, struck, on_block, text_style, write, perform, perform_all, joined, appended, appended_block}
+use Rattle.html_render_layout.specs.Layout.{spaces, annotated, struck, on_block, text_style, write, perform, perform_all, joined, appended_block}
 use Rattle.html_render_layout.specs.Layout.{block_place, cell_place, shape_layout, kind_layout, layout_of, Defined, by_stacks, empty_state, estimated, layout_lines}
 use Rattle.html_render_layout.specs.Ending.{closing_texts, ended}
 
@@ -120,7 +120,8 @@ module _ {S A K T B : Type 0} (m : Algebra S A K T B) (v : B → ℕ) (w : List 
   abbrev Joins : State → (State → Option State) → Type 0
   Joins s f = (r : State) → IfSome (f r) (λ t. (t.text ≡ r.text) × Has s.decorator (counted s + counted r) t)
 
-  appended-joins : (s : State) (prefix : List ℕ) (columns : ℕ) → Joins s (appended m s prefix columns)
+  appended-joins : (s : State) (prefix : List ℕ) (columns : ℕ) →
+      Joins s (joined m (λ b c. m.operations.append b c s.text.tag (chars prefix) (spaces columns)) s)
   appended-joins s prefix columns r = map_if _ _ _ (m.operations.append s.block r.block _ _ _) (h.append _ _ _ _ _) (λ b a. (refl, (refl, a)))
 
   block-joins : (s : State) (prefix : List ℕ) → Joins s (joined m (appended_block m s.text.tag prefix) s)

@@ -2,7 +2,9 @@
 use Rattle.std.specs.Prelude.{◌≡◌, ℕ, List, [], ◌∷◌, map, Option, Some, None, option_and_then, option_map, refl}
 use Rattle.std.proofs.Common.{ap, sym, subst, ◌∙◌}
 use Rattle.std.specs.Str.{chars}
+use Rattle.std.specs.Option.{option_map_or}
 use Rattle.html_render_dom_values.specs.Forest.{Forest}
+use Rattle.html_render_parts.specs.Decoration.{Decoration}
 use Rattle.html_render_layout_nodes.specs.declared.tree.Estimate.{Estimate}
 use Rattle.html_render_layout_nodes.specs.declared.tree.NodeKind.{NodeKind}
 use Rattle.html_render_layout_nodes.specs.declared.tree.NodeKind.TheVariants.{Text, Break, Header, BlockQuote, Dd, Superscript, Image, Svg, FragmentStart, Table}
@@ -22,12 +24,16 @@ use Rattle.html_render_layout.specs.declared.state.CloseAction.{CloseAction}
 use Rattle.html_render_layout.specs.declared.state.CloseAction.TheVariants.{EndRow}
 use Rattle.html_render_layout.specs.declared.state.LayoutState.{LayoutState}
 use Rattle.html_render_layout.specs.declared.state.TextContext.{TextContext}
-use Rattle.html_render_layout.specs.Layout.{Write, NewLineHard, raised, image, write, perform}
-use Rattle.html_render_layout.specs.Layout.{Algebra, superscript, digits_of, block_of, shape_of, style_steps, perform_all, within}
+use Rattle.html_render_layout.specs.Layout.{Shape, Steps, Around, Write, NewLineHard, raised, start, end, image, write, perform}
+use Rattle.html_render_layout.specs.Layout.{Algebra, digits_of, block_of, shape_of, style_steps, perform_all, within}
 use Rattle.html_render_layout.specs.Layout.{block_place, cell_place, shape_layout, kind_layout, layout_of}
 use Rattle.html_render_layout.specs.Images.{shown_title}
 use Rattle.html_render_layout.specs.Opening.{interrupted, continued, keeping, block_begun, block_kept, kind_kept, kind_opened, kind_closed, child_block, kind_below}
 use Rattle.html_render_layout.specs.Opening.{opened_in, text_opened, cell_opened, block_opened, opened_below, opened, below, closed, walk_visits, walk_below, walk_opened, walk_closed}
+
+-- shape of a superscript, by the digits in it
+abbrev pub superscript : {S A : Type 0} → Decoration S A → (digits : Option (List ℕ)) → Shape S A
+superscript d digits = option_map_or (λ ds. Steps (Write (λ x. map raised ds) ∷ [])) digits (Around (start d d.superscript) (end d d.superscript ∷ []))
 
 -- a visit followed by nothing is the visit
 module _ {S : Type 0} where

@@ -25,7 +25,8 @@ use Rattle.html_render_layout.specs.Ending.{closing_texts, ended}
 use Rattle.html_render_layout.specs.Layout.{Algebra, Step, Write, WriteNumber, Annotate, Treat, Strike, Unstrike, Restore, NewLine, NewLineHard}
 use Rattle.html_render_layout.specs.Layout.{StartBlock, EndBlock, Fence, BeginTable, EndTable, AddTarget, AddMark, Shape, Steps, Around, Items}
 use Rattle.html_render_layout.specs.Layout.{Cells, spaces, block_of, shape_of, style_steps, struck, white_space_in, on_block}
-use Rattle.html_render_layout.specs.Layout.{text_style, add_styled, write, annotated, fence, perform, perform_all, within, nested, joined, appended}
+use Rattle.html_render_layout.specs.Layout.{text_style, write, annotated, fence, perform, perform_all, within, nested, joined}
+use Rattle.html_render_layout.specs.Opening.{add_styled}
 use Rattle.html_render_layout.specs.Layout.{appended_block, block_place, cell_place, shape_layout, kind_layout, layout_of, shown_after}
 
 -- treatment of texts under another tag
@@ -388,7 +389,8 @@ module _ {S A K T B L U C I : Type 0} (m : Algebra S A K T B) (pull : L → U �
       (z.0, (here z.0 (within m b s) (record v { block = c }) (k.0, (k.1.0, z.1)), joined-related f g i z.0 s v k (x z.0))))
 
   indent-related : (prefix : List ℕ) (columns min_width : ℕ) (i : I) (s : State) (v : Different) → Holds i s v →
-      Both N M (λ q e. After i (stacks_of s v) q e (appended m s prefix columns) (appended n (with_other s v) prefix columns))
+      Both N M (λ q e. After i (stacks_of s v) q e (joined m (λ b c. m.operations.append b c s.text.tag (chars prefix) (spaces columns)) s)
+      (joined n (λ b c. p.append b c v.tag (chars prefix) (spaces columns)) (with_other s v)))
       (nested m columns min_width s) (nested n columns min_width (with_other s v))
   indent-related prefix columns min_width i s v k =
       sub_block-related (λ b c. m.operations.append b c s.text.tag (chars prefix) (spaces columns))

@@ -17,8 +17,9 @@ use Rattle.html_render_layout_estimates.specs.Passes.{is_table, has_table, witho
 use Rattle.html_render_layout_blocks.specs.Operations.{DocumentEnd}
 use Rattle.html_render_layout.specs.declared.state.LayoutState.{LayoutState}
 use Rattle.html_render_layout_estimates.specs.declared.settings.LayoutSettings.{LayoutSettings}
-use Rattle.html_render_layout.specs.Layout.{Algebra, digits_of, superscript, block_of, shape_of, style_steps, perform_all, block_place, shape_layout}
+use Rattle.html_render_layout.specs.Layout.{Algebra, digits_of, block_of, shape_of, style_steps, perform_all, block_place, shape_layout}
 use Rattle.html_render_layout.specs.Layout.{kind_layout, layout_of, shown_after}
+use Rattle.html_render_layout.specs.laws.Opening.{superscript}
 
 -- node without its preferred width
 abbrev unsized : RenderNode → RenderNode

@@ -5,7 +5,8 @@ ghost use Rattle.std.specs.Prelude.{◌≡◌, [], ◌∷◌, ◌++◌, true, So
 ghost use Rattle.std.specs.Str.{chars, encode_utf8_all};
 ghost use Rattle.html_render_dom_values.specs.Outcome.{OnlyOutOfMemory, Refuses};
 ghost use Rattle.html_render_layout_blocks.specs.Machine as machine;
-ghost use Rattle.html_render_layout.specs.Layout.{struck, on_block, text_style, add_styled, write};
+ghost use Rattle.html_render_layout.specs.Layout.{struck, on_block, text_style, write};
+ghost use Rattle.html_render_layout.specs.Opening.{add_styled};
 ghost use Rattle.html_render_layout.specs.Working.{by_tags};
 
 use crate::tagging::Tagging;

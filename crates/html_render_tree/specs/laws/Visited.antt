@@ -26,9 +26,10 @@ use Rattle.html_render_layout_estimates.specs.Words.{shapes, with_words, worded,
 use Rattle.html_render_layout_estimates.specs.declared.words.WordShape.{WordShape}
 use Rattle.html_render_layout_estimates.specs.declared.settings.LayoutSettings.{LayoutSettings}
 use Rattle.html_render_parts.specs.Decoration.{Decoration}
-use Rattle.html_render_layout.specs.Layout.{Algebra, Write, Shape, Steps, Around, Items, Cells, digits_of, raised, superscript, block_of, shape_of, style_steps}
+use Rattle.html_render_layout.specs.Layout.{Algebra, Write, Shape, Steps, Around, Items, Cells, digits_of, raised, block_of, shape_of, style_steps}
 use Rattle.html_render_layout.specs.Layout.{perform_all, block_place, shape_layout, kind_layout, layout_of}
 use Rattle.html_render_layout.specs.Layout.{by_stacks, empty_state, estimated, layout_lines}
+use Rattle.html_render_layout.specs.laws.Opening.{superscript}
 use Rattle.html_render_tree.specs.GoodTrees.{TreePlace, Anywhere, InTable, InRow, places_around, are_good}
 use Rattle.html_render_tree.specs.laws.GoodPlaces.{are_good_below, is_leaf}
 use Rattle.html_render_tree.specs.Visited.{all_nodes, VisitedNode, visits_at, is_raised, leaves_out, with_left_out, left_out, VisitsAllBut}
