@@ -1,6 +1,6 @@
 -- Texts of closing lines: footnote by footnote, and as characters.
 use Rattle.std.proofs.Common.{◌≡◌, ℕ, ◌+◌, Bool, List, [], ◌∷◌, ◌++◌, map, Option, Some, None, refl, sym, ap, ◌∙◌, append_assoc}
-use Rattle.std.proofs.Common.{option_and_then, OnOk, IfErr, Result, Ok, Err}
+use Rattle.std.proofs.Common.{option_and_then, option_map, OnOk, IfErr, Result, Ok, Err}
 use Rattle.std.proofs.lemmas.Simd.{map-map}
 use Rattle.std.specs.Fmt.{decimal}
 use Rattle.std.specs.Prelude.{codes}
@@ -9,9 +9,10 @@ use Rattle.html_render_dom_values.specs.declared.errors.Error.{Error}
 use Rattle.html_render_dom_values.specs.declared.errors.Error.TheVariants.{TooNarrow, Fail, OutOfMemory}
 use Rattle.html_render_dom_values.specs.Outcome.{Refuses}
 use Rattle.html_render_parts.specs.Decoration.{Decoration}
-use Rattle.html_render_layout_blocks.specs.Operations.{DocumentEnd}
+use Rattle.html_render_layout_blocks.specs.Ends.{DocumentEnd, ended_by}
 use Rattle.html_render_layout.specs.declared.state.LayoutState.{LayoutState}
-use Rattle.html_render_layout.specs.Ending.{footnotes, closing_texts, ended}
+use Rattle.html_render_layout.specs.Ending.{footnotes, closing_texts}
+use Rattle.html_render_layout.specs.Layout.{on_block}
 
 pub ruleset joined = (append_assoc)
 
@@ -24,16 +25,16 @@ footnotes-more number all old new t ts before more =
 
 -- state with this block, if there is one
 abbrev pub with_new : {S K T B : Type 0} → LayoutState S K T B → Option B → Option (LayoutState S K T B)
-with_new s o = option_and_then (λ c. Some (record s { block = c })) o
+with_new s o = option_map (λ c. record s { block = c }) o
 
 -- the end of a document, by the finished block and the texts
 pub ended-by : {S A K T B X : Type 0} (d : Decoration S A) (end : DocumentEnd B T) (link_footnotes wrap_links : Bool) (tag : T)
     (s : LayoutState S K T B) (b : B) (f : X → List ℕ) (texts : List X) → end.finish s.block ≡ Some b →
     map f texts ≡ closing_texts d link_footnotes s.decorator s.targets →
-    ended d end link_footnotes wrap_links tag s ≡ with_new s (end.add_closing_lines b wrap_links tag (map (λ t. chars (f t)) texts))
+    on_block (λ b. ended_by end b wrap_links tag (map chars (closing_texts d link_footnotes s.decorator s.targets))) s ≡ with_new s (end.add_closing_lines b wrap_links tag (map (λ t. chars (f t)) texts))
 ended-by d end link_footnotes wrap_links tag s b f texts finished same =
-    ap (option_and_then (λ b. with_new s (end.add_closing_lines b wrap_links tag
-    (map chars (closing_texts d link_footnotes s.decorator s.targets))))) finished
+    ap (λ o. with_new s (option_and_then (λ b. end.add_closing_lines b wrap_links tag
+    (map chars (closing_texts d link_footnotes s.decorator s.targets))) o)) finished
     ∙ ap (λ ts. with_new s (end.add_closing_lines b wrap_links tag ts)) (ap (map chars) (sym same) ∙ map-map chars f texts)
 
 pub new-ok : {S K T B X : Type 0} (r : Result X Error) (o : Option B) (new : B) (s : LayoutState S K T B) → OnOk r (o ≡ Some new) →

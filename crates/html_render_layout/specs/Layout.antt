@@ -29,8 +29,8 @@ use Rattle.html_render_layout_nodes.specs.declared.tree.Estimate.{Estimate}
 use Rattle.html_render_layout_nodes.specs.declared.tree.RenderNode.{RenderNode}
 use Rattle.html_render_layout_nodes.specs.Visitor.{NodePlace, Bare, Skipped, Within, bare, Visit, Leaf, Inner, Visits, placed, run}
 use Rattle.html_render_layout_blocks.specs.declared.block.BlockSetting.{BlockSetting}
-use Rattle.html_render_layout_blocks.specs.Operations.{Operations, DocumentEnd}
-use Rattle.html_render_layout_blocks.specs.Block.{empty_block, ending}
+use Rattle.html_render_layout_blocks.specs.Operations.{Operations}
+use Rattle.html_render_layout_blocks.specs.Block.{empty_block, end_document}
 use Rattle.html_render_layout_blocks.specs.Definition as definition
 use Rattle.html_render_layout_blocks.specs.Definition.{definition as defined_parts, DefinedBlock}
 use Rattle.html_render_layout_estimates.specs.Estimates.{prefix_columns, number_columns, measured}
@@ -39,7 +39,7 @@ use Rattle.html_render_layout.specs.declared.state.LayoutState.{LayoutState}
 use Rattle.html_render_layout.specs.declared.state.TextContext.{TextContext}
 use Rattle.html_render_layout_estimates.specs.declared.settings.LayoutSettings.{LayoutSettings}
 use Rattle.html_render_layout.specs.Images.{shown_title}
-use Rattle.html_render_layout.specs.Ending.{ended}
+use Rattle.html_render_layout.specs.Ending.{closing_texts}
 
 -- parts that a layout is generic in: what decorators S return, with annotations A; `push`, which adds an annotation to a tag
 -- T in a store of annotations K; and the operations on blocks B
@@ -291,11 +291,13 @@ module _ {S A K T B : Type 0} (m : Algebra S A K T B) where
   layout_of n trees s =
       placed (Within (perform_all s (style_steps m.decoration n.style) s) (λ r. Some (record r { text = s.text }))) (kind_layout n.kind n.estimate trees) s
 
-  -- view of the state after all trees are laid out and the document is closed under the tag of the first texts; none where
-  -- it is too narrow
-  abbrev pub shown_after : {L : Type 0} → DocumentEnd B T → (State → L) → Forest RenderNode → State → Option L
-  shown_after end shown t s =
-      run layout_of t s >>= λ r. option_map shown (ended m.decoration end s.settings.link_footnotes s.settings.wrap_links s.text.tag r)
+  -- view of the state after all trees are laid out and `close` has ended the document's block, with the closing lines under the
+  -- tag of the first texts; none where it is too narrow
+  abbrev pub shown_after : {L : Type 0} → (close : B → (cut : Bool) → T → List (List ℕ) → Option B) → (State → L) → Forest RenderNode → State → Option L
+  shown_after close shown t s =
+      run layout_of t s >>= λ r.
+      let texts = map chars (closing_texts m.decoration s.settings.link_footnotes r.decorator r.targets) in
+      option_map shown (on_block (λ b. close b s.settings.wrap_links s.text.tag texts) r)
 
 -- state of the definition's layout: tags are annotation stacks, blocks keep all that was fed, and marks are indices of names
 abbrev pub Defined : Type 0 → Type 0 → Type 0
@@ -330,7 +332,7 @@ module _ {S A : Type 0} (d : Decoration S A) (settings : LayoutSettings) where
   -- THE LAYOUT of a render tree in a block: a view of the state after it; none where it is too narrow, as at width 0
   abbrev pub layout : {L : Type 0} → (Defined S A → L) → Forest RenderNode → S → BlockSetting → Option L
   layout shown t decorator block =
-      if block.width == 0 then None else shown_after (by_stacks d) (ending defined_parts) shown (estimated decorator t) (empty_state decorator block)
+      if block.width == 0 then None else shown_after (by_stacks d) (end_document defined_parts) shown (estimated decorator t) (empty_state decorator block)
 
   -- lines of the layout, each character with its annotation stack
   abbrev pub layout_lines : Forest RenderNode → S → BlockSetting → Option (List (Line (List A) ℕ))

@@ -7,6 +7,7 @@ use Rattle.html_render_layout_lines.specs.Line.{Line}
 use Rattle.html_render_layout_nodes.specs.declared.tree.RenderNode.{RenderNode}
 use Rattle.html_render_layout.specs.declared.state.LayoutState.{LayoutState}
 use Rattle.html_render_layout_estimates.specs.declared.settings.LayoutSettings.{LayoutSettings}
+use Rattle.html_render_layout_blocks.specs.Ends.{ended_by}
 use Rattle.html_render_layout_blocks.specs.Machine as machine
 use Rattle.html_render_layout_blocks.specs.Machine.{MachineBlock}
 use Rattle.html_render_layout_tagged.specs.Stacks.{stack_at}
@@ -50,11 +51,11 @@ Worked S A = LayoutState S (List (List A)) ℕ (MachineBlock ℕ ℕ)
 
 -- lines of the code's layout of trees from a state, with their stacks; none where it is too narrow
 abbrev pub work_lines : {S A : Type 0} → Decoration S A → Forest RenderNode → Worked S A → Option (List (Line (List A) ℕ))
-work_lines {S} {A} d t s = shown_after (by_tags d tabled) machine.ending (λ (r : Worked S A). tagged r.stacks r.block.lines) t s
+work_lines {S} {A} d t s = shown_after (by_tags d tabled) (ended_by machine.ending) (λ (r : Worked S A). tagged r.stacks r.block.lines) t s
 
 -- names of the marks in these lines, as a mark is an index of them; none where it is too narrow
 abbrev pub work_names : {S A : Type 0} → Decoration S A → Forest RenderNode → Worked S A → Option (List (List ℕ))
-work_names {S} {A} d t s = shown_after (by_tags d tabled) machine.ending (λ (r : Worked S A). r.names) t s
+work_names {S} {A} d t s = shown_after (by_tags d tabled) (ended_by machine.ending) (λ (r : Worked S A). r.names) t s
 
 -- state of a layout without annotations
 abbrev pub Untagged : Type 0 → Type 0 → Type 0
@@ -62,4 +63,4 @@ Untagged S K = LayoutState S K (Unit {0}) (MachineBlock (Unit {0}) ℕ)
 
 -- lines of the code's layout of trees from a state without annotations; none where it is too narrow
 abbrev pub untagged_work : {S A K : Type 0} → Decoration S A → Forest RenderNode → Untagged S K → Option (List (Line (Unit {0}) ℕ))
-untagged_work {S} {A} {K} d t s = shown_after (by_tags d untagged) machine.ending (λ (r : Untagged S K). r.block.lines) t s
+untagged_work {S} {A} {K} d t s = shown_after (by_tags d untagged) (ended_by machine.ending) (λ (r : Untagged S K). r.block.lines) t s

@@ -6,6 +6,7 @@
 ghost use Rattle.std.specs.Prelude.{◌≡◌, ◌≢◌, ◌≤◌, ◌<◌, Some, ℕ, true, Err, OnOk, OnErr, IfOk, IfErr};
 ghost use Rattle.html_render_dom_values.specs.Outcome.{OnlyOutOfMemory, Refuses};
 ghost use Rattle.html_render_layout_blocks.specs.Block.{empty_block};
+ghost use Rattle.html_render_layout_blocks.specs.Ends.{ended_by};
 ghost use Rattle.html_render_layout_blocks.specs.Machine as machine;
 ghost use Rattle.html_render_layout_blocks.specs.Machine.{machine};
 ghost use Rattle.html_render_layout_nodes.specs.Counts.{CountsNodes};
@@ -142,9 +143,9 @@ fn lay_out_into<D: TextDecorator, G: Tagging<D::Annotation>>(
     state: &mut State<D, G>,
     meter: &mut Meter,
 ) -> Result<(), Error>
-    ensures ok { OnOk result (shown_after (by_tags D.decoration G.annotated) machine.ending (λ r. r) tree.now state.old ≡ Some state.new) }
+    ensures ok { OnOk result (shown_after (by_tags D.decoration G.annotated) (ended_by machine.ending) (λ r. r) tree.now state.old ≡ Some state.new) }
     ensures err { IfErr result (λ e. Refuses e
-        (shown_after (by_tags D.decoration G.annotated) machine.ending (λ r. r) tree.now state.old)) }
+        (shown_after (by_tags D.decoration G.annotated) (ended_by machine.ending) (λ r. r) tree.now state.old)) }
     ensures counts { CountsNodes result (layout_of (by_tags D.decoration G.annotated))
         tree.now state.old meter.old meter.new }
 {
@@ -163,9 +164,9 @@ fn laid_out_from<D: TextDecorator, G: Tagging<D::Annotation>>(
     meter: &mut Meter,
 ) -> Result<State<D, G>, Error>
     ensures ok { IfOk result (λ after.
-        shown_after (by_tags D.decoration G.annotated) machine.ending (λ r. r) tree.now state ≡ Some after) }
+        shown_after (by_tags D.decoration G.annotated) (ended_by machine.ending) (λ r. r) tree.now state ≡ Some after) }
     ensures err { IfErr result (λ e. Refuses e
-        (shown_after (by_tags D.decoration G.annotated) machine.ending (λ r. r) tree.now state)) }
+        (shown_after (by_tags D.decoration G.annotated) (ended_by machine.ending) (λ r. r) tree.now state)) }
     ensures counts { CountsNodes result (layout_of (by_tags D.decoration G.annotated))
         tree.now state meter.old meter.new }
 {

@@ -29,7 +29,7 @@ use Rattle.html_render_layout_blocks.specs.Closing.{closing_lines}
 use Rattle.html_render_layout_buffer.specs.Prefixed.{prefixed}
 use Rattle.html_render_layout_blocks.specs.Joined.{fitting}
 use Rattle.html_render_layout_blocks.specs.OpenRows.{past_cell}
-use Rattle.html_render_layout_blocks.specs.Operations.{Operations, DocumentEnd}
+use Rattle.html_render_layout_blocks.specs.Operations.{Operations}
 use Rattle.html_render_layout_blocks.specs.Parts.{Parts}
 use Rattle.html_render_layout_blocks.specs.Tables.{frame_of, with_row_open, next_cell_width, skipped, with_open, with_ahead}
 
@@ -182,6 +182,10 @@ module _ {P R T M : Type 0} (parts : Parts P R T M) where
     ls ← closing_lines e.setting cut tag (t ∷ ts)
     Some (add_lines e ls)
 
+  -- Block at the end of a document, with these closing lines.
+  abbrev pub end_document : Block P R T M → (cut : Bool) → T → List (List ℕ) → Option (Block P R T M)
+  end_document b cut tag texts = finish b >>= λ e. add_closing_lines e cut tag texts
+
   -- ---- The operations of a layout
 
   -- Operations of a layout, over these paragraphs and pictures.
@@ -219,7 +223,3 @@ module _ {P R T M : Type 0} (parts : Parts P R T M) where
     end_row = λ b. row_ended b b.table;
     end_table = end_table;
   }
-
-  -- Operations at the end of a document.
-  abbrev pub ending : DocumentEnd (Block P R T M) T
-  ending = record { finish = finish; add_closing_lines = add_closing_lines }

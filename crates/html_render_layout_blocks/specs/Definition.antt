@@ -6,7 +6,9 @@ use Rattle.html_render_layout_paragraphs.specs.Paragraph.{Setting, paragraph}
 use Rattle.html_render_layout_pictures.specs.Picture.{picture}
 use Rattle.html_render_layout_blocks.specs.Block as block
 use Rattle.html_render_layout_blocks.specs.Block.{Block}
-use Rattle.html_render_layout_blocks.specs.Operations.{Operations, DocumentEnd}
+use Rattle.html_render_layout_blocks.specs.Ends as ends
+use Rattle.html_render_layout_blocks.specs.Ends.{DocumentEnd}
+use Rattle.html_render_layout_blocks.specs.Operations.{Operations}
 use Rattle.html_render_layout_blocks.specs.Parts.{Parts}
 use Rattle.html_render_layout_blocks.specs.Tables.{Rows}
 
@@ -40,4 +42,4 @@ operations = block.operations definition
 
 -- Operations at the end of a document, on the definition's blocks.
 abbrev pub ending : {T M : Type 0} → DocumentEnd (DefinedBlock T M) T
-ending = block.ending definition
+ending = ends.ending definition

@@ -5,7 +5,8 @@ use Rattle.html_render_dom_values.specs.Outcome.{◌>>=◌}
 use Rattle.html_render_parts_widths.specs.declared.shares.ColumnNeed.{ColumnNeed}
 use Rattle.html_render_parts.specs.TableCells.{CellGrid}
 use Rattle.html_render_layout_lines.specs.declared.character.TextStyle.{TextStyle}
-use Rattle.html_render_layout_blocks.specs.Operations.{Operations, DocumentEnd}
+use Rattle.html_render_layout_blocks.specs.Ends.{DocumentEnd}
+use Rattle.html_render_layout_blocks.specs.Operations.{Operations}
 
 -- A sequence of operations. T are the tags, and marks are numbers. `min_width` is the minimum width of a sub-block. The
 -- last argument of each operation is the rest of the sequence.

@@ -6,6 +6,7 @@ pub mod OpenRows
 pub mod Parts
 pub mod Tables
 pub mod Block
+pub mod Ends
 -- The definition on whole lists, and the machine that is fed character by character.
 pub mod Definition
 pub mod Machine

@@ -6,7 +6,9 @@ use Rattle.html_render_layout_pictures.specs.Drawing as drawing
 use Rattle.html_render_layout_pictures.specs.Drawing.{Drawing}
 use Rattle.html_render_layout_blocks.specs.Block as block
 use Rattle.html_render_layout_blocks.specs.Block.{Block}
-use Rattle.html_render_layout_blocks.specs.Operations.{Operations, DocumentEnd}
+use Rattle.html_render_layout_blocks.specs.Ends as ends
+use Rattle.html_render_layout_blocks.specs.Ends.{DocumentEnd}
+use Rattle.html_render_layout_blocks.specs.Operations.{Operations}
 use Rattle.html_render_layout_blocks.specs.Parts.{Parts}
 
 -- Waiting marks of a paragraph, which is None once a character was too wide for it.
@@ -42,4 +44,4 @@ operations = block.operations machine
 
 -- Operations at the end of a document, on the machine's blocks. They don't unfold in the crates above.
 unfoldable pub ending : {T M : Type 0} → DocumentEnd (MachineBlock T M) T
-ending = block.ending machine
+ending = ends.ending machine

@@ -1,4 +1,4 @@
--- Operations on blocks of which a layout consists, and those at the end of a document.
+-- Operations on blocks of which a layout consists.
 use Rattle.std.specs.Prelude.{ℕ, Bool, List, Option}
 use Rattle.html_render_parts_widths.specs.declared.shares.ColumnNeed.{ColumnNeed}
 use Rattle.html_render_parts.specs.TableCells.{CellGrid}
@@ -22,8 +22,3 @@ pub record Operations (B T M : Type 0) : Type 0 where
   pub skip_cell : B → B
   pub end_row : B → Option B
   pub end_table : B → B
-
--- Operations at the end of a document. `None` means "too narrow".
-pub record DocumentEnd (B T : Type 0) : Type 0 where
-  pub finish : B → Option B
-  pub add_closing_lines : B → (cut : Bool) → T → List (List ℕ) → Option B

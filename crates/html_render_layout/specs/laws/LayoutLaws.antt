@@ -12,6 +12,7 @@ use Rattle.html_render_layout_nodes.specs.declared.tree.RenderNode.{RenderNode}
 use Rattle.html_render_layout_blocks.specs.declared.block.BlockSetting.{BlockSetting}
 use Rattle.html_render_layout_blocks.specs.Block.{empty_block}
 use Rattle.html_render_layout_blocks.specs.Definition as definition
+use Rattle.html_render_layout_blocks.specs.Ends.{ended_by}
 use Rattle.html_render_layout_blocks.specs.Definition.{definition as defined_parts, DefinedBlock}
 use Rattle.html_render_layout_paragraphs.specs.laws.Answers.{Both}
 use Rattle.html_render_layout_blocks.specs.laws.Beside.{Tags, Later, Blocks, operations-beside, ends-beside, empty-beside, lines-beside}
@@ -34,8 +35,8 @@ module _ {S A : Type 0} (d : Decoration S A) (settings : LayoutSettings) (o : Bo
 
   shown-beside : {X : Type 0} (R : X → X → Type 0) (view : Defined S A → X) (t : Forest RenderNode) (decorator : S) (b : BlockSetting) →
       b.overflow ≡ o → ((r : Defined S A) (u : OtherParts) → Beside b.width (tt, tt) r.block u.block → R (view r) (view (with_other r u))) →
-      Both (o ≡ false) (o ≡ false) R (shown_after (by_stacks d) definition.ending view t (empty_state d settings decorator b))
-      (shown_after (by_stacks d) definition.ending view t (empty_state d settings decorator (record b { overflow = true })))
+      Both (o ≡ false) (o ≡ false) R (shown_after (by_stacks d) (ended_by definition.ending) view t (empty_state d settings decorator b))
+      (shown_after (by_stacks d) (ended_by definition.ending) view t (empty_state d settings decorator (record b { overflow = true })))
   shown-beside R view t decorator b on related =
       let other : OtherParts =
       record { stacks = tt; tag = []; blank = []; block = empty_block defined_parts (record b { overflow = true }) (padding settings []) } in
@@ -48,15 +49,15 @@ module _ {S A : Type 0} (d : Decoration S A) (settings : LayoutSettings) (o : Bo
 
   pub lines-shown : (t : Forest RenderNode) (decorator : S) (b : BlockSetting) → b.overflow ≡ o →
       Both (o ≡ false) (o ≡ false) (λ a c. (c ≡ a) × ((o ≡ false) × (settings.wrap_links ≡ true) → AllWithinWidth b.width a))
-      (shown_after (by_stacks d) definition.ending (λ (r : Defined S A). r.block.lines) t (empty_state d settings decorator b))
-      (shown_after (by_stacks d) definition.ending (λ (r : Defined S A). r.block.lines) t (empty_state d settings decorator (record b { overflow = true })))
+      (shown_after (by_stacks d) (ended_by definition.ending) (λ (r : Defined S A). r.block.lines) t (empty_state d settings decorator b))
+      (shown_after (by_stacks d) (ended_by definition.ending) (λ (r : Defined S A). r.block.lines) t (empty_state d settings decorator (record b { overflow = true })))
   lines-shown t decorator b on =
       shown-beside _ (λ (r : Defined S A). r.block.lines) t decorator b on (λ r u k.
       lines-beside (List A) Stacks o settings.wrap_links b.width (tt, tt) r.block u.block k)
 
   pub names-shown : (t : Forest RenderNode) (decorator : S) (b : BlockSetting) → b.overflow ≡ o → Both (o ≡ false) (o ≡ false) (λ a c. c ≡ a)
-      (shown_after (by_stacks d) definition.ending (λ (r : Defined S A). r.names) t (empty_state d settings decorator b))
-      (shown_after (by_stacks d) definition.ending (λ (r : Defined S A). r.names) t (empty_state d settings decorator (record b { overflow = true })))
+      (shown_after (by_stacks d) (ended_by definition.ending) (λ (r : Defined S A). r.names) t (empty_state d settings decorator b))
+      (shown_after (by_stacks d) (ended_by definition.ending) (λ (r : Defined S A). r.names) t (empty_state d settings decorator (record b { overflow = true })))
   names-shown t decorator b on = shown-beside (λ a c. c ≡ a) (λ (r : Defined S A). r.names) t decorator b on (λ r u k. refl)
 
 module _ {S A : Type 0} (d : Decoration S A) (settings : LayoutSettings) where
@@ -106,7 +107,7 @@ module _ {S A : Type 0} (d : Decoration S A) (settings : LayoutSettings) where
   pub layout_same : (t : Forest RenderNode) (decorator : S) (b : BlockSetting) (lines : List (Line (List A) ℕ)) →
       layout_lines d settings t decorator b ≡ Some lines → IfSome (layout_lines d settings t decorator (record b { overflow = false })) (λ others. lines ≡ others)
   layout_same t decorator b lines e =
-      same_answer _ (λ a c k. k.0) (b.width == 0) (λ o. shown_after (by_stacks d) definition.ending (λ (r : Defined S A). r.block.lines)
+      same_answer _ (λ a c k. k.0) (b.width == 0) (λ o. shown_after (by_stacks d) (ended_by definition.ending) (λ (r : Defined S A). r.block.lines)
       (estimated d settings decorator t) (empty_state d settings decorator (record b { overflow = o })))
       (lines-shown d settings false (estimated d settings decorator t) decorator (record b { overflow = false }) refl) b.overflow lines e
 
@@ -114,6 +115,6 @@ module _ {S A : Type 0} (d : Decoration S A) (settings : LayoutSettings) where
   pub same-names : (t : Forest RenderNode) (decorator : S) (b : BlockSetting) (names : List (List ℕ)) →
       mark_names d settings t decorator b ≡ Some names → IfSome (mark_names d settings t decorator (record b { overflow = false })) (λ others. names ≡ others)
   same-names t decorator b names e =
-      same_answer (λ a c. c ≡ a) (λ a c k. k) (b.width == 0) (λ o. shown_after (by_stacks d) definition.ending (λ (r : Defined S A). r.names)
+      same_answer (λ a c. c ≡ a) (λ a c k. k) (b.width == 0) (λ o. shown_after (by_stacks d) (ended_by definition.ending) (λ (r : Defined S A). r.names)
       (estimated d settings decorator t) (empty_state d settings decorator (record b { overflow = o })))
       (names-shown d settings false (estimated d settings decorator t) decorator (record b { overflow = false }) refl) b.overflow names e

@@ -25,6 +25,7 @@ use Rattle.html_render_layout_nodes.specs.laws.Visits.{from, from_state}
 use Rattle.html_render_layout_blocks.specs.declared.block.BlockSetting.{BlockSetting}
 use Rattle.html_render_layout_blocks.specs.Definition as definition
 use Rattle.html_render_layout_blocks.specs.Definition.{DefinedBlock}
+use Rattle.html_render_layout_blocks.specs.Ends.{ended_by}
 use Rattle.html_render_layout_blocks.specs.Visible.{visible_in_text}
 use Rattle.html_render_layout_blocks.specs.laws.BlockVisible.{any, text_count, visible_count, operations_keep_visible, finish_count, closing_count}
 use Rattle.html_render_layout_pictures.specs.Visible.{count}
@@ -40,7 +41,7 @@ use Rattle.html_render_layout.specs.Layout.{StartBlock, EndBlock, Fence, BeginTa
 use Rattle.html_render_layout.specs.Layout.{Shape, Steps, Around, Items, Cells, block_of, shape_of, style_steps}
 use Rattle.html_render_layout.specs.Layout.{spaces, annotated, struck, on_block, text_style, write, perform, perform_all, joined, appended_block}
 use Rattle.html_render_layout.specs.Layout.{block_place, cell_place, shape_layout, kind_layout, layout_of, Defined, by_stacks, empty_state, estimated, layout_lines}
-use Rattle.html_render_layout.specs.Ending.{closing_texts, ended}
+use Rattle.html_render_layout.specs.Ending.{closing_texts}
 
 -- characters of a text; none for any other kind of node
 abbrev node_characters : NodeKind → List ℕ
@@ -335,13 +336,15 @@ module _ {S A : Type 0} (d : Decoration S A) where
       for_each Stands (layout_lines d settings t decorator block) (λ c. if_cases (λ x. IfSome x (Stands c)) (block.width == 0) _ _ (λ _. tt) (λ _.
       bind_some _ _ _ (run (layout_of (by_stacks d)) trees start) (layout-grows (by_stacks d) (visible_count c) (text_count c)
       (operations_keep_visible c) refl (struck-count c) trees start) (λ r a.
+      let ts : List (List ℕ) = map chars (closing_texts d settings.link_footnotes r.decorator r.targets) in
       map_if (λ (q : Defined S A). visible_count c r.block ≤ count c (visible_in_lines q.block.lines)) _ _
-      (ended d definition.ending settings.link_footnotes settings.wrap_links [] r)
+      (on_block (λ b. ended_by definition.ending b settings.wrap_links [] ts) r)
+      (map_if (λ (b : DefinedBlock (List A) ℕ). visible_count c r.block ≤ count c (visible_in_lines b.lines)) _ _
+      (ended_by definition.ending r.block settings.wrap_links [] ts)
       (bind_some (λ (b : DefinedBlock (List A) ℕ). visible_count c r.block ≤ count c (visible_in_lines b.lines)) _ _
       (definition.ending.finish r.block) (finish_count c r.block) (λ b h.
-      let ts : List (List ℕ) = map chars (closing_texts d settings.link_footnotes r.decorator r.targets) in
-      bind_some _ _ _ (definition.ending.add_closing_lines b settings.wrap_links [] ts) (closing_count c b settings.wrap_links [] ts)
-      (λ e k. omega (arith, h, k))))
+      IfSome_then (definition.ending.add_closing_lines b settings.wrap_links [] ts) (closing_count c b settings.wrap_links [] ts)
+      (λ e k. omega (arith, h, k)))) (λ b k. k))
       (λ q e. omega (arith, a.1.1, e, texts_count c (visited_nodes d settings t decorator block))))))
     where
       Stands : ℕ → List (Line (List A) ℕ) → Type 0

@@ -18,6 +18,7 @@ use Rattle.html_render_layout_estimates.specs.Passes.{with_needed_sizes}
 use Rattle.html_render_layout_blocks.specs.declared.block.BlockSetting.{BlockSetting}
 use Rattle.html_render_layout_blocks.specs.Block.{empty_block}
 use Rattle.html_render_layout_blocks.specs.Definition as definition
+use Rattle.html_render_layout_blocks.specs.Ends.{ended_by}
 use Rattle.html_render_layout_blocks.specs.Definition.{definition, DefinedBlock}
 use Rattle.html_render_layout_blocks.specs.Machine as machine
 use Rattle.html_render_layout_blocks.specs.Machine.{machine}
@@ -59,11 +60,11 @@ module _ {S A : Type 0} (d : Decoration S A) (settings : LayoutSettings) where
   -- lines of the definition for measured trees, from an empty block; none where it is too narrow
   abbrev wanted : Forest RenderNode → S → BlockSetting → Option (List (Line (List A) ℕ))
   wanted t decorator block =
-      shown_after (by_stacks d) definition.ending (λ (r : Defined S A). r.block.lines) t (empty_state d settings decorator block)
+      shown_after (by_stacks d) (ended_by definition.ending) (λ (r : Defined S A). r.block.lines) t (empty_state d settings decorator block)
 
   -- in a width that isn't 0, a view of the layout is one of the measured trees
   shown-wide : {X : Type 0} (view : Defined S A → X) (t : Forest RenderNode) (decorator : S) (block : BlockSetting) → block.width ≢ 0 →
-      shown_after (by_stacks d) definition.ending view (estimated d settings decorator t) (empty_state d settings decorator block)
+      shown_after (by_stacks d) (ended_by definition.ending) view (estimated d settings decorator t) (empty_state d settings decorator block)
       ≡ layout d settings view t decorator block
   shown-wide view t decorator block wide = sym (if_false (block.width == 0) None _ (ne_eqb block.width 0 wide))
 
@@ -127,7 +128,7 @@ module _ {S A : Type 0} (d : Decoration S A) (settings : LayoutSettings) where
       measured ≡ with_needed_sizes (estimated d settings decorator t) → s ≡ empty_worked decorator block → work_lines d measured s ≡ layout_lines d settings t decorator block
   layout_lines-works t measured decorator block s wide m e =
       ap (λ x. work_lines d measured x) e ∙ ap (λ x. work_lines d x (empty_worked decorator block)) m
-      ∙ shown-needed (by_tags d tabled) machine.ending (λ (r : Worked S A). tagged r.stacks r.block.lines)
+      ∙ shown-needed (by_tags d tabled) (ended_by machine.ending) (λ (r : Worked S A). tagged r.stacks r.block.lines)
       (estimated d settings decorator t) (empty_worked decorator block)
       ∙ work_lines-wanted (estimated d settings decorator t) decorator block ∙ shown-wide (λ (r : Defined S A). r.block.lines) t decorator block wide
 
@@ -136,7 +137,7 @@ module _ {S A : Type 0} (d : Decoration S A) (settings : LayoutSettings) where
       measured ≡ with_needed_sizes (estimated d settings decorator t) → s ≡ empty_worked decorator block → work_names d measured s ≡ mark_names d settings t decorator block
   mark_names-works t measured decorator block s wide m e =
       ap (λ x. work_names d measured x) e ∙ ap (λ x. work_names d x (empty_worked decorator block)) m
-      ∙ shown-needed (by_tags d tabled) machine.ending (λ (r : Worked S A). r.names)
+      ∙ shown-needed (by_tags d tabled) (ended_by machine.ending) (λ (r : Worked S A). r.names)
       (estimated d settings decorator t) (empty_worked decorator block)
       ∙ names-represented d tabled stack_at (λ (s : List A). s) Pushed (λ k. ([], sym (append-nil k))) Pushed-goes
       (λ k t a. ((stack_at k t ++ a ∷ []) ∷ [], refl)) tag_pushed (estimated d settings decorator t) block.width (empty_worked decorator block)
@@ -186,7 +187,7 @@ module _ {S A : Type 0} (d : Decoration S A) (settings : LayoutSettings) where
       untagged_work d measured s ≡ option_map unannotated (layout_lines d settings t decorator block)
   untagged_lines-works {K} t measured decorator block k s wide m e =
       ap (λ x. untagged_work d measured x) e ∙ ap (λ x. untagged_work d x (empty_untagged k decorator block)) m
-      ∙ shown-needed (by_tags d untagged) machine.ending (λ (r : Untagged S K). r.block.lines)
+      ∙ shown-needed (by_tags d untagged) (ended_by machine.ending) (λ (r : Untagged S K). r.block.lines)
       (estimated d settings decorator t) (empty_untagged k decorator block)
       ∙ untagged_work-wanted (estimated d settings decorator t) decorator block k
       ∙ ap (option_map (lines_with (λ (s : List A). tt))) (shown-wide (λ (r : Defined S A). r.block.lines) t decorator block wide)

@@ -15,13 +15,14 @@ use Rattle.html_render_layout_nodes.specs.Visitor.{NodePlace, Bare, Skipped, Wit
 use Rattle.html_render_layout_nodes.specs.Visitor.{placed, run_at, run, nodes_at, visited, open_at, most_open}
 use Rattle.html_render_layout_nodes.specs.laws.Visits.{from_state}
 use Rattle.html_render_layout_paragraphs.specs.laws.Answers.{Both, Both-then, Both-map, Both-weaken}
-use Rattle.html_render_layout_blocks.specs.Operations.{Operations, DocumentEnd}
+use Rattle.html_render_layout_blocks.specs.Ends.{DocumentEnd, ended_by}
+use Rattle.html_render_layout_blocks.specs.Operations.{Operations}
 use Rattle.html_render_layout_blocks.specs.laws.Related.{Relates, RelatesEnds}
 use Rattle.html_render_layout.specs.Layout.{OwnBlock}
 use Rattle.html_render_layout.specs.Layout.{Shared, Prefixed, Indented}
 use Rattle.html_render_layout.specs.declared.state.LayoutState.{LayoutState}
 use Rattle.html_render_layout.specs.declared.state.TextContext.{TextContext}
-use Rattle.html_render_layout.specs.Ending.{closing_texts, ended}
+use Rattle.html_render_layout.specs.Ending.{closing_texts}
 use Rattle.html_render_layout.specs.Layout.{Algebra, Step, Write, WriteNumber, Annotate, Treat, Strike, Unstrike, Restore, NewLine, NewLineHard}
 use Rattle.html_render_layout.specs.Layout.{StartBlock, EndBlock, Fence, BeginTable, EndTable, AddTarget, AddMark, Shape, Steps, Around, Items}
 use Rattle.html_render_layout.specs.Layout.{Cells, spaces, block_of, shape_of, style_steps, struck, white_space_in, on_block}
@@ -592,30 +593,32 @@ module _ {S A K T B L U C I : Type 0} (m : Algebra S A K T B) (pull : L → U �
   -- ---- views of the end
 
   module _ (end : DocumentEnd B T) (other_end : DocumentEnd C U) (Cut : Bool → Type 0) (ends : RelatesEnds end other_end N M Cut Tags Blocks) where
+    -- characters of the texts of closing lines
+    abbrev texts : (footnotes : Bool) → State → List (List ℕ)
+    texts footnotes s = map chars (closing_texts m.decoration footnotes s.decorator s.targets)
+
     ended-related : (footnotes cut : Bool) (tag : T) (other_tag : U) (i : I) (s : State) (v : Different) → Cut cut →
-        Tags (stacks_of s v) tag other_tag → Holds i s v → Both N M (Reached i (stacks_of s v)) (ended m.decoration end footnotes cut tag s)
-        (ended m.decoration other_end footnotes cut other_tag (with_other s v))
+        Tags (stacks_of s v) tag other_tag → Holds i s v → Both N M (Reached i (stacks_of s v)) (on_block (λ b. ended_by end b cut tag (texts footnotes s)) s)
+        (on_block (λ b. ended_by other_end b cut other_tag (texts footnotes s)) (with_other s v))
     ended-related footnotes cut tag other_tag i s v c t k =
         let w = stacks_of s v in
-        let texts : List (List ℕ) = map chars (closing_texts m.decoration footnotes s.decorator s.targets) in
-        Both-then N M weak (Blocks i w) (Reached i w) _ _ (end.finish s.block) (other_end.finish v.block)
-        (ends.finish i w s.block v.block k.1.1) (λ b e c'.
-        Both-then N M weak (Blocks i w) (Reached i w) _ _ (end.add_closing_lines b cut tag texts)
-        (other_end.add_closing_lines e cut other_tag texts) (ends.add_closing_lines i w cut tag other_tag texts c t b e c') (λ x f d.
-        record { other = record v { block = f }; is = refl; later = stays w; holds = (k.0, (k.1.0, d)) }))
+        let ts : List (List ℕ) = texts footnotes s in
+        on_block-related (λ b. ended_by end b cut tag ts) (λ b. ended_by other_end b cut other_tag ts) i s v k
+        (Both-then N M weak (Blocks i w) (Blocks i w) _ _ (end.finish s.block) (other_end.finish v.block)
+        (ends.finish i w s.block v.block k.1.1) (λ b e c'. ends.add_closing_lines i w cut tag other_tag ts c t b e c'))
 
     -- views that are related on related states are related after the layout of a document
     pub shown-related : {X Y : Type 0} (R : X → Y → Type 0) (view : State → X) (wanted : OtherState → Y) (i : I) →
         ((r : State) (u : Different) → Holds i r u → R (view r) (wanted (with_other r u))) →
         (t : Forest RenderNode) (s : State) (v : Different) → Cut s.settings.wrap_links → Holds i s v →
-        Both N M R (shown_after m end view t s) (shown_after n other_end wanted t (with_other s v))
+        Both N M R (shown_after m (ended_by end) view t s) (shown_after n (ended_by other_end) wanted t (with_other s v))
     shown-related R view wanted i related t s v c k =
         let footnotes = s.settings.link_footnotes in
         let cut = s.settings.wrap_links in
         Both-then N M weak (Reached i (stacks_of s v)) R _ _ (run (layout_of m) t s) (run (layout_of n) t (with_other s v))
         (run-related t i s v k) (λ r e z.
-        Both-map N M (Reached i (stacks_of r z.other)) R view wanted (ended m.decoration end footnotes cut s.text.tag r)
-        (ended m.decoration other_end footnotes cut v.tag e)
+        Both-map N M (Reached i (stacks_of r z.other)) R view wanted (on_block (λ b. ended_by end b cut s.text.tag (texts footnotes r)) r)
+        (on_block (λ b. ended_by other_end b cut v.tag (map chars (closing_texts m.decoration footnotes e.decorator e.targets))) e)
         (rw z.is (ended-related footnotes cut s.text.tag v.tag i r z.other c
         (tags_later (stacks_of s v) (stacks_of r z.other) s.text.tag v.tag k.0 z.later) z.holds)) (λ q x y.
         rw y.is (related q y.other y.holds)))

@@ -9,6 +9,7 @@ use Rattle.html_render_layout_lines.specs.Tags.{lines_with}
 use Rattle.html_render_layout_nodes.specs.declared.tree.RenderNode.{RenderNode}
 use Rattle.html_render_layout_nodes.specs.Visitor.{visited, most_open}
 use Rattle.html_render_layout_blocks.specs.Definition as definition
+use Rattle.html_render_layout_blocks.specs.Ends.{ended_by}
 use Rattle.html_render_layout_blocks.specs.Definition.{DefinedBlock}
 use Rattle.html_render_layout_blocks.specs.Machine as machine
 use Rattle.html_render_layout_blocks.specs.Machine.{MachineBlock}
@@ -73,8 +74,8 @@ module _ {S A K T V : Type 0} (d : Decoration S A) (push : K → T → A → K �
   shown-represented : {X Y : Type 0} (R : X → Y → Type 0) (view : Worked → X) (wanted : Defined S A → Y) (i : ℕ) →
       ((r : Worked) (u : Stacked) → Represents i r u → R (view r) (wanted (with_other r u))) →
       (t : Forest RenderNode) (s : Worked) (v : Stacked) → Represents i s v →
-      Both (Unit {0}) ⊥ R (shown_after (by_tags d push) machine.ending view t s)
-      (shown_after (by_stacks d) definition.ending wanted t (with_other s v))
+      Both (Unit {0}) ⊥ R (shown_after (by_tags d push) (ended_by machine.ending) view t s)
+      (shown_after (by_stacks d) (ended_by definition.ending) wanted t (with_other s v))
   shown-represented R view wanted i related t s v h =
       shown-related (by_tags d push) (by_stacks d).push definition.operations (Unit {0}) ⊥ (λ x. tt) GoesOn (λ w. stays w.0) Going ShowsTag later_tag
       ShowsBlock (λ i w v b c k l. later-seen (λ (w : Kept) t. shown w.0 t) seen GoesOn (λ w. stays w.0) Going i w v b c k l)
@@ -91,8 +92,8 @@ module _ {S A K T V : Type 0} (d : Decoration S A) (push : K → T → A → K �
 
   -- the lines with the views of their tags are the definition's lines with the views of their stacks
   pub lines-represented : (view : Worked → List (Line V ℕ)) → ((r : Worked) → view r ≡ lines_with (shown r.stacks) r.block.lines) →
-      (t : Forest RenderNode) (i : ℕ) (s : Worked) (v : Stacked) → Represents i s v → shown_after (by_tags d push) machine.ending view t s
-      ≡ option_map (lines_with seen) (shown_after (by_stacks d) definition.ending (λ (r : Defined S A). r.block.lines) t (with_other s v))
+      (t : Forest RenderNode) (i : ℕ) (s : Worked) (v : Stacked) → Represents i s v → shown_after (by_tags d push) (ended_by machine.ending) view t s
+      ≡ option_map (lines_with seen) (shown_after (by_stacks d) (ended_by definition.ending) (λ (r : Defined S A). r.block.lines) t (with_other s v))
   lines-represented view is t i s v h =
       mapped (lines_with seen) _ _
       (shown-represented (λ x y. x ≡ lines_with seen y) view (λ (r : Defined S A). r.block.lines) i (λ r u m.
@@ -100,8 +101,8 @@ module _ {S A K T V : Type 0} (d : Decoration S A) (push : K → T → A → K �
 
   -- the names of marks are equal
   pub names-represented : (t : Forest RenderNode) (i : ℕ) (s : Worked) (v : Stacked) → Represents i s v →
-      shown_after (by_tags d push) machine.ending (λ (r : Worked). r.names) t s
-      ≡ shown_after (by_stacks d) definition.ending (λ (r : Defined S A). r.names) t (with_other s v)
+      shown_after (by_tags d push) (ended_by machine.ending) (λ (r : Worked). r.names) t s
+      ≡ shown_after (by_stacks d) (ended_by definition.ending) (λ (r : Defined S A). r.names) t (with_other s v)
   names-represented t i s v h =
       mapped (λ names. names) _ _ (shown-represented (λ x y. x ≡ y) (λ (r : Worked). r.names) (λ (r : Defined S A). r.names) i (λ r u m. refl) t s v h)
       ∙ option_map_id _

@@ -1,5 +1,5 @@
 -- Preferred widths left out: only tables use them, so trees without a table are laid out alike without them.
-use Rattle.std.proofs.Common.{◌≡◌, ◌||◌, true, false, ℕ, ◌+◌, max, length, Option, Some, Result, OnOk, option_and_then}
+use Rattle.std.proofs.Common.{Bool, List, ◌≡◌, ◌||◌, true, false, ℕ, ◌+◌, max, length, Option, Some, Result, OnOk, option_and_then}
 use Rattle.std.proofs.Common.{refl, ap, ◌≤◌, subst, arith, length-append}
 use Rattle.std.proofs.lemmas.Bool.{or_parts, true≢false}
 use Rattle.html_render_dom_values.specs.Forest.{Forest, none, node, count, depth}
@@ -14,7 +14,6 @@ use Rattle.html_render_layout_nodes.specs.Visitor.{NodePlace, Bare, Skipped, Wit
 use Rattle.html_render_layout_nodes.specs.Visitor.{placed, run_at, run, nodes_at, open_at}
 use Rattle.html_render_layout_nodes.specs.laws.Visits.{from, from_state, count_from, length-from}
 use Rattle.html_render_layout_estimates.specs.Passes.{is_table, has_table, without_size, without_sizes, with_needed_sizes}
-use Rattle.html_render_layout_blocks.specs.Operations.{DocumentEnd}
 use Rattle.html_render_layout.specs.declared.state.LayoutState.{LayoutState}
 use Rattle.html_render_layout_estimates.specs.declared.settings.LayoutSettings.{LayoutSettings}
 use Rattle.html_render_layout.specs.Layout.{Algebra, digits_of, block_of, shape_of, style_steps, perform_all, block_place, shape_layout}
@@ -150,9 +149,9 @@ module _ {S A K T B : Type 0} (m : Algebra S A K T B) where
   run-needed t s = if_cases (λ x. run (layout_of m) x s ≡ run (layout_of m) t s) (has_table t) _ _ (λ _. refl) (λ e. run-same t bare 0 s e)
 
   -- THE LAW: leaving out unused preferred widths doesn't change the view after the layout
-  pub shown-needed : {L : Type 0} (end : DocumentEnd B T) (shown : State → L) (t : Forest RenderNode) (s : State) →
-      shown_after m end shown (with_needed_sizes t) s ≡ shown_after m end shown t s
-  shown-needed end shown t s = ap (option_and_then _) (run-needed t s)
+  pub shown-needed : {L : Type 0} (close : B → Bool → T → List (List ℕ) → Option B) (shown : State → L) (t : Forest RenderNode) (s : State) →
+      shown_after m close shown (with_needed_sizes t) s ≡ shown_after m close shown t s
+  shown-needed close shown t s = ap (option_and_then _) (run-needed t s)
 
   -- counts of visited nodes, and of nodes open at once, are equal
   pub counts-needed : {X E : Type 0} (r : Result X E) (t : Forest RenderNode) (s : State) (old new : Meter) →

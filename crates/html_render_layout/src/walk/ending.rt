@@ -2,10 +2,13 @@
 
 ghost use Rattle.std.specs.Prelude.{◌≡◌, ◌++◌, [], Some, codes, map, string_bytes, if◌then◌else◌};
 ghost use Rattle.std.specs.Fmt.{decimal};
+ghost use Rattle.std.specs.Str.{chars};
 ghost use Rattle.std.specs.Prelude.{OnOk, IfOk, IfErr};
 ghost use Rattle.html_render_dom_values.specs.Outcome.{OnlyOutOfMemory, Refuses};
+ghost use Rattle.html_render_layout_blocks.specs.Ends.{ended_by};
 ghost use Rattle.html_render_layout_blocks.specs.Machine as machine;
-ghost use Rattle.html_render_layout.specs.Ending.{footnotes, closing_texts, ended};
+ghost use Rattle.html_render_layout.specs.Ending.{footnotes, closing_texts};
+ghost use Rattle.html_render_layout.specs.Layout.{on_block};
 
 use crate::tagging::Tagging;
 use crate::working::State;
@@ -86,8 +89,10 @@ pub fn end<D: TextDecorator, G: Tagging<D::Annotation>>(
     tag: G::Tag,
     state: &mut State<D, G>,
 ) -> Result<(), Error>
-    ensures ok { OnOk result (ended D.decoration machine.ending link_footnotes wrap_links tag state.old ≡ Some state.new) }
-    ensures err { IfErr result (λ e. Refuses e (ended D.decoration machine.ending link_footnotes wrap_links tag state.old)) }
+    ensures ok { OnOk result (on_block (λ b. ended_by machine.ending b wrap_links tag
+        (map chars (closing_texts D.decoration link_footnotes state.old.decorator state.old.targets))) state.old ≡ Some state.new) }
+    ensures err { IfErr result (λ e. Refuses e (on_block (λ b. ended_by machine.ending b wrap_links tag
+        (map chars (closing_texts D.decoration link_footnotes state.old.decorator state.old.targets))) state.old)) }
 {
     state.block.finish()?;
     let texts = closing_texts(

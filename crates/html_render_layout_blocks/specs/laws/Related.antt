@@ -22,7 +22,8 @@ use Rattle.html_render_layout_blocks.specs.declared.block.tables.OpenTable.TheVa
 use Rattle.html_render_layout_blocks.specs.Block.{Block, paragraph_setting, is_collapsible_text, inner_width, mark_items, empty_block, flush, add_lines, unended}
 use Rattle.html_render_layout_blocks.specs.Block.{start_block, feed, inner_block, put_lines, end_open, end_table, add_border, stacked_begun}
 use Rattle.html_render_layout_blocks.specs.Block.{with_table_begun, put_stacked, cell_added, row_ended, append}
-use Rattle.html_render_layout_blocks.specs.Block.{finish, add_closing_lines, operations, ending}
+use Rattle.html_render_layout_blocks.specs.Block.{finish, add_closing_lines, operations}
+use Rattle.html_render_layout_blocks.specs.Ends.{DocumentEnd, ending}
 use Rattle.html_render_layout_blocks.specs.Closing.{closing_lines}
 use Rattle.html_render_layout_blocks.specs.RowSteps.{on_one_line}
 use Rattle.html_render_layout_paragraphs.specs.CutText.{text_lines}
@@ -30,7 +31,7 @@ use Rattle.html_render_layout_buffer.specs.Prefixed.{prefixed}
 use Rattle.html_render_layout_blocks.specs.Joined.{fitting}
 use Rattle.html_render_layout_blocks.specs.OpenRows.{OpenRow, open_row, next_width, past_cell, whole_row}
 use Rattle.html_render_layout_blocks.specs.Parts.{Parts}
-use Rattle.html_render_layout_blocks.specs.Operations.{Operations, DocumentEnd}
+use Rattle.html_render_layout_blocks.specs.Operations.{Operations}
 use Rattle.html_render_layout_blocks.specs.Tables.{frame_of, with_row_open, next_cell_width, skipped, with_open, with_ahead}
 use Rattle.html_render_layout_paragraphs.specs.laws.Answers.{Both, Both-then, Both-map, Both-weaken}
 
