@@ -1,30 +1,36 @@
 -- The number that a text is, and what `parse` reads.
-use Rattle.std.proofs.Common.{◌≡◌, ℕ, ◌^◌, ◌<◌, reverse, inl, inr, Bool, true, ◌&&◌, if◌then◌else◌, List, [], ◌∷◌, length, map, find, option_map, Some}
+use lib.Dec.{leb-suc-suc}
+use Rattle.std.proofs.Common.{◌≡◌, ℕ, ◌-◌, ◌^◌, ◌<◌, reverse, inl, inr, Bool, true, ◌&&◌, if◌then◌else◌, List, [], ◌∷◌, length, map, find, option_map, Some}
 use Rattle.std.proofs.Common.{None, Option, Result, Ok, Err, unwrap_or, refl, sym, ap, ◌∙◌, ◌++◌, nat_lt}
 use Rattle.std.proofs.lemmas.Bool.{and_from, and_parts, cases_Bool, ltb-true, lt-ltb}
 use Rattle.std.proofs.lemmas.Bool.Decides.{Decides-ltb}
 use Rattle.std.specs.Bool.{Decides}
+use Rattle.std.proofs.Math.Bool.{and-true}
 use Rattle.std.proofs.lemmas.List.{reverse-append, map-append}
 use Rattle.std.proofs.lemmas.Str.Parse.{numerals_by_value, tells_all_ascii_digits}
 use Rattle.std.specs.Int.{w64}
 use Rattle.std.specs.Int.RustNames.{FitsSigned}
-use Rattle.std.specs.Prelude.{ℤ, pos, negsuc, option_and_then}
+use Rattle.std.specs.Prelude.{ℤ, pos, negsuc, neg_ℤ, int_le, int_lt, option_and_then}
 use Rattle.std.specs.Result.{OkIff, result_unwrap_or}
 use Rattle.std.specs.Str.{all_ascii_digits, bytes_eq}
 use Rattle.std.specs.Str.Parse.{IsNumeral, ParsesSigned, ParsesUnsigned, digits_value, without_leading_plus, without_leading_sign, signed_digits_value}
 use Rattle.html_render_dom_nodes.specs.Content.{Property, property_of}
 use Rattle.html_render_dom_nodes.specs.declared.names.Attribute.{Attribute}
 use Rattle.html_render_dom.specs.Attributes.{first_value}
-use Rattle.html_render_tree_convert.specs.Conversion.{fits_i64, number_of}
+use Rattle.html_render_tree_convert.specs.Conversion.{number_of}
 use Rattle.html_render_tree_convert.specs.Tables.{numeral_of, size_of, size_or_one}
+
+-- whether an `i64` can be this number
+abbrev fits_i64 : ℤ → Bool
+fits_i64 z = int_le (neg_ℤ (pos (2 ^ 63))) z && int_lt z (pos (2 ^ 63))
 
 fits : (z : ℤ) → fits_i64 z ≡ true → FitsSigned w64 z
 fits (pos n) h = record { sfits = ltb-true n (2 ^ 63) h }
-fits (negsuc n) h = record { sfits = ltb-true n (2 ^ 63) h }
+fits (negsuc n) h = record { sfits = ltb-true n (2 ^ 63) (leb-suc-suc n (2 ^ 63 - 1) ∙ sym (and-true _) ∙ h) }
 
 fits-test : (z : ℤ) → FitsSigned w64 z → fits_i64 z ≡ true
 fits-test (pos n) h = lt-ltb n (2 ^ 63) h.sfits
-fits-test (negsuc n) h = lt-ltb n (2 ^ 63) h.sfits
+fits-test (negsuc n) h = and-true _ ∙ sym (leb-suc-suc n (2 ^ 63 - 1)) ∙ lt-ltb n (2 ^ 63) h.sfits
 
 module _ {N : Type 0} (digits : List ℕ) (number : N) (fits : Bool) (Fits : Type 0) (told : Decides fits Fits) where
   abbrev test : Bool

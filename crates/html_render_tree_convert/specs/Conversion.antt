@@ -1,5 +1,5 @@
 -- What becomes of each element, by its name and its attributes, and which style its node has.
-use Rattle.std.specs.Prelude.{ℕ, ◌+◌, ◌^◌, nat_lt, ℤ, pos, negsuc, Bool, true, false, not, ◌&&◌, List, [], ◌∷◌, codes, Option}
+use Rattle.std.specs.Prelude.{ℕ, ◌+◌, ◌^◌, ℤ, pos, neg_ℤ, int_le, int_lt, Bool, true, false, not, ◌&&◌, List, [], ◌∷◌, codes, Option}
 use Rattle.std.specs.Prelude.{◌++◌, option_and_then, option_to_list, unwrap_or, if◌then◌else◌}
 use Rattle.std.specs.Option.{option_map_or}
 use Rattle.std.specs.Str.{bytes_eq, trim}
@@ -34,14 +34,11 @@ use Rattle.html_render_tree_convert.specs.Tables.{numeral_of, span_of}
 abbrev pub is_one_of : List ℕ → List (List ℕ) → Bool
 is_one_of name names = list_any (bytes_eq name) names
 
--- whether an `i64` can be this number: from -2 ^ 63 up to 2 ^ 63 - 1
-abbrev pub fits_i64 : ℤ → Bool
-fits_i64 (pos n) = nat_lt n (2 ^ 63)
-fits_i64 (negsuc n) = nat_lt n (2 ^ 63)
-
--- the number that a text is: a sign or none, and then digits alone, one or more
+-- the number from -2 ^ 63 up to 2 ^ 63 - 1 that a text is: a sign or none, and then digits alone, one or more
 abbrev pub number_of : List ℕ → Option ℤ
-number_of written = let number = signed_digits_value 10 written in numeral_of (without_leading_sign written) number (fits_i64 number)
+number_of written =
+    let number = signed_digits_value 10 written in
+    numeral_of (without_leading_sign written) number (int_le (neg_ℤ (pos (2 ^ 63))) number && int_lt number (pos (2 ^ 63)))
 
 -- the number of an ordered list's first item: that of its first attribute `start`, and 1 without such a number
 abbrev pub start_of : List Property → ℤ
@@ -80,16 +77,12 @@ html_mapping name properties =
     else if is_one_of name (codes "head" ∷ codes "link" ∷ codes "meta" ∷ codes "hr" ∷ codes "script" ∷ codes "style" ∷ []) then Nothing
     else Parent (Node Container) Vanishes
 
--- an `a` with a target is a link
-abbrev pub link_mapping : (target : Option (List ℕ)) → Mapping
-link_mapping target = option_map_or (λ t. Parent (Node (Link t)) Vanishes) target (Parent (Node Container) Stands)
-
--- what becomes of an element of a namespace, over the trees below it. The link of an `a` goes to its first attribute `href`, an `img`
--- without a source is nothing, and a `wbr` is U+200B in UTF-8, which takes no columns and between whose neighbours a line may end.
--- Outside HTML no name but `svg` is special
+-- what becomes of an element of a namespace, over the trees below it. An `a` with an attribute `href` is a link to the first one, an
+-- `img` without a source is nothing, and a `wbr` is U+200B in UTF-8, which takes no columns and between whose neighbours a line may
+-- end. Outside HTML no name but `svg` is special
 abbrev pub element_mapping : Space → (name : List ℕ) → List Property → (below : Forest Content) → Mapping
 element_mapping html name properties below =
-    if bytes_eq name (codes "a") then link_mapping (first_value (codes "href") properties)
+    if bytes_eq name (codes "a") then option_map_or (λ t. Parent (Node (Link t)) Vanishes) (first_value (codes "href") properties) (Parent (Node Container) Stands)
     else if bytes_eq name (codes "img") then (let image = image_parts properties in if is_filled image.source then Leaf (Image image) else Nothing)
     else if bytes_eq name (codes "wbr") then Leaf (Text (226 ∷ 128 ∷ 139 ∷ []))
     else html_mapping name properties

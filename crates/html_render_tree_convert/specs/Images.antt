@@ -1,5 +1,5 @@
 -- What an image and a drawing are called, and where an image lies.
-use Rattle.std.specs.Prelude.{ℕ, not, ◌&&◌, Bool, true, false, List, [], ◌∷◌, ◌++◌, codes, if◌then◌else◌}
+use Rattle.std.specs.Prelude.{ℕ, not, ◌&&◌, ◌||◌, Bool, true, false, List, [], ◌∷◌, ◌++◌, codes, fold, if◌then◌else◌}
 use Rattle.std.specs.Str.{bytes_eq}
 use Rattle.html_render_dom_nodes.specs.Content.{Property, Space, svg, Content, text, element}
 use Rattle.html_render_dom_values.specs.Forest.{Forest, none, node}
@@ -8,22 +8,18 @@ use Rattle.html_render_layout_nodes.specs.declared.tree.ImageParts.{ImageParts}
 
 -- ---- images
 
--- an attribute is read: `alt` is the title and `src` the source, if its value isn't empty; it replaces one read before
-abbrev pub read : Property → ImageParts → ImageParts
-read p image =
-    if not (is_filled p.value) then image
+-- an attribute is read: `alt` is the title and `src` the source, if its value isn't empty; it replaces one read before. Once there are
+-- a title and a source, no more is read
+abbrev pub read : ImageParts → Property → ImageParts
+read image p =
+    if not (is_filled p.value) || (is_filled image.source && is_filled image.title) then image
     else if bytes_eq p.name.local (codes "alt") then record image { title = p.value }
     else if bytes_eq p.name.local (codes "src") then record image { source = p.value }
     else image
 
--- attributes are read in their order until there are a title and a source
-abbrev pub read_all : List Property → ImageParts → ImageParts
-read_all [] image = image
-read_all (p ∷ ps) image = if is_filled image.source && is_filled image.title then image else read_all ps (read p image)
-
--- THE PARTS of an image
+-- THE PARTS of an image: its attributes are read in their order
 abbrev pub image_parts : List Property → ImageParts
-image_parts properties = read_all properties (record { source = []; title = [] })
+image_parts properties = fold read (record { source = []; title = [] }) properties
 
 -- ---- drawings
 

@@ -13,13 +13,13 @@ use html_render_dom::dom::{Attribute, Handle, Namespace, NodeData, RcDom};
 use html_render_layout_nodes::text::NodeText;
 use std::alloc::{AllocError, Global};
 
-/// Returns an image's source and title once one more attribute is read.
+/// Returns an image's source and title once one more attribute is read, which changes neither where there are both.
 fn read<'a>(attribute: &'a Attribute, source: &'a str, title: &'a str) -> (&'a str, &'a str)
     ensures { record { source = result.0.now; title = result.1.now }
-        ≡ read (property_of attribute.now) (record { source = source.now; title = title.now }) }
+        ≡ read (record { source = source.now; title = title.now }) (property_of attribute.now) }
 {
     let value = attribute.value.as_str();
-    if value.is_empty() {
+    if value.is_empty() || (!source.is_empty() && !title.is_empty()) {
         return (source, title);
     }
     match attribute.name.local.as_str() {
@@ -36,9 +36,6 @@ pub fn image_parts(attributes: &[Attribute]) -> (&str, &str)
     let mut source = "";
     let mut title = "";
     for attribute in attributes {
-        if !source.is_empty() && !title.is_empty() {
-            return (source, title);
-        }
         let (next_source, next_title) = read(attribute, source, title);
         source = next_source;
         title = next_title;

@@ -1,6 +1,7 @@
 //! Which render node a node of a document becomes.
 
 ghost use Rattle.std.specs.Prelude.{◌≡◌, ◌&&◌, ◌||◌, false, IfOk, codes, if◌then◌else◌, map};
+ghost use Rattle.std.specs.Option.{option_map_or};
 ghost use Rattle.std.specs.Str.{bytes_eq};
 ghost use Rattle.html_render_dom_values.specs.Outcome.{OnlyOutOfMemory};
 ghost use Rattle.html_render_dom_nodes.specs.Content.{name_of, property_of, space_of, is_html};
@@ -9,7 +10,7 @@ ghost use Rattle.html_render_dom.specs.ElementStyle.{style_of};
 ghost use Rattle.html_render_dom.specs.Attributes.{first_value};
 ghost use Rattle.html_render_dom_styles.specs.Selectors.{is_filled};
 ghost use Rattle.html_render_tree_convert.specs.Images.{image_parts};
-ghost use Rattle.html_render_tree_convert.specs.Conversion.{html_mapping, element_mapping, link_mapping, preformatted_style, node_style};
+ghost use Rattle.html_render_tree_convert.specs.Conversion.{html_mapping, element_mapping, preformatted_style, node_style};
 ghost use Rattle.html_render_tree_convert.specs.KnownElements.{html_element_mapping, is_preformatted};
 
 use crate::attributes::{first_value, span_of, start_of};
@@ -157,7 +158,8 @@ fn other_mapping(name: &str, attributes: &[Attribute]) -> Mapping
 
 /// Returns the mapping of an `a`, by its attributes: a link to its first `href`, if it has one.
 fn link_mapping(alloc: Global, attributes: &[Attribute]) -> Result<Mapping, Error>
-    ensures ok { IfOk result (λ mapping. mapping ≡ link_mapping (first_value (codes "href") (map property_of attributes.now))) }
+    ensures ok { IfOk result (λ mapping. mapping ≡ option_map_or (λ t. Mapping.Parent (ElementKind.Node (NodeKind.Link t)) IfEmpty.Vanishes)
+        (first_value (codes "href") (map property_of attributes.now)) (Mapping.Parent (ElementKind.Node NodeKind.Container) IfEmpty.Stands)) }
     ensures err { OnlyOutOfMemory result }
 {
     match first_value(attributes, "href") {

@@ -15,7 +15,7 @@ use Rattle.html_render_parts.specs.laws.OwnCells.{cells-own}
 use Rattle.html_render_parts.specs.declared.table.Span.{Span}
 use Rattle.html_render_layout_nodes.specs.Tables.{TableParts, unmeasured_table}
 use Rattle.html_render_layout_nodes.specs.declared.tree.NodeKind.{NodeKind}
-use Rattle.html_render_layout_nodes.specs.declared.tree.NodeKind.TheVariants.{Block, Container, Table, TableRow, TableCell, FragmentStart, Text}
+use Rattle.html_render_layout_nodes.specs.declared.tree.NodeKind.TheVariants.{Block, Container, Link, Table, TableRow, TableCell, FragmentStart, Text}
 use Rattle.html_render_layout_nodes.specs.declared.tree.NodeStyle.{NodeStyle}
 use Rattle.html_render_layout_nodes.specs.declared.tree.RenderNode.{RenderNode}
 use Rattle.html_render_layout_nodes.specs.RenderNodes.{no_style, without_style}
@@ -26,6 +26,7 @@ use Rattle.html_render_tree_convert.specs.declared.elements.Role.{Role}
 use Rattle.html_render_tree_convert.specs.declared.elements.Role.TheVariants.{Contents, Caption, Rows, Row, Cell}
 use Rattle.html_render_tree_convert.specs.declared.mapping.ElementKind.{ElementKind}
 use Rattle.html_render_tree_convert.specs.declared.mapping.ElementKind.TheVariants.{Node, Part}
+use Rattle.html_render_tree_convert.specs.declared.mapping.IfEmpty.TheVariants.{Stands, Vanishes}
 use Rattle.html_render_tree_convert.specs.declared.plans.Element.{Element}
 use Rattle.html_render_tree_convert.specs.declared.plans.Plan.{Plan}
 use Rattle.html_render_tree_convert.specs.declared.plans.Plan.TheVariants as plan
@@ -46,8 +47,8 @@ use Rattle.html_render_layout_nodes.specs.laws.Splits.{followed_by-none}
 use Rattle.html_render_layout_nodes.specs.Kinds.{holds_insertions}
 use Rattle.html_render_dom.specs.declared.style.computed.ComputedStyle.{ComputedStyle}
 use Rattle.html_render_tree_convert.specs.declared.mapping.Mapping.{Mapping}
-use Rattle.html_render_tree_convert.specs.declared.mapping.Mapping.TheVariants.{Nothing}
-use Rattle.html_render_tree_convert.specs.Conversion.{element_mapping, link_mapping, own_style}
+use Rattle.html_render_tree_convert.specs.declared.mapping.Mapping.TheVariants.{Nothing, Parent}
+use Rattle.html_render_tree_convert.specs.Conversion.{element_mapping, own_style}
 use Rattle.html_render_tree_convert.specs.Marks.{mark_of}
 
 -- ---- results
@@ -220,7 +221,7 @@ module _ (mark : Option (List ℕ)) (style : ComputedStyle) where
   fits-nothing : fits Nothing ≡ true
   fits-nothing = elim mark as (λ m. is_good_plan (option_map_or (λ name. plan.Alone (without_style (FragmentStart name))) m plan.Nothing) ≡ true) [ None ↦ refl | Some name ↦ refl ]
 
-  fits-link : (target : Option (List ℕ)) → fits (link_mapping target) ≡ true
+  fits-link : (target : Option (List ℕ)) → fits (option_map_or (λ t. Parent (Node (Link t)) Vanishes) target (Parent (Node Container) Stands)) ≡ true
   fits-link None = refl
   fits-link target = refl
 
