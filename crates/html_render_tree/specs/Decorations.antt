@@ -21,11 +21,7 @@ decoration name text place = record {
 abbrev pub decoration_specificity : Specificity
 decoration_specificity = record { inline = false; id = 0; class = 0; typ = 2 }
 
--- rules that put a text before and after the contents of each element of this name
-abbrev pub before_and_after : (name text : List ℕ) → List Rule
-before_and_after name text = decoration name text Before ∷ decoration name text After ∷ []
-
--- THE DECORATIONS, in the order in which they are added: of each of these names, with its text
+-- THE DECORATIONS, in the order in which they are added: of each of these names, with its text before the contents and after them
 abbrev pub decorations : List Rule
-decorations = flat_map (λ (x : List ℕ × List ℕ). before_and_after x.0 x.1)
+decorations = flat_map (λ (x : List ℕ × List ℕ). decoration x.0 x.1 Before ∷ decoration x.0 x.1 After ∷ [])
     ((codes "em", codes "*") ∷ (codes "dt", codes "*") ∷ (codes "strong", codes "**") ∷ (codes "b", codes "**") ∷ (codes "code", codes "`") ∷ [])

@@ -5,7 +5,7 @@
 ghost use Rattle.std.specs.Prelude.{◌≡◌, ◌∷◌, ◌++◌, [], IfOk, OnOk, map};
 ghost use Rattle.html_render_dom_styles.specs.Rules.{rule_of};
 ghost use Rattle.html_render_dom_styles.specs.Selectors.{specificity_of};
-ghost use Rattle.html_render_tree.specs.Decorations.{decoration, decoration_specificity, decorations, before_and_after};
+ghost use Rattle.html_render_tree.specs.Decorations.{decoration, decoration_specificity, decorations};
 
 use html_render_dom::style::{Declaration, PseudoElement, Style, StyleOrigin, StyleRule};
 use std::alloc::{AllocError, Global};
@@ -36,7 +36,8 @@ fn add_before_and_after(
     name: &str,
     text: &str,
 ) -> Result<(), AllocError>
-    ensures { OnOk result (map rule_of rules.new.items ≡ map rule_of rules.old.items ++ before_and_after name.now text.now) }
+    ensures { OnOk result (map rule_of rules.new.items ≡ map rule_of rules.old.items
+        ++ decoration name.now text.now PseudoElement.Before ∷ decoration name.now text.now PseudoElement.After ∷ []) }
 {
     rules.push(decoration(alloc, name, text, PseudoElement::Before)?)?;
     rules.push(decoration(alloc, name, text, PseudoElement::After)?)?;
