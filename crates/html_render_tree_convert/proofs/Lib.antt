@@ -8,3 +8,4 @@ pub mod Closing
 pub mod Running
 pub mod VisitRuns
 pub mod VisitsLeft
+pub mod Names

@@ -1,5 +1,5 @@
 -- What an image and a drawing are called, and where an image lies.
-use Rattle.std.specs.Prelude.{ℕ, not, ◌&&◌, ◌||◌, Bool, true, false, List, [], ◌∷◌, ◌++◌, codes, fold, if◌then◌else◌}
+use Rattle.std.specs.Prelude.{ℕ, not, ◌&&◌, ◌||◌, Bool, true, false, List, [], ◌++◌, codes, fold, if◌then◌else◌}
 use Rattle.std.specs.Str.{bytes_eq}
 use Rattle.html_render_dom_nodes.specs.Content.{Property, Space, svg, Content, text, element}
 use Rattle.html_render_dom_values.specs.Forest.{Forest, none, node}

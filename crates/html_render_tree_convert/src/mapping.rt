@@ -74,13 +74,23 @@ fn table_part(part: Part, if_empty: IfEmpty) -> Mapping
     Mapping::Parent(ElementKind::Part(part), if_empty)
 }
 
-/// Reports whether a name is `other`. Lengths are compared first, in place: a `match` would call a comparison of texts for each
-/// name that it lists.
+/// Reports whether a name is `other`, a constant. Compares the bytes in place: a `match` would call a comparison of texts for
+/// each name that it lists.
 #[inline(always)]
 fn is(name: &str, other: &str) -> bool
     ensures { result ≡ bytes_eq name.now other.now }
 {
-    name.len() == other.len() && name == other
+    let bytes = name.as_bytes();
+    let others = other.as_bytes();
+    if bytes.len() != others.len() {
+        return false;
+    }
+    for at in 0..others.len() {
+        if bytes[at] != others[at] {
+            return false;
+        }
+    }
+    true
 }
 
 /// Returns the mapping of an element of HTML whose node holds no text, by its local name and its attributes. Cells, rows and
