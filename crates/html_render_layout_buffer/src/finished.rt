@@ -290,7 +290,10 @@ impl<T: Tag, M: Copy> FinishedLines<T, M> {
         if pieces.is_empty() {
             return Ok(last);
         }
+        let bytes = pieces.byte_count().saturating_add(last.byte_count());
+        let count = pieces.line_count().saturating_add(last.line_count());
         let mut lines = LineBuffer::new(last.alloc());
+        lines.reserve(bytes, count)?;
         while let Some(piece) = pieces.pop_first() {
             piece.write_to(&mut lines)?;
         }

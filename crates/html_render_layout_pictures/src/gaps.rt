@@ -99,13 +99,35 @@ fn few(filler: Filler, count: usize) -> &'static str
     }
 }
 
+/// Appends the character of `filler` `count` times to the open line of a buffer, under a tag. Most calls have none to append.
+///
+/// # Errors
+///
+/// `AllocError` if an allocation is refused. The buffer then has no lines.
+#[inline(always)]
+#[tactic(auto, using(crate::specs::laws::Fillers::fillers_width, crate::specs::laws::Fillers::fillers_parted))]
+pub fn push_fillers<T: Tag, M: Copy>(
+    to: &mut LineBuffer<T, M>,
+    filler: Filler,
+    count: usize,
+    tag: T,
+) -> Result<(), AllocError>
+    ensures { OnOk result (to.new ≡ record { lines = to.old.lines; line = to.old.line ++ repeated tag (character_of filler) count }) }
+{
+    if count == 0 {
+        return Ok(());
+    }
+    push_some_fillers(to, filler, count, tag)
+}
+
 /// Appends the character of `filler` `count` times to the open line of a buffer, under a tag.
 ///
 /// # Errors
 ///
 /// `AllocError` if an allocation is refused. The buffer then has no lines.
+#[inline(never)]
 #[tactic(auto, using(crate::specs::laws::Fillers::fillers_width, crate::specs::laws::Fillers::fillers_parted))]
-pub fn push_fillers<T: Tag, M: Copy>(
+fn push_some_fillers<T: Tag, M: Copy>(
     to: &mut LineBuffer<T, M>,
     filler: Filler,
     count: usize,

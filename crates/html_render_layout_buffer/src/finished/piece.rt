@@ -213,6 +213,11 @@ impl<T: Tag, M: Copy> Piece<T, M> {
         })
     }
 
+    /// Returns the number of bytes of the lines' text, without what is kept in front of it.
+    pub(super) fn byte_count(&self) -> usize {
+        self.lines.byte_count()
+    }
+
     /// Appends copies of the lines to a buffer.
     pub(super) fn write_to(&self, to: &mut LineBuffer<T, M>) -> Result<(), AllocError>
         requires { to.old.line ≡ [] }

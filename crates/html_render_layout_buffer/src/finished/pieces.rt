@@ -82,6 +82,15 @@ impl<T: Tag, M: Copy> Pieces<T, M> {
         self.count
     }
 
+    /// Returns the number of bytes of the pieces' texts, without what is kept in front of their lines; at most `usize::MAX`.
+    pub(super) fn byte_count(&self) -> usize {
+        let mut bytes: usize = 0;
+        for index in 0..self.pieces.len() {
+            bytes = bytes.saturating_add(self.pieces[index].byte_count());
+        }
+        bytes
+    }
+
     /// Appends a piece.
     pub(super) fn push(&mut self, piece: Piece<T, M>) -> Result<(), AllocError>
         ensures { OnOk result (self.new ≡ self.old ++ piece ∷ []) }

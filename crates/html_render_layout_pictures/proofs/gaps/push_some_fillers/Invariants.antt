@@ -1,7 +1,7 @@
 use Rattle.std.proofs.Common.{◌≡◌, ◌++◌}
 use Rattle.html_render_layout_buffer.specs.Padding.{repeated}
 use Rattle.html_render_layout_pictures.specs.Fillers.{character_of}
-use Rattle.html_render_layout_pictures.proofs.gaps.push_fillers.Given as goal
+use Rattle.html_render_layout_pictures.proofs.gaps.push_some_fillers.Given as goal
 
 -- with those that are left the line has all of them
 abbrev pub invariant-loop-left : goal.invariant-loop-left
