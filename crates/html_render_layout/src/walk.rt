@@ -242,13 +242,18 @@ fn padding<T: Tag>(settings: &LayoutSettings, tag: T) -> Option<T>
 /// Number of bytes of text for which memory is reserved for each node of a tree: those of a short line and part of its borders.
 const NODE_BYTES: usize = 64;
 
-/// Returns the number of nodes for whose lines memory is reserved: all if a measured tree has a table, and otherwise none.
+/// Maximum number of nodes for whose lines memory is reserved where no node of a table is among them. More memory grows by
+/// moving pages.
+const NODES_MAX: usize = 32_768;
+
+/// Returns the number of nodes for whose lines memory is reserved: at most [`NODES_MAX`], and all if a measured tree has a
+/// table.
 fn reserved_nodes(tree: &PreorderForest<RenderNode>) -> usize {
     let entries = tree.entries();
     match entries.first() {
         // without a table, no preferred width is measured
         Some(entry) if entry.node.estimate.preferred_width > 0 => entries.len(),
-        _ => 0,
+        _ => entries.len().min(NODES_MAX),
     }
 }
 

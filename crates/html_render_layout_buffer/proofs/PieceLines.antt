@@ -1,7 +1,9 @@
 -- Lines in pieces: how wide they are, and their first and last elements.
-use Rattle.std.proofs.Common.{◌≡◌, ℕ, zero, suc, ◌+◌, ◌-◌, ◌<◌, ◌≤◌, Bool, true, false, ◌&&◌, nat_le, List, [], ◌∷◌, ◌++◌, Some, map, take, drop, length, get_or, reverse, refl, sym, ap, ◌∙◌, subst, arith, append_assoc, append-nil, length-append}
+use Rattle.std.proofs.Common.{◌≡◌, ℕ, zero, suc, inl, inr, ◌⊎◌, ◌+◌, ◌-◌, ◌<◌, ◌≤◌, Bool, true, false, ◌&&◌, nat_le, List, [], ◌∷◌, ◌++◌, Some, map, take, drop, length, get_or, reverse, refl, sym, ap, ◌∙◌, subst, arith, append_assoc, append-nil, length-append}
 use Rattle.std.specs.List.{list_all}
 use Rattle.std.proofs.Math.Bool.{and-false}
+use Rattle.std.proofs.lemmas.Bool.{le-leb, lt-leb}
+use Rattle.std.proofs.lemmas.Bool.Decides.{leb_tells}
 use Rattle.std.proofs.Math.Seq.{take-append_seam, drop-append_seam}
 use Rattle.std.proofs.Math.Seq.{get_or-append_right}
 use Rattle.std.proofs.Math.ListN.{get_or-append}
@@ -69,6 +71,34 @@ fails-at p (x ∷ xs) zero zero d h k e = ap (λ b. b && list_all p xs) e
 fails-at p (x ∷ xs) zero (suc n) d h k e = ap (λ b. p x && b) (fails-at p xs zero n d (omega arith) (omega arith) e) ∙ and-false (p x)
 fails-at p (x ∷ xs) (suc from) zero d h k e = absurd (omega arith)
 fails-at p (x ∷ xs) (suc from) (suc n) d h k e = fails-at p xs from n d (omega arith) (omega arith) e
+
+-- what fits after others fits in the room that they leave
+room-le : (k c room : ℕ) → nat_le (k + c) (k + room) ≡ nat_le c room
+room-le k c room = here (leb_tells c room)
+  where
+    here : ((nat_le c room ≡ true) × (c ≤ room)) ⊎ ((nat_le c room ≡ false) × (room < c)) → nat_le (k + c) (k + room) ≡ nat_le c room
+    here (inl (e, h)) = le-leb (k + c) (k + room) (omega (arith, h)) ∙ sym e
+    here (inr (e, h)) = lt-leb (k + c) (k + room) (omega (arith, h)) ∙ sym e
+
+pub fits-in-room : {T M : Type 0} (k room width : ℕ) (ls : List (Line T M)) → k + room ≡ width →
+    list_all (λ (l : Line T M). nat_le (k + columns l) width) ls ≡ list_all (λ (l : Line T M). nat_le (columns l) room) ls
+fits-in-room k room width [] e = refl
+fits-in-room {T} {M} k room width (l ∷ ls) e =
+    ap (λ b. b && list_all (λ (m : Line T M). nat_le (k + columns m) width) ls) (ap (nat_le (k + columns l)) (sym e) ∙ room-le k (columns l) room)
+    ∙ ap (λ b. nat_le (columns l) room && b) (fits-in-room k room width ls e)
+
+-- no line is left, or one doesn't fit
+pub none-fits : {T M : Type 0} (k from width : ℕ) (ls : List (Line T M)) → from ≤ length ls → width < k →
+    nat_le (length ls) from ≡ list_all (λ (l : Line T M). nat_le (k + columns l) width) (drop from ls)
+none-fits {T} {M} k from width ls h p = here (leb_tells (length ls) from)
+  where
+    fits : Line T M → Bool
+    fits l = nat_le (k + columns l) width
+
+    here : ((nat_le (length ls) from ≡ true) × (length ls ≤ from)) ⊎ ((nat_le (length ls) from ≡ false) × (from < length ls)) →
+        nat_le (length ls) from ≡ list_all fits (drop from ls)
+    here (inl (e, q)) = e ∙ sym (ap (list_all fits) (drop_all from ls q))
+    here (inr (e, q)) = e ∙ sym (fails-at fits ls from from [] (omega arith) q (lt-leb (k + columns (get_or ls from [])) width (omega (arith, p))))
 
 repeated-spaces : {T : Type 0} (M : Type 0) (tag : T) (n : ℕ) → columns (repeated {M = M} tag 32 n) ≡ n
 repeated-spaces M tag zero = refl

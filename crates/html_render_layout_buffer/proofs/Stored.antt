@@ -107,10 +107,10 @@ bytes-append {T} {M} l m = flat_map-append (λ (e : Element T M). bytes_of e) l 
 pub slots-append : {T M : Type 0} (l m : Line T M) → line_slots (l ++ m) ≡ line_slots l ++ line_slots m
 slots-append {T} {M} l m = flat_map-append (λ (e : Element T M). slots_of e) l m
 
-lines_bytes-append : {T M : Type 0} (ls ms : List (Line T M)) → lines_bytes (ls ++ ms) ≡ lines_bytes ls ++ lines_bytes ms
+pub lines_bytes-append : {T M : Type 0} (ls ms : List (Line T M)) → lines_bytes (ls ++ ms) ≡ lines_bytes ls ++ lines_bytes ms
 lines_bytes-append {T} {M} ls ms = flat_map-append (λ (l : Line T M). text_bytes l ++ 10 ∷ []) ls ms
 
-lines_slots-append : {T M : Type 0} (ls ms : List (Line T M)) → lines_slots (ls ++ ms) ≡ lines_slots ls ++ lines_slots ms
+pub lines_slots-append : {T M : Type 0} (ls ms : List (Line T M)) → lines_slots (ls ++ ms) ≡ lines_slots ls ++ lines_slots ms
 lines_slots-append {T} {M} ls ms = flat_map-append (λ (l : Line T M). line_slots l) ls ms
 
 utf8-append : {T M : Type 0} (ls ms : List (Line T M)) → AllUtf8 ls → AllUtf8 ms → AllUtf8 (ls ++ ms)
@@ -137,7 +137,7 @@ utf8-lines {T} {M} (l ∷ ls) rest t u =
     (IsUtf8-append (text_bytes l) ((10 ∷ []) ++ (lines_bytes ls ++ rest)) t.0
     (IsUtf8-append (10 ∷ []) (lines_bytes ls ++ rest) IsUtf8-newline (utf8-lines ls rest t.1 u)))
 
-ends-append : {T M : Type 0} (ls ms : List (Line T M)) (at from : ℕ) →
+pub ends-append : {T M : Type 0} (ls ms : List (Line T M)) (at from : ℕ) →
     line_ends at from (ls ++ ms) ≡ line_ends at from ls ++ line_ends (at + length (lines_bytes ls)) (from + length (lines_slots ls)) ms
 ends-append [] ms at from =
     let e : at ≡ at + 0 = omega arith in
@@ -154,7 +154,7 @@ ends-append {T} {M} (x ∷ ls) ms at from =
     ∙ ap (λ k. line_ends end last ls ++ line_ends k (last + length (lines_slots ls)) ms) e
     ∙ ap (λ k. line_ends end last ls ++ line_ends (at + length ((text_bytes x ++ 10 ∷ []) ++ lines_bytes ls)) k ms) f)
 
-ends-moved : {T M : Type 0} (ms : List (Line T M)) (text slots at from : ℕ) →
+pub ends-moved : {T M : Type 0} (ms : List (Line T M)) (text slots at from : ℕ) →
     line_ends (text + at) (slots + from) ms ≡ map (moved text slots) (line_ends at from ms)
 ends-moved [] text slots at from = refl
 ends-moved (x ∷ ms) text slots at from =
@@ -304,7 +304,7 @@ pub record IsLineAt {T M : Type 0} (f : Fields T M) (p : LinePlace) (l : Line T 
   pub range : p.slots ≤ p.slots_end
   pub within : p.slots_end ≤ length f.slots
 
-utf8-after : {T M : Type 0} (ls ms : List (Line T M)) → AllUtf8 (ls ++ ms) → AllUtf8 ms
+pub utf8-after : {T M : Type 0} (ls ms : List (Line T M)) → AllUtf8 (ls ++ ms) → AllUtf8 ms
 utf8-after [] ms t = t
 utf8-after (l ∷ ls) ms t = utf8-after ls ms t.1
 
@@ -421,7 +421,7 @@ first-end-at ls n d h =
     let f : 0 + length (lines_slots (take n ls)) ≡ length (lines_slots (take n ls)) = omega arith in
     end-at ls n 0 0 d h ∙ rw (e, f) refl
 
-place-is : {T M : Type 0} (ls : List (Line T M)) (n : ℕ) → n < length ls → place_of (line_ends 0 0 ls) n ≡ record {
+pub place-is : {T M : Type 0} (ls : List (Line T M)) (n : ℕ) → n < length ls → place_of (line_ends 0 0 ls) n ≡ record {
   text = length (lines_bytes (take n ls));
   slots = length (lines_slots (take n ls));
   text_end = length (lines_bytes (take n ls)) + length (text_bytes (get_or ls n [])) + 1;

@@ -19,6 +19,7 @@ use std::alloc::{AllocError, Global};
 use std::marker::Model;
 
 mod append;
+mod behind;
 mod marks;
 pub mod parts;
 mod sizes;

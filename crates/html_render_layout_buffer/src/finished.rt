@@ -287,12 +287,12 @@ impl<T: Tag, M: Copy> FinishedLines<T, M> {
         ensures { IfOk result (λ b. b ≡ record { lines = self; line = [] }) }
     {
         let FinishedLines { mut pieces, last } = self;
-        if pieces.is_empty() {
+        let Some(first) = pieces.pop_first() else {
             return Ok(last);
-        }
+        };
         let bytes = pieces.byte_count().saturating_add(last.byte_count());
         let count = pieces.line_count().saturating_add(last.line_count());
-        let mut lines = LineBuffer::new(last.alloc());
+        let mut lines = first.into_buffer()?;
         lines.reserve(bytes, count)?;
         while let Some(piece) = pieces.pop_first() {
             piece.write_to(&mut lines)?;

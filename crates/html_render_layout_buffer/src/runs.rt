@@ -151,6 +151,14 @@ impl<T: Tag> TagRuns<T> {
         }
     }
 
+    /// Reports whether all tags are the same as another one.
+    #[inline]
+    pub fn has_one_tag(&self, tag: T) -> bool
+        ensures { OnTrue result (self.now ≡ replicate (length self.now) tag) }
+    {
+        self.closed.as_slice().is_empty() && is_tag(self.tag, tag)
+    }
+
     /// Returns the tag at a place, and where its run ends.
     pub fn span_at(&self, place: usize) -> TagRun<T>
         requires { place < length self.now }

@@ -9,6 +9,7 @@ ghost use Rattle.html_render_layout_buffer.specs.Lines.{no_lines};
 ghost use Rattle.html_render_layout_buffer.specs.Prefixed.{prefixed};
 ghost use Rattle.html_render_layout_buffer.specs.Moved.{moved};
 
+use super::behind::put_each_behind;
 use super::stored::{StoredLine, put_line};
 use super::{LineBuffer, clear_all, counted_sum, put_text};
 use crate::ends::{LineEnd, push_moved};
@@ -192,10 +193,29 @@ impl<T: Tag, M: Copy> LineBuffer<T, M> {
         }) }
         ensures err { OnErr result (self.new ≡ no_lines) }
     {
-        for n in from..other.line_count() {
-            self.append_line_after(prefix, other, n)?;
+        let _ = &other.text;
+        let put = put_each_behind(
+            &mut self.text,
+            &mut self.slots,
+            &mut self.ends,
+            other,
+            from,
+            prefix,
+        );
+        self.columns = Some(0);
+        match put {
+            Ok(()) => {
+                self.start = self.text.as_str().len();
+                self.slot_start = self.slots.len();
+            }
+            // Memory ran out.
+            Err(_) => {
+                clear_all(&mut self.text, &mut self.slots, &mut self.ends);
+                self.start = 0;
+                self.slot_start = 0;
+            }
         }
-        Ok(())
+        put
     }
 
     /// Reports whether another buffer's text is too long to be copied, or the memory of this buffer is large enough for it and

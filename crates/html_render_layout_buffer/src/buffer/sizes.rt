@@ -1,6 +1,6 @@
 //! Sizes of a buffer's ended lines, in bytes and in columns.
 
-ghost use Rattle.std.specs.Prelude.{◌≡◌, ℕ, ◌+◌, ◌-◌, ◌≤◌, ◌<◌, drop, length, nat_le};
+ghost use Rattle.std.specs.Prelude.{◌≡◌, ℕ, ◌+◌, ◌-◌, ◌≤◌, ◌<◌, drop, length, nat_le, IfSome, IfNone};
 ghost use Rattle.std.specs.List.{list_all};
 ghost use Rattle.html_render_layout_lines.specs.Line.{columns};
 ghost use Rattle.html_render_layout_lines.specs.TaggedText.{counted};
@@ -52,8 +52,11 @@ impl<T: Tag, M: Copy> LineBuffer<T, M> {
         requires { from ≤ length self.now.lines }
         ensures { (k : ℕ) → before ≡ counted k → result ≡ list_all (λ l. nat_le (k + columns l) width) (drop from self.now.lines) }
     {
+        let Some(room) = room_after(before, width) else {
+            return self.line_count() <= from;
+        };
         for n in from..self.line_count() {
-            if !is_within(counted_sum(before, self.line_columns(n)), width) {
+            if !is_within(self.line_columns(n), room) {
                 return false;
             }
         }
@@ -98,6 +101,15 @@ pub(crate) fn is_within(columns: Option<usize>, width: usize) -> bool
         Some(columns) => columns <= width,
         None => false,
     }
+}
+
+/// Returns how many of `width` columns are left after others. `None` if these are more; they are `None` if they pass a machine word.
+#[inline]
+fn room_after(before: Option<usize>, width: usize) -> Option<usize>
+    ensures some { (k : ℕ) → before ≡ counted k → IfSome result (λ room. k + room ≡ width) }
+    ensures none { (k : ℕ) → before ≡ counted k → IfNone result (width < k) }
+{
+    width.checked_sub(before?)
 }
 
 /// Returns how many columns a line has less than `width`. Its number is `None` if it passes a machine word.

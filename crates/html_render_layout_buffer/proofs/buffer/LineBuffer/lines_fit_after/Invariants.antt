@@ -1,8 +1,7 @@
-use Rattle.std.proofs.Common.{◌≡◌, ℕ, ◌+◌, nat_le, true, take, drop}
+use Rattle.std.proofs.Common.{◌≡◌, nat_le, true, take, drop}
 use Rattle.std.specs.List.{list_all}
 use Rattle.html_render_layout_lines.specs.Line.{columns}
-use Rattle.html_render_layout_lines.specs.TaggedText.{counted}
 use Rattle.html_render_layout_buffer.proofs.buffer.LineBuffer.lines_fit_after.Given as goal
 
 abbrev pub invariant-loop-n : goal.invariant-loop-n
-invariant-loop-n g l = (k : ℕ) → l.before ≡ counted k → list_all (λ y. nat_le (k + columns y) l.width) (drop l.from (take l.n l.self.lines)) ≡ true
+invariant-loop-n g l = list_all (λ y. nat_le (columns y) l.room) (drop l.from (take l.n l.self.lines)) ≡ true

@@ -5,7 +5,7 @@ use Rattle.html_render_layout_buffer.proofs.finished.FinishedLines.into_buffer.G
 -- the buffer's lines, and those that are left
 abbrev pub invariant-loop-piece : goal.invariant-loop-piece
 invariant-loop-piece g l = record {
-  lines : l.lines.lines ++ lines_of l.pieces ≡ lines_of l.initial.pieces;
+  lines : l.lines.lines ++ lines_of l.pieces ≡ l.initial.lines.lines ++ lines_of l.initial.pieces;
   line : l.lines.line ≡ [];
 }
 
