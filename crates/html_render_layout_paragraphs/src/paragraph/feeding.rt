@@ -32,6 +32,21 @@ struct Letters {
     columns: usize,
 }
 
+/// Words at the start of a text, each with the space before it, and the letters after them and after one byte of white space.
+#[derive(Clone, Copy)]
+struct FittingWords {
+    bytes: usize,
+    columns: usize,
+    next: Letters,
+}
+
+/// A rest of a text, and letters at its start, which needn't be looked for again.
+#[derive(Drop)]
+struct Rest<'a> {
+    text: &'a str,
+    letters: Letters,
+}
+
 impl<T: Tag, M: Copy> Paragraph<T, M> {
     /// Places the open word, if there is one, and then a character by itself.
     #[tactic(auto, using(html_render_dom_values::specs::laws::Outcome::refusals))]
@@ -192,7 +207,7 @@ impl<T: Tag, M: Copy> Paragraph<T, M> {
     /// Returns the words at the start of a text that fit on the line, each with the one space before it. White space
     /// follows each of them. The text begins with the pending space, and no word is open.
     #[inline]
-    fn fitting_words(&self, text: &str, style: TextStyle<T>) -> Letters
+    fn fitting_words(&self, text: &str, style: TextStyle<T>) -> FittingWords
         requires mode { style.mode ≡ Normal }
         requires some { 0 < length text.now }
         requires byte { slice_index text.now 0 < 128 }
@@ -204,23 +219,26 @@ impl<T: Tag, M: Copy> Paragraph<T, M> {
         ensures waiting { 0 < result.bytes → self.now.page.waiting ≡ [] }
         ensures fed { after (with_words self.now style text.now 0) (styled style (chars (drop 1 text.now)))
             ≡ after (with_words self.now style text.now result.bytes) (styled style (chars (drop (result.bytes + 1) text.now))) }
+        ensures next { AreLetters style.mode (drop (result.bytes + 1) text.now) result.next.bytes result.next.columns }
     {
         let room = self.room_behind_space();
         let mut bytes = 0;
         let mut columns: usize = 0;
-        while bytes < text.len() && text.as_bytes()[bytes] == b' ' {
-            let word = letters_in_front(&text[bytes + 1..], style.mode);
-            let end = bytes + 1 + word.bytes;
-            if word.bytes == 0
-                || word.columns >= room - columns
-                || !has_space_at(text.as_bytes(), end)
-            {
-                break;
-            }
-            bytes = end;
-            columns = columns + 1 + word.columns;
+        let mut next = letters_in_front(&text[1..], style.mode);
+        while text.as_bytes()[bytes] == b' '
+            && next.bytes > 0
+            && next.columns < room - columns
+            && has_space_at(text.as_bytes(), bytes + 1 + next.bytes)
+        {
+            bytes = bytes + 1 + next.bytes;
+            columns = columns + 1 + next.columns;
+            next = letters_in_front(&text[bytes + 1..], style.mode);
         }
-        Letters { bytes, columns }
+        FittingWords {
+            bytes,
+            columns,
+            next,
+        }
     }
 
     /// Feeds the words after the pending space that fit on the line, and the white space after them. Returns the rest
@@ -229,26 +247,31 @@ impl<T: Tag, M: Copy> Paragraph<T, M> {
         &mut self,
         text: &'a str,
         style: TextStyle<T>,
-    ) -> Result<&'a str, AllocError>
+    ) -> Result<Rest<'a>, AllocError>
         requires mode { style.mode ≡ Normal }
         requires some { 0 < length text.now }
         requires byte { slice_index text.now 0 < 128 }
         requires closed { self.old.open_word ≡ None }
         requires word { self.old.word ≡ [] }
         requires due { self.old.pending ≡ Some (character_of style (slice_index text.now 0)) }
-        ensures ok { IfOk result (λ rest. after self.old (styled style (chars (drop 1 text.now))) ≡ after self.new (styled style (chars rest.now))) }
-        ensures text { IfOk result (λ rest. IsUtf8 rest.now) }
-        ensures shorter { IfOk result (λ rest. length rest.now < length text.now) }
+        ensures ok { IfOk result (λ rest. after self.old (styled style (chars (drop 1 text.now))) ≡ after self.new (styled style (chars rest.text.now))) }
+        ensures text { IfOk result (λ rest. IsUtf8 rest.text.now) }
+        ensures letters { IfOk result (λ rest. AreLetters style.mode rest.text.now rest.letters.bytes rest.letters.columns) }
+        ensures shorter { IfOk result (λ rest. length rest.text.now < length text.now) }
     {
         let words = self.fitting_words(text, style);
         let count = words.bytes;
+        let rest = Rest {
+            text: &text[count + 1..],
+            letters: words.next,
+        };
         if count == 0 {
-            return Ok(&text[1..]);
+            return Ok(rest);
         }
         let space = char::from(text.as_bytes()[count]);
         self.push_text(&text[..count], words.columns, style)?;
         self.set_pending(character_of(space, style));
-        Ok(&text[count + 1..])
+        Ok(rest)
     }
 
     /// Feeds a word and the white space after it, and then the words after them that fit on the line. Returns the rest
@@ -258,7 +281,7 @@ impl<T: Tag, M: Copy> Paragraph<T, M> {
         text: &'a str,
         letters: Letters,
         style: TextStyle<T>,
-    ) -> Result<&'a str, Error>
+    ) -> Result<Rest<'a>, Error>
         requires mode { style.mode ≡ Normal }
         requires letters { AreLetters style.mode text.now letters.bytes letters.columns }
         requires some { 0 < letters.bytes }
@@ -267,9 +290,10 @@ impl<T: Tag, M: Copy> Paragraph<T, M> {
         requires space { kind Normal (slice_index text.now letters.bytes) ≡ Kind.Space }
         requires closed { self.old.open_word ≡ None }
         requires word { self.old.word ≡ [] }
-        ensures ok { IfOk result (λ rest. after self.old (styled style (chars text.now)) ≡ after self.new (styled style (chars rest.now))) }
-        ensures text { IfOk result (λ rest. IsUtf8 rest.now) }
-        ensures shorter { IfOk result (λ rest. length rest.now < length text.now) }
+        ensures ok { IfOk result (λ rest. after self.old (styled style (chars text.now)) ≡ after self.new (styled style (chars rest.text.now))) }
+        ensures text { IfOk result (λ rest. IsUtf8 rest.text.now) }
+        ensures letters { IfOk result (λ rest. AreLetters style.mode rest.text.now rest.letters.bytes rest.letters.columns) }
+        ensures shorter { IfOk result (λ rest. length rest.text.now < length text.now) }
         ensures err { IfErr result (λ e. Refuses e (after self.old (styled style (chars text.now)))) }
     {
         let count = letters.bytes;
@@ -278,23 +302,45 @@ impl<T: Tag, M: Copy> Paragraph<T, M> {
         Ok(self.feed_fitting_words(&text[count..], style)?)
     }
 
-    /// Feeds the letters at the start of a text. Returns the rest.
+    /// Feeds the letters at the start of a text. Returns the rest, with none of its letters.
     fn feed_letters<'a>(
         &mut self,
         text: &'a str,
         letters: Letters,
         style: TextStyle<T>,
-    ) -> Result<&'a str, Error>
+    ) -> Result<Rest<'a>, Error>
         requires letters { AreLetters style.mode text.now letters.bytes letters.columns }
         requires some { 0 < letters.bytes }
-        ensures ok { IfOk result (λ rest. after self.old (styled style (chars text.now)) ≡ after self.new (styled style (chars rest.now))) }
-        ensures text { IfOk result (λ rest. IsUtf8 rest.now) }
-        ensures shorter { IfOk result (λ rest. length rest.now < length text.now) }
+        ensures ok { IfOk result (λ rest. after self.old (styled style (chars text.now)) ≡ after self.new (styled style (chars rest.text.now))) }
+        ensures text { IfOk result (λ rest. IsUtf8 rest.text.now) }
+        ensures letters { IfOk result (λ rest. AreLetters style.mode rest.text.now rest.letters.bytes rest.letters.columns) }
+        ensures shorter { IfOk result (λ rest. length rest.text.now < length text.now) }
         ensures err { IfErr result (λ e. Refuses e (after self.old (styled style (chars text.now)))) }
     {
         let count = letters.bytes;
         self.add_letters(&text[..count], letters.columns, style)?;
-        Ok(&text[count..])
+        let text = &text[count..];
+        Ok(Rest {
+            text,
+            letters: no_letters(text, style.mode),
+        })
+    }
+
+    /// Feeds the first character of a text. Returns the rest.
+    fn feed_character<'a>(&mut self, text: &'a str, style: TextStyle<T>) -> Result<Rest<'a>, Error>
+        requires { 0 < length text.now }
+        ensures ok { IfOk result (λ rest. after self.old (styled style (chars text.now)) ≡ after self.new (styled style (chars rest.text.now))) }
+        ensures text { IfOk result (λ rest. IsUtf8 rest.text.now) }
+        ensures letters { IfOk result (λ rest. AreLetters style.mode rest.text.now rest.letters.bytes rest.letters.columns) }
+        ensures shorter { IfOk result (λ rest. length rest.text.now < length text.now) }
+        ensures err { IfErr result (λ e. Refuses e (after self.old (styled style (chars text.now)))) }
+    {
+        let (c, behind) = split_first_character(text);
+        self.add_character(c, style)?;
+        Ok(Rest {
+            text: behind,
+            letters: letters_in_front(behind, style.mode),
+        })
     }
 
     /// Feeds the start of a text, and returns the rest. The start is the first of these that the text has:
@@ -302,26 +348,26 @@ impl<T: Tag, M: Copy> Paragraph<T, M> {
     /// - while no word is open, a word and the white space after it, and then the words that fit on the line
     /// - letters
     /// - a character
-    fn feed_front<'a>(&mut self, text: &'a str, style: TextStyle<T>) -> Result<&'a str, Error>
-        requires { 0 < length text.now }
-        ensures ok { IfOk result (λ rest. after self.old (styled style (chars text.now)) ≡ after self.new (styled style (chars rest.now))) }
-        ensures text { IfOk result (λ rest. IsUtf8 rest.now) }
-        ensures shorter { IfOk result (λ rest. length rest.now < length text.now) }
-        ensures err { IfErr result (λ e. Refuses e (after self.old (styled style (chars text.now)))) }
+    fn feed_front<'a>(&mut self, front: Rest<'a>, style: TextStyle<T>) -> Result<Rest<'a>, Error>
+        requires some { 0 < length front.text.now }
+        requires letters { AreLetters style.mode front.text.now front.letters.bytes front.letters.columns }
+        ensures ok { IfOk result (λ rest. after self.old (styled style (chars front.entry.text.now)) ≡ after self.new (styled style (chars rest.text.now))) }
+        ensures text { IfOk result (λ rest. IsUtf8 rest.text.now) }
+        ensures letters { IfOk result (λ rest. AreLetters style.mode rest.text.now rest.letters.bytes rest.letters.columns) }
+        ensures shorter { IfOk result (λ rest. length rest.text.now < length front.entry.text.now) }
+        ensures err { IfErr result (λ e. Refuses e (after self.old (styled style (chars front.entry.text.now)))) }
     {
-        let letters = letters_in_front(text, style.mode);
-        if letters.bytes > 0 {
-            if style.mode == WhiteSpace::Normal
-                && has_space_at(text.as_bytes(), letters.bytes)
-                && self.is_between_words()
-            {
-                return self.feed_word(text, letters, style);
-            }
-            return self.feed_letters(text, letters, style);
+        let Rest { text, letters } = front;
+        if letters.bytes == 0 {
+            return self.feed_character(text, style);
         }
-        let (c, rest) = split_first_character(text);
-        self.add_character(c, style)?;
-        Ok(rest)
+        if style.mode == WhiteSpace::Normal
+            && has_space_at(text.as_bytes(), letters.bytes)
+            && self.is_between_words()
+        {
+            return self.feed_word(text, letters, style);
+        }
+        self.feed_letters(text, letters, style)
     }
 
     /// Feeds the characters of a text.
@@ -329,8 +375,11 @@ impl<T: Tag, M: Copy> Paragraph<T, M> {
         ensures ok { OnOk result (after self.old (styled style (chars text.now)) ≡ Some self.new) }
         ensures err { IfErr result (λ e. Refuses e (after self.old (styled style (chars text.now)))) }
     {
-        let mut rest = text;
-        while !rest.is_empty() {
+        let mut rest = Rest {
+            text,
+            letters: letters_in_front(text, style.mode),
+        };
+        while !rest.text.is_empty() {
             rest = self.feed_front(rest, style)?;
         }
         Ok(())
@@ -386,6 +435,19 @@ pub(super) fn plain_in_front(text: &[u8]) -> usize
     count
 }
 
+/// Returns none of the letters at the start of a text.
+#[inline]
+fn no_letters(text: &str, mode: WhiteSpace) -> Letters
+    ensures { AreLetters mode text.now result.bytes result.columns }
+{
+    let _ = text;
+    let _ = mode;
+    Letters {
+        bytes: 0,
+        columns: 0,
+    }
+}
+
 /// Returns the printable ASCII characters, the space excluded, at the start of a text. Returns none under `Pre`, where
 /// no character is a letter.
 #[inline]
@@ -399,10 +461,7 @@ fn plain_letters(text: &str, mode: WhiteSpace) -> Letters
             columns: count,
         }
     } else {
-        Letters {
-            bytes: 0,
-            columns: 0,
-        }
+        no_letters(text, mode)
     }
 }
 
@@ -418,10 +477,7 @@ fn first_letter(text: &str, mode: WhiteSpace) -> Letters
             bytes: text.len() - rest.len(),
             columns: class.width,
         },
-        _ => Letters {
-            bytes: 0,
-            columns: 0,
-        },
+        _ => no_letters(text, mode),
     }
 }
 

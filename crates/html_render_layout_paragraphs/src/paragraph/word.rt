@@ -245,6 +245,7 @@ impl<T: Tag, M: Copy> Paragraph<T, M> {
     }
 
     /// Places the open word, after the pending space or on a continuation line.
+    #[inline(never)]
     #[tactic(auto, using(html_render_dom_values::specs::laws::Outcome::refusals))]
     fn place_word(&mut self) -> Result<(), Error>
         ensures ok { OnOk result (placed_word self.old ≡ Some self.new) }
@@ -254,7 +255,8 @@ impl<T: Tag, M: Copy> Paragraph<T, M> {
         self.put_word()
     }
 
-    /// Places the open word, if there is one.
+    /// Places the open word, if there is one. Most calls find none.
+    #[inline(always)]
     pub(super) fn end_word(&mut self) -> Result<(), Error>
         ensures ok { OnOk result (end_word self.old ≡ Some self.new) }
         ensures err { IfErr result (λ e. Refuses e (end_word self.old)) }

@@ -8,5 +8,5 @@ use Rattle.html_render_layout_paragraphs.proofs.paragraph.Paragraph.feed.Goals a
 
 pub returns-clause-ok : goal.returns-clause-ok
 returns-clause-ok g c =
-    let none : length c.loop-rest.rest.now ≡ 0 = eqb-true _ 0 (sym c.is_empty.ensures ∙ c.loop-rest-test.false) in
-    c.loop-rest.invariant.0 ∙ ap (λ cs. after c.loop-rest.self (styled c.args.style cs)) (ap chars (nil_from_length _ none) ∙ chars-nil)
+    let none : length c.loop-rest.rest.text.now ≡ 0 = eqb-true _ 0 (sym c.is_empty.ensures ∙ c.loop-rest-test.false) in
+    c.loop-rest.invariant.fed ∙ ap (λ cs. after c.loop-rest.self (styled c.args.style cs)) (ap chars (nil_from_length _ none) ∙ chars-nil)

@@ -7,10 +7,7 @@ use Rattle.html_render_layout_paragraphs.proofs.SpacedWords.{no-words, put-words
 use Rattle.html_render_layout_paragraphs.proofs.paragraph.Paragraph.feed_fitting_words.Goals as goal
 
 pub range_from-requires : goal.range_from-requires
-range_from-requires g c = λ _. IsCharBoundary-after_ascii c.args.text.now 0 c.utf8.text c.requires.some c.requires.byte
-
-pub range_from-requires-2 : goal.range_from-requires-2
-range_from-requires-2 g c =
+range_from-requires g c =
     let words = c.fitting_words-words in
     λ _. IsCharBoundary-after_ascii c.args.text.now words.result.bytes c.utf8.text words.ensures.within words.ensures.byte
 
@@ -25,5 +22,5 @@ returns-clause-ok g c =
     let put = rw words at c.in_ok-push_text.ensures in
     let new : c.set_pending.new.self ≡ with_words c.args.self.now c.args.style text n =
     c.set_pending.ensures ∙ rw (put, c.character_of.ensures, space) (put-words c.args.self.now c.args.style text n none) in
-    rw (new, c.range_from-2.ensures.value) (ap (λ t. after t (styled c.args.style (chars (drop 1 text))))
+    rw (new, c.range_from.ensures.value) (ap (λ t. after t (styled c.args.style (chars (drop 1 text))))
     (sym (no-words c.args.self.now c.args.style text c.requires.due)) ∙ c.fitting_words-words.ensures.fed)

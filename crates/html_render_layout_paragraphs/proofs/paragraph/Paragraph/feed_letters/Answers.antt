@@ -12,7 +12,7 @@ returns-clause-ok g c =
     let n = c.args.letters.bytes in
     let front = after-front c.args.self.now c.args.style text c.range.result.now n c.args.letters.columns c.utf8.text c.requires.letters c.requires.some
     c.range.ensures.value in
-    rw c.range_from.ensures.value (front ∙ ap (option_and_then (λ t. after t (styled c.args.style (chars (drop n text))))) c.in_ok-add_letters.ensures.ok)
+    rw c.range_from-text.ensures.value (front ∙ ap (option_and_then (λ t. after t (styled c.args.style (chars (drop n text))))) c.in_ok-add_letters.ensures.ok)
 
 pub returns-in_err-add_letters-clause-err : goal.returns-in_err-add_letters-clause-err
 returns-in_err-add_letters-clause-err g c =

@@ -1,5 +1,5 @@
 use Rattle.std.proofs.Common.{sym, ◌∙◌}
-use Rattle.html_render_layout_paragraphs.proofs.Letters.{no-letters, first-letter}
+use Rattle.html_render_layout_paragraphs.proofs.Letters.{first-letter}
 use Rattle.html_render_layout_paragraphs.proofs.paragraph.feeding.first_letter.Goals as goal
 
 pub returns-in-Letter : goal.returns-in-Letter
@@ -8,6 +8,3 @@ returns-in-Letter c =
     c.class_of-class.result.width
     c.utf8.text c.split_first_character-c.ensures.text c.split_first_character-c.ensures.bytes
     (sym c.class_of-class.ensures.kind ∙ c.in-Letter.is) c.class_of-class.ensures.width
-
-pub returns-in_default : goal.returns-in_default
-returns-in_default c = no-letters c.args.mode c.args.text.now c.utf8.text

@@ -1,5 +1,5 @@
 use Rattle.std.proofs.Common.{sym, ◌∙◌}
-use Rattle.html_render_layout_paragraphs.proofs.Letters.{no-letters, plain-letters}
+use Rattle.html_render_layout_paragraphs.proofs.Letters.{plain-letters}
 use Rattle.html_render_layout_paragraphs.proofs.paragraph.feeding.plain_letters.Goals as goal
 
 pub returns-then-do_wrap : goal.returns-then-do_wrap
@@ -8,6 +8,3 @@ returns-then-do_wrap c =
     let within = rw c.as_bytes.ensures.value at c.plain_in_front-count.ensures.within in
     plain-letters c.args.mode c.args.text.now c.plain_in_front-count.result (sym c.do_wrap.ensures
     ∙ c.if-do_wrap.true) c.utf8.text plain within
-
-pub returns-else-do_wrap : goal.returns-else-do_wrap
-returns-else-do_wrap c = no-letters c.args.mode c.args.text.now c.utf8.text
