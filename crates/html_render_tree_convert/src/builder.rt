@@ -1,10 +1,12 @@
 //! Trees that are written in pre-order, from the first node to the last.
 
-ghost use Rattle.std.specs.Prelude.{◌≡◌, [], ◌∷◌, ◌++◌, ◌+◌, IfOk, List, OnOk, take, drop, length, map};
+ghost use Rattle.std.specs.Prelude.{◌≡◌, [], ◌∷◌, ◌++◌, ◌+◌, IfOk, List, OnOk, take, drop, length, map, ◌<◌};
+ghost use Rattle.html_render_layout_nodes.specs.RenderNodes.{without_style};
 ghost use Rattle.html_render_layout_nodes.specs.declared.tree.Entry.{Entry};
 ghost use Rattle.html_render_layout_nodes.specs.declared.tree.RenderNode.{RenderNode};
 ghost use Rattle.html_render_tree_convert.specs.Held.{leaf, sized, with_kind};
 
+use html_render_layout_nodes::text::NodeText;
 use html_render_layout_nodes::tree::{Entry, NodeKind, RenderNode};
 use std::alloc::{AllocError, Global};
 
@@ -22,6 +24,29 @@ pub fn put(node: RenderNode, tree: &mut Tree) -> Result<(), AllocError>
         subtree_len: 1,
     });
     Ok(())
+}
+
+/// Appends a text, copied.
+#[inline(always)]
+pub fn put_text(contents: &NodeText, tree: &mut Tree) -> Result<(), AllocError>
+    ensures { OnOk result (tree.new.items ≡ tree.old.items ++ leaf (without_style (NodeKind.Text contents.now)) ∷ []) }
+{
+    tree.reserve(1)?;
+    let text = contents.clone()?;
+    tree.push_reserved(Entry {
+        node: RenderNode::from(NodeKind::Text(text)),
+        subtree_len: 1,
+    });
+    Ok(())
+}
+
+/// Returns the kind of the last node.
+#[inline(always)]
+pub fn last_kind(tree: &Tree) -> &NodeKind
+    requires { 0 < length tree.now.items }
+    ensures { (entries : List (Entry RenderNode)) (e : Entry RenderNode) → tree.now.items ≡ entries ++ e ∷ [] → result.now ≡ e.node.kind }
+{
+    &tree[tree.len() - 1].node.kind
 }
 
 /// Writes the size of the subtree of the node at `start`, to which all entries from there on belong.

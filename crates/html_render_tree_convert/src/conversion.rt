@@ -8,7 +8,7 @@ ghost use Rattle.html_render_tree_convert.specs.Held.{leaf};
 ghost use Rattle.html_render_tree_convert.specs.OpenElements.{root};
 ghost use Rattle.html_render_tree_convert.specs.Steps.{all_written, begun_with, closed_leaf, come, put};
 
-use crate::builder::{Tree, put};
+use crate::builder::{Tree, last_kind, put, put_text};
 use crate::due::{Due, DueParts};
 use crate::elements::{Open, OpenKind};
 use crate::mapping::IfEmpty;
@@ -34,6 +34,24 @@ fn put_in(node: RenderNode, parent: &mut Open, tree: &mut Tree) -> Result<(), Er
 {
     if parent.receive_contents(&node.kind, false, false) {
         put(node, tree)?;
+    }
+    Ok(())
+}
+
+/// Writes a copy of a text in an open element. The copy is made where it is to stay, and removed if the element doesn't keep it.
+///
+/// # Errors
+///
+/// `OutOfMemory` if an allocation is refused.
+#[inline(always)]
+fn put_text_in(contents: &NodeText, parent: &mut Open, tree: &mut Tree) -> Result<(), Error>
+    ensures ok { OnOk result (record { element = parent.new; tree = tree.new.items }
+        ≡ come (Some (closed_leaf (without_style (NodeKind.Text contents.now)))) (record { element = parent.old; tree = tree.old.items })) }
+    ensures err { OnlyOutOfMemory result }
+{
+    put_text(contents, tree)?;
+    if !parent.receive_contents(last_kind(tree), false, false) {
+        drop(tree.pop());
     }
     Ok(())
 }
@@ -104,8 +122,7 @@ impl Conversion {
         ensures ok { OnOk result (self.new ≡ put (without_style (NodeKind.Text contents.now)) self.old) }
         ensures err { OnlyOutOfMemory result }
     {
-        let text = contents.clone()?;
-        self.put(RenderNode::from(NodeKind::Text(text)))
+        put_text_in(contents, &mut self.innermost, &mut self.tree)
     }
 
     /// Opens an element with a node of its own.
