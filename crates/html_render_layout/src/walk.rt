@@ -242,8 +242,8 @@ fn padding<T: Tag>(settings: &LayoutSettings, tag: T) -> Option<T>
 /// Number of bytes of text for which memory is reserved for each node of a tree: those of a short line and part of its borders.
 const NODE_BYTES: usize = 64;
 
-/// Maximum number of nodes for whose lines memory is reserved where no node of a table is among them. More memory grows by
-/// moving pages.
+/// Maximum number of nodes for whose lines memory is reserved in a document without a table. Its open nodes, of which a deep
+/// document has many, need the memory too.
 const NODES_MAX: usize = 32_768;
 
 /// Returns the number of nodes for whose lines memory is reserved: at most [`NODES_MAX`], and all if a measured tree has a
