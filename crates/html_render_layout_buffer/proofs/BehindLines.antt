@@ -1,10 +1,13 @@
--- Lines behind a prefix, in the fields of a buffer.
-use Rattle.std.proofs.Common.{◌≡◌, ℕ, ◌+◌, ◌*◌, ◌≤◌, ◌<◌, Option, Some, List, [], ◌∷◌, ◌++◌, map, take, drop, length, get_or, refl, sym, ap, ◌∙◌, subst, arith, append_assoc, append-nil, length-append}
-use Rattle.std.specs.Prelude.{replicate}
+-- Lines after a prefix, in the fields of a buffer.
+use Rattle.std.proofs.Common.{◌≡◌, ℕ, ◌+◌, ◌*◌, ◌≤◌, ◌<◌, Option, Some, List, [], ◌∷◌, ◌++◌, map, take, drop, length, get_or, refl, sym, ap, ◌∙◌, subst, arith, append_assoc, append-nil, length-append, zero, suc, Bool, true, false}
+use Rattle.std.specs.Prelude.{replicate, encode_utf8}
 use Rattle.std.specs.Str.{chars, IsUtf8}
 use Rattle.std.proofs.Math.Nat.{suc-mul}
 use Rattle.std.proofs.lemmas.List.{map-append, length-replicate, length-take-le, take-append-drop, drop-append-le, replicate-append-replicate}
-use Rattle.std.proofs.lemmas.Str.{IsUtf8-append, IsUtf8-nil}
+use Rattle.std.proofs.lemmas.Bool.{false≢true}
+use Rattle.std.proofs.lemmas.List.Elements.{All-nil, All-cons}
+use Rattle.std.proofs.lemmas.Str.{IsUtf8-append, IsUtf8-nil, IsUtf8-past_char, chars_past_char, chars-nil, length-encode, len_utf8_bounds}
+use Rattle.html_render_layout_lines.specs.declared.line.Element.TheVariants as element
 use Rattle.html_render_layout_lines.specs.Line.{Line, columns, text_bytes}
 use Rattle.html_render_layout_lines.specs.TaggedText.{counted, under, text_columns}
 use Rattle.html_render_layout_lines.specs.laws.Columns.{columns-append, columns-under}
@@ -12,13 +15,13 @@ use Rattle.html_render_layout_buffer.specs.declared.slot.Slot.{Slot}
 use Rattle.html_render_layout_buffer.specs.declared.slot.Slot.TheVariants as slot
 use Rattle.html_render_layout_buffer.specs.declared.ends.LineEnd.{LineEnd}
 use Rattle.html_render_layout_buffer.specs.declared.ends.LinePlace.{LinePlace}
-use Rattle.html_render_layout_buffer.specs.Lines.{lines_bytes}
+use Rattle.html_render_layout_buffer.specs.Lines.{lines_bytes, ArePlain}
 use Rattle.html_render_layout_buffer.specs.Moved.{moved}
 use Rattle.html_render_layout_buffer.specs.Fields.{line_slots, lines_slots, line_ends, AllUtf8, Fields, IsStored, place_of}
 use Rattle.html_render_layout_buffer.proofs.Growing.{part-more}
 use Rattle.html_render_layout_buffer.proofs.Stored.{bytes-append, slots-append, bytes-under, slots-under, lines_bytes-append, lines_slots-append, ends-append, ends-moved, appended, utf8-after, place-is}
 
--- the lines from a place on, each behind a prefix
+-- lines, each after a prefix
 abbrev pub behind : {T M : Type 0} → T → List ℕ → List (Line T M) → List (Line T M)
 behind {T} {M} tag text ls = map (λ (l : Line T M). under tag (chars text) ++ l) ls
 
@@ -71,7 +74,7 @@ pub record AreEnds {T M : Type 0} (old es : List LineEnd) (at slot_at end slot_e
   pub text : end ≡ at + length (lines_bytes ls)
   pub slots : slot_end ≡ slot_at + length (lines_slots ls)
 
--- a line that is put behind others has so many bytes and slots more
+-- the bytes and slots that one more line adds
 pub record IsMore {T M : Type 0} (tag : T) (text : List ℕ) (ls : List (Line T M)) (from n : ℕ) : Type 0 where
   pub bytes : length (lines_bytes (behind tag text (drop from (take (n + 1) ls))))
       ≡ length (lines_bytes (behind tag text (drop from (take n ls)))) + (length text + (length (text_bytes (get_or ls n [])) + 1))
@@ -167,7 +170,7 @@ ends-more {T} {M} tag text old es fs at slot_at t0 s0 t1 s1 count ls from n utf8
       slots = omega (arith, g, are.slots, more.slots);
     }
 
--- so many slots have lines behind a prefix
+-- the number of slots of lines after a prefix
 pub count-behind : {T M : Type 0} (tag : T) (text : List ℕ) (ls : List (Line T M)) → IsUtf8 text →
     length (lines_slots (behind tag text ls)) ≡ length ls * length text + length (lines_slots ls)
 count-behind tag text [] utf8 = omega arith
@@ -246,7 +249,7 @@ all-one {T} {M} f ls l tag text from is utf8 e =
     same-right one (lines_slots (take from ls)) (lines_slots (drop from ls)) (subst (λ (y : List (Slot T M)). y ≡ replicate (length y) one) parts ended) in
     same-behind tag text (drop from ls) utf8 later
 
--- ---- lines behind a prefix at the end of others
+-- ---- lines after a prefix, appended to others
 
 utf8-behind : {T M : Type 0} (tag : T) (text : List ℕ) (ls : List (Line T M)) → IsUtf8 text → AllUtf8 ls → AllUtf8 (behind tag text ls)
 utf8-behind tag text [] utf8 t = tt
@@ -290,3 +293,53 @@ behind-stored {T} {M} f g ls ms m tag text from bs ss es start slot_start is oth
     rw (k, ends, e, h)
     (appended f _ ls xs [] start slot_start is own (omega (arith, p, ap length e, length-append f.text (lines_bytes xs)))
     (omega (arith, q, ap length h, length-append f.slots (lines_slots xs))))
+
+-- ---- lines under one tag
+
+replicate-same : {X : Type 0} (x y : X) (n m : ℕ) → 0 < n → replicate n x ≡ replicate m y → x ≡ y
+replicate-same x y zero m h e = absurd (omega arith)
+replicate-same {X} x y (suc n) zero h e = absurd (omega (arith, ap length e))
+replicate-same {X} x y (suc n) (suc m) h e = ap (λ (zs : List X). get_or zs 0 x) e
+
+-- a line whose slots have one tag is its text under that tag
+plain-line : {T M : Type 0} (tag : T) (l : Line T M) → IsUtf8 (text_bytes l) → line_slots l ≡ replicate (length (line_slots l)) (slot.Byte tag) →
+    l ≡ under tag (chars (text_bytes l))
+plain-line tag [] utf8 e = ap (under tag) (sym chars-nil)
+plain-line {T} {M} tag (element.Mark m ∷ l) utf8 e = absurd (false≢true (ap is_byte here))
+  where
+    is_byte : Slot T M → Bool
+    is_byte (slot.Byte t) = true
+    is_byte (slot.Mark n) = false
+
+    here : slot.Mark m ≡ slot.Byte tag
+    here = ap (λ (zs : List (Slot T M)). get_or zs 0 (slot.Mark m)) e
+plain-line {T} {M} tag (element.Character c own ∷ l) utf8 e =
+    let n : ℕ = length (encode_utf8 c) in
+    let one : Slot T M = slot.Byte tag in
+    let mine : List (Slot T M) = replicate n (slot.Byte own) in
+    let first : mine ≡ replicate (length mine) one = same-left one mine (line_slots l) e in
+    let some : 0 < n = omega (arith, length-encode c, (len_utf8_bounds c).0) in
+    let same : own ≡ tag = ap tag_of (replicate-same (slot.Byte own) one n (length mine) some first) in
+    let whole : List ℕ = encode_utf8 c ++ text_bytes l in
+    let rest = plain-line tag l (IsUtf8-past_char whole (text_bytes l) c utf8 refl) (same-right one mine (line_slots l) e) in
+    ap (λ t. element.Character c t ∷ l) same ∙ ap (λ (y : Line T M). element.Character c tag ∷ y) rest
+    ∙ ap (λ cs. under {M = M} tag cs) (sym (chars_past_char whole (text_bytes l) c utf8 refl))
+  where
+    tag_of : Slot T M → T
+    tag_of (slot.Byte t) = t
+    tag_of (slot.Mark m) = tag
+
+plain-lines : {T M : Type 0} (tag : T) (ls : List (Line T M)) → AllUtf8 ls → lines_slots ls ≡ replicate (length (lines_slots ls)) (slot.Byte tag) → ArePlain tag ls
+plain-lines {T} {M} tag [] utf8 e = All-nil (λ (l : Line T M). l ≡ under tag (chars (text_bytes l)))
+plain-lines {T} {M} tag (l ∷ ls) utf8 e =
+    let one : Slot T M = slot.Byte tag in
+    All-cons (λ (m : Line T M). m ≡ under tag (chars (text_bytes m))) l ls (plain-line tag l utf8.0 (same-left one (line_slots l) (lines_slots ls) e))
+    (plain-lines tag ls utf8.1 (same-right one (line_slots l) (lines_slots ls) e))
+
+pub all-plain : {T M : Type 0} (f : Fields T M) (ls : List (Line T M)) (l : Line T M) (tag : T) → IsStored f ls l →
+    f.slots ≡ replicate (length f.slots) (slot.Byte tag) → ArePlain tag ls
+all-plain {T} {M} f ls l tag is e =
+    let one : Slot T M = slot.Byte tag in
+    let whole : lines_slots ls ++ line_slots l ≡ replicate (length (lines_slots ls ++ line_slots l)) one =
+    subst (λ (y : List (Slot T M)). y ≡ replicate (length y) one) is.slots e in
+    plain-lines tag ls is.ended_utf8 (same-left one (lines_slots ls) (line_slots l) whole)

@@ -1,7 +1,9 @@
 -- Ended lines and an open one.
-use Rattle.std.specs.Prelude.{ℕ, List, [], ◌∷◌, ◌++◌}
+use Rattle.std.specs.Prelude.{◌≡◌, ℕ, List, [], ◌∷◌, ◌++◌, All}
+use Rattle.std.specs.Str.{chars}
 use Rattle.std.specs.List.{flat_map}
 use Rattle.html_render_layout_lines.specs.Line.{Line, text_bytes}
+use Rattle.html_render_layout_lines.specs.TaggedText.{under}
 use Rattle.html_render_layout_buffer.specs.Padding.{repeated}
 
 -- ended lines, and the open line
@@ -20,6 +22,10 @@ lines_bytes {T} {M} ls = flat_map (λ (l : Line T M). text_bytes l ++ 10 ∷ [])
 -- the bytes of ended lines, with a newline at the end of each, and then those of the open line
 abbrev pub all_bytes : {T M : Type 0} → BufferedLines T M → List ℕ
 all_bytes b = lines_bytes b.lines ++ text_bytes b.line
+
+-- each line is a text under this tag
+abbrev pub ArePlain : {T M : Type 0} → T → List (Line T M) → Type 0
+ArePlain {T} {M} tag ls = All (λ (l : Line T M). l ≡ under tag (chars (text_bytes l))) ls
 
 -- so many spaces at the end of the open line
 abbrev pub with_spaces : {T M : Type 0} → BufferedLines T M → T → ℕ → BufferedLines T M

@@ -7,7 +7,7 @@ ghost use Rattle.std.specs.String.{string_bytes};
 ghost use Rattle.html_render_layout_lines.specs.Character.{width_of};
 ghost use Rattle.html_render_layout_lines.specs.Line.{columns, text_bytes, marks_line};
 ghost use Rattle.html_render_layout_lines.specs.TaggedText.{counted, text_columns, under};
-ghost use Rattle.html_render_layout_buffer.specs.Lines.{no_lines, all_bytes};
+ghost use Rattle.html_render_layout_buffer.specs.Lines.{no_lines, all_bytes, ArePlain};
 
 use crate::ends::LineEnd;
 use crate::runs::TagRuns;
@@ -307,6 +307,14 @@ impl<T: Tag, M: Copy> LineBuffer<T, M> {
                 Err(e)
             }
         }
+    }
+
+    /// Reports whether all characters have this tag, and there are no marks. Lines without either aren't looked into.
+    #[inline]
+    pub fn is_plain(&self, tag: T) -> bool
+        ensures { OnTrue result (ArePlain tag self.now.lines) }
+    {
+        self.slots.has_one_tag(Slot::Byte(tag))
     }
 
     /// Returns the text of the open line.

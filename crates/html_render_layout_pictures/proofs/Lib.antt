@@ -4,3 +4,4 @@ pub mod LawSets
 pub mod OnlyCell
 pub mod RowLines
 pub mod Separators
+pub mod PlainLines

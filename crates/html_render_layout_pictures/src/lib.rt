@@ -8,4 +8,5 @@ pub mod cells;
 pub mod gaps;
 mod laws;
 pub mod picture;
+mod plain;
 mod row;

@@ -19,6 +19,7 @@ use crate::blank::{Blank, add_blank_cell, first_blank_cell};
 use crate::cells::{RowCell, RowCells};
 use crate::gaps::{CHUNK, Filler, gap, push_fillers};
 use crate::picture::Frame;
+use crate::plain::has_no_marks;
 use html_render_layout_buffer::buffer::{LineBuffer, columns_missing};
 use html_render_layout_lines::tag::Tag;
 use std::alloc::{AllocError, Global};
@@ -28,18 +29,18 @@ const LOW: usize = 8;
 
 /// A line of a row.
 #[derive(Drop)]
-struct RowLine<'a, T, M> {
+pub(crate) struct RowLine<'a, T, M> {
     /// Lines of all cells.
-    lines: &'a LineBuffer<T, M>,
+    pub(crate) lines: &'a LineBuffer<T, M>,
     /// Number of the line, from 0.
-    number: usize,
+    pub(crate) number: usize,
     ghost few: { length lines.now.lines < 2 ^ 64 },
 }
 
 impl<'a, T: Tag, M: Copy> RowLine<'a, T, M> {
     /// Returns the line of a number.
     #[inline]
-    fn new(lines: &'a LineBuffer<T, M>, number: usize) -> RowLine<'a, T, M>
+    pub(crate) fn new(lines: &'a LineBuffer<T, M>, number: usize) -> RowLine<'a, T, M>
         ensures lines { result.lines.now ≡ lines.now }
         ensures number { result.number ≡ number }
     {
@@ -319,8 +320,11 @@ impl<T: Tag> Frame<T> {
         let height = height(cells);
         match cells {
             [first, others @ ..] if height > LOW => {
-                let text = self.blank_text(alloc, first, others)?;
-                self.put_high_lines(to, (first, others), lines, text.as_str(), height)
+                let blank = self.blank_text(alloc, first, others)?;
+                self.put_high_lines(to, (first, others), lines, blank.as_str(), height)
+            }
+            _ if lines.is_plain(self.tag) && has_no_marks(cells) => {
+                self.put_plain_lines(alloc, to, cells, lines, height)
             }
             _ => self.put_low_lines(to, cells, lines, height),
         }

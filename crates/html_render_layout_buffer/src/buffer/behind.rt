@@ -1,4 +1,4 @@
-//! Copies of ended lines behind a prefix: all texts, then all ends, then all slots. So little is done for each line.
+//! Copies of ended lines, each after a prefix: first all texts, then all slots, then all ends. So little is done for each line.
 
 ghost use Rattle.std.specs.Prelude.{◌≡◌, ◌+◌, ◌-◌, ◌*◌, ◌^◌, ◌≤◌, ◌<◌, ◌++◌, length, map, drop, OnOk, IfOk};
 ghost use Rattle.std.specs.Str.{chars, IsUtf8};
@@ -15,7 +15,7 @@ use crate::slot::Slot;
 use html_render_layout_lines::tag::Tag;
 use std::alloc::AllocError;
 
-/// Appends a buffer's ended lines from line `from` on, each behind a prefix.
+/// Appends a buffer's ended lines from line `from` on, each after a prefix.
 pub(super) fn put_each_behind<T: Tag, M: Copy>(
     text: &mut String,
     slots: &mut TagRuns<Slot<T, M>>,

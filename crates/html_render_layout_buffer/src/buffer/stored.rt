@@ -58,6 +58,15 @@ impl<T: Tag, M: Copy> LineBuffer<T, M> {
         }
     }
 
+    /// Returns the text of ended line `n`.
+    #[inline(always)]
+    pub fn line_text(&self, n: usize) -> &str
+        requires { n < length self.now.lines }
+        ensures { result.now ≡ text_bytes (slice_index_or self.now.lines n []) }
+    {
+        self.stored_line(n).text
+    }
+
     /// Returns the columns of ended line `n`. `None` if they pass a machine word.
     #[inline]
     pub fn line_columns(&self, n: usize) -> Option<usize>
