@@ -18,6 +18,7 @@ use html_render_dom_values::Error;
 use html_render_dom_values::small_text::SmallText;
 use html_render_layout_buffer::finished::FinishedLines;
 use html_render_layout_buffer::prefix::Prefix;
+use html_render_layout_lines::character::TextStyle;
 use html_render_layout_lines::tag::Tag;
 use std::alloc::{AllocError, Global};
 use std::marker::Model;
@@ -288,6 +289,29 @@ impl<T: Tag, M: Copy> CurrentBlock<T, M> {
         ensures err { IfErr result (λ e. Refuses e (machine.operations.add_cell self.old cell)) }
     {
         let mut inner = cell.held;
+        self.held.block.add_cell(&mut inner.block)?;
+        self.keep(inner)?;
+        Ok(())
+    }
+
+    /// Adds a block as the next cell after a text is added to it, and returns it to the pool.
+    ///
+    /// # Errors
+    ///
+    /// As for [`Block::add_inline_text`] and [`Block::add_cell`].
+    #[tactic(auto, using(html_render_dom_values::specs::laws::Outcome::refusals))]
+    pub fn add_text_cell(
+        &mut self,
+        cell: BoxedBlock<T, M>,
+        text: &str,
+        style: TextStyle<T>,
+    ) -> Result<(), Error>
+        ensures ok { OnOk result (option_and_then (λ c. machine.operations.add_cell self.old c) (machine.operations.add_inline_text cell style (chars text.now)) ≡ Some self.new) }
+        ensures err { IfErr result (λ e. Refuses e
+            (option_and_then (λ c. machine.operations.add_cell self.old c) (machine.operations.add_inline_text cell style (chars text.now)))) }
+    {
+        let mut inner = cell.held;
+        inner.block.add_inline_text(text, style)?;
         self.held.block.add_cell(&mut inner.block)?;
         self.keep(inner)?;
         Ok(())
