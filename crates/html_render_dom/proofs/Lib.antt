@@ -9,3 +9,4 @@ pub mod Outcomes
 pub mod RuleIndex
 pub mod Words
 pub mod Nearby
+pub mod FirstBytes

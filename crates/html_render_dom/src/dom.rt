@@ -13,7 +13,7 @@ mod settings;
 
 pub use documents::RcDom;
 pub use html_render_dom_nodes::{
-    Attribute, Attributes, DoctypeParts, ElementFlags, Handle, LocalName, Namespace, NodeData,
-    NodeOrText, OptionalHandle, QualName, TextContents,
+    Attribute, AttributeValue, Attributes, DoctypeParts, ElementFlags, Handle, LocalName,
+    Namespace, NodeData, NodeOrText, OptionalHandle, QualName, TextContents,
 };
 pub use settings::QuirksMode;

@@ -46,7 +46,7 @@ abbrev pub name_of : QualName → Name
 name_of n = record { space = space_of n.ns; local = n.local }
 
 abbrev pub property_of : Attribute → Property
-property_of a = record { name = name_of a.name; value = string_bytes a.value }
+property_of a = record { name = name_of a.name; value = a.value }
 
 abbrev pub content_of : NodeData → Content
 content_of Document = document

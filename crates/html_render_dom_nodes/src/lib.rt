@@ -16,4 +16,4 @@ pub use contents::{DoctypeParts, NodeData, NodeOrText, TextContents};
 pub use flags::ElementFlags;
 pub use handles::{Handle, OptionalHandle};
 pub use local_name::LocalName;
-pub use names::{Attribute, Namespace, QualName, is_same_name};
+pub use names::{Attribute, AttributeValue, Namespace, QualName, is_same_name};

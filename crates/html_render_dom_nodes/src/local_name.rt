@@ -19,10 +19,10 @@ const INLINE_MAX: usize = 14;
 /// In contracts, a name is its bytes.
 #[derive(Drop)]
 struct InlineName {
-    /// The name in UTF-8, and then bytes of any value.
-    bytes: [u8; INLINE_MAX],
     /// Length of the name in bytes.
     len: u8,
+    /// The name in UTF-8, and then bytes of any value.
+    bytes: [u8; INLINE_MAX],
 }
 
 impl Model for InlineName {

@@ -4,13 +4,14 @@ ghost use Rattle.std.specs.Cmp.{on_equiv, partial_equiv_from_equiv};
 ghost use Rattle.html_render_dom_nodes.specs.Content.{name_of, property_of, space_of};
 ghost use Rattle.html_render_dom_nodes.specs.Names.{name_eq, property_eq, space_eq};
 ghost use Rattle.html_render_dom_nodes.specs.laws.Names.{name_eq_equiv, property_eq_equiv, space_eq_equiv};
-ghost use Rattle.std.specs.Prelude.{◌≡◌, map, string_bytes};
+ghost use Rattle.std.specs.Prelude.{◌≡◌, map};
 ghost use Rattle.std.specs.List.{slice_index_or};
 ghost use Rattle.std.specs.Str.{bytes_eq};
 ghost use Rattle.html_render_dom_nodes.specs.Elements.{has_name};
 ghost use Rattle.html_render_dom_nodes.specs.Content as content;
 
 use crate::local_name::LocalName;
+use html_render_dom_values::small_text::SmallText;
 use std::mem::size_of;
 
 /// The namespace of a name.
@@ -37,18 +38,21 @@ pub struct QualName {
     pub local: LocalName,
 }
 
+/// Value of an attribute. Up to 30 bytes need no allocation.
+pub type AttributeValue = SmallText<30>;
+
 /// An attribute of an element.
 #[derive(Debug, Drop)]
 pub struct Attribute {
     /// Name of the attribute.
     pub name: QualName,
     /// Value of the attribute.
-    pub value: String,
+    pub value: AttributeValue,
 }
 
 const _: () = prove!(size_of::<QualName>() == 32);
 
-const _: () = prove!(size_of::<Attribute>() == 56);
+const _: () = prove!(size_of::<Attribute>() == 64);
 
 impl QualName {
     /// Creates a name in the HTML namespace.

@@ -2,14 +2,14 @@
 
 ghost use Rattle.std.specs.Prelude.{◌≡◌, ◌+◌, ◌^◌, ◌<◌, ◌≤◌, ◌++◌, ◌∷◌, [], None, Some, false, OnOk, OnErr, vec_len, vec_capacity, map, string_bytes};
 ghost use Rattle.std.specs.Option.{ForSome};
-ghost use Rattle.html_render_dom_nodes.specs.Content.{content_of, element, name_of, property_of};
+ghost use Rattle.html_render_dom_nodes.specs.Content.{content_of, element, name_of, property_of, text};
 ghost use Rattle.html_render_dom_nodes.specs.Elements.{completed};
 ghost use Rattle.html_render_dom_nodes.specs.Nodes.{lone, node_in, node_of, nodes_of};
 ghost use Rattle.html_render_dom_nodes.specs.Room.{KeepsRoom};
 ghost use Rattle.html_render_dom_nodes.specs.Edits.{attached, attached_new, element_created, joined, with_children, text_put, with_content, with_parent};
 
 use crate::attributes::Attributes;
-use crate::contents::NodeData;
+use crate::contents::{NodeData, TextContents};
 use crate::flags::ElementFlags;
 use crate::handles::{Handle, OptionalHandle};
 use crate::names::{Attribute, QualName};
@@ -56,6 +56,19 @@ impl Node {
     {
         Node {
             data: contents,
+            children: SmallVec::new(alloc),
+            parent: OptionalHandle::some(parent),
+        }
+    }
+
+    /// Creates a text node with a parent.
+    #[inline(always)]
+    fn text_below(alloc: Global, parent: Handle, contents: TextContents) -> Node
+        requires { parent + 1 < 2 ^ 64 }
+        ensures { node_of result ≡ record { content = text contents; children = []; parent = Some parent } }
+    {
+        Node {
+            data: NodeData::Text { contents },
             children: SmallVec::new(alloc),
             parent: OptionalHandle::some(parent),
         }
@@ -146,7 +159,7 @@ pub fn attach_new(
     nodes.reserve(1)?;
     push_child(nodes, parent, node)?;
     let made = Node::below(alloc, parent, contents);
-    nodes.push(made)?;
+    nodes.push_reserved(made);
     Ok(())
 }
 
@@ -171,7 +184,34 @@ pub fn attach_element(
     nodes.reserve(1)?;
     push_child(nodes, parent, element)?;
     let below = Node::element_below(alloc, parent, name);
-    nodes.push(below)?;
+    nodes.push_reserved(below);
+    Ok(())
+}
+
+/// Creates a text node with a copy of the text, with the next number, as the parent's last child.
+///
+/// # Errors
+///
+/// Returns an error if an allocation is refused. The nodes are then unchanged.
+#[inline]
+fn attach_text(
+    alloc: Global,
+    nodes: &mut Vec<Node>,
+    parent: Handle,
+    contents: &str,
+) -> Result<(), AllocError>
+    requires { parent < vec_len nodes.old }
+    ensures len { OnOk result (vec_len nodes.new ≡ vec_len nodes.old + 1) }
+    ensures ok { OnOk result (nodes_of nodes.new.items
+        ≡ attached_new (nodes_of nodes.old.items) (text contents.now) parent) }
+    ensures err { OnErr result (nodes_of nodes.new.items ≡ nodes_of nodes.old.items) }
+{
+    let text = Handle::new(nodes.len());
+    nodes.reserve(1)?;
+    let contents = TextContents::from_str(alloc, contents)?;
+    push_child(nodes, parent, text)?;
+    let below = Node::text_below(alloc, parent, contents);
+    nodes.push_reserved(below);
     Ok(())
 }
 
@@ -221,7 +261,7 @@ pub fn put_str(
 {
     match before {
         Some(node) => extend_text(nodes, node, contents),
-        None => attach_new(alloc, nodes, parent, NodeData::text_of(alloc, contents)?),
+        None => attach_text(alloc, nodes, parent, contents),
     }
 }
 

@@ -12,7 +12,9 @@ ghost use Rattle.html_render_tree_records.specs.declared.step.StepKind.TheVarian
 use crate::pieces::piece_in;
 use crate::step::{Step, StepKind};
 use html_render_dom::Error;
-use html_render_dom::dom::{Attribute, Handle, LocalName, NodeOrText, QualName, RcDom};
+use html_render_dom::dom::{
+    Attribute, AttributeValue, Handle, LocalName, NodeOrText, QualName, RcDom,
+};
 use std::alloc::{AllocError, AllocFailed, Global};
 
 /// A reason for steps without a document.
@@ -278,7 +280,7 @@ fn add_attribute(
         return Err(Fault::Faulty);
     }
     let name = given.name(alloc)?;
-    let value = given.value_copied(alloc)?;
+    let value = AttributeValue::from_str(alloc, given.value()?)?;
     dom.add_attr_if_missing(alloc, element, Attribute { name, value })?;
     Ok(())
 }

@@ -2,7 +2,7 @@
 
 use crate::faults::Fault;
 use crate::texts::{push_escaped, unescaped};
-use html_render_dom::dom::{Attribute, LocalName, Namespace, NodeData, QualName};
+use html_render_dom::dom::{Attribute, AttributeValue, LocalName, Namespace, NodeData, QualName};
 use std::alloc::{AllocError, Global};
 
 /// The name and the attributes of an element.
@@ -54,7 +54,7 @@ pub fn attribute(alloc: Global, text: &str) -> Result<Attribute, Fault> {
             ns: Namespace::None,
             local: LocalName::from_str(alloc, name)?,
         },
-        value: unescaped(alloc, value)?,
+        value: AttributeValue::from(unescaped(alloc, value)?),
     })
 }
 
@@ -100,7 +100,7 @@ pub(crate) fn push_attributes(
 ) -> Result<(), AllocError> {
     for attribute in attributes {
         write!(shown, "@{}=", attribute.name.local.as_str())?;
-        push_escaped(shown, &attribute.value)?;
+        push_escaped(shown, attribute.value.as_str())?;
     }
     Ok(())
 }

@@ -9,6 +9,6 @@ use Rattle.html_render_dom.specs.declared.script.calls.Call.TheVariants.{Open, O
 abbrev pub command : Call → Command
 command (Open name) = open_element (html_name name.now)
 command (OpenSvg name) = open_element (svg_name name.now)
-command (Attribute name value) = give_attribute name.now (string_bytes value)
+command (Attribute name value) = give_attribute name.now value
 command (Comment contents) = append_comment (string_bytes contents)
 command Close = close_element

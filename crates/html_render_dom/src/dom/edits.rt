@@ -1,7 +1,7 @@
 //! Calls that add nodes, attributes and messages to a document. Each makes its allocations before it changes anything, so a
 //! refused call leaves the document unchanged.
 
-ghost use Rattle.std.specs.Prelude.{◌≡◌, ◌≤◌, ◌++◌, ◌∷◌, [], None, OnOk, OnErr, IfOk, map, string_bytes};
+ghost use Rattle.std.specs.Prelude.{◌≡◌, ◌+◌, ◌≤◌, ◌++◌, ◌∷◌, [], None, OnOk, OnErr, IfOk, map, string_bytes};
 ghost use Rattle.html_render_dom_values.specs.Outcome.{OnlyOutOfMemory};
 ghost use Rattle.html_render_dom_nodes.specs.Content.{name_of, property_of, content_of, doctype, comment, instruction};
 ghost use Rattle.html_render_dom.specs.Dom.{IsNode, IsElement, node_count, content_at};
@@ -86,7 +86,12 @@ impl RcDom {
     }
 
     /// Joins a copy of the text to the last child if that is a text node; otherwise appends a text node.
-    fn copy_text(&mut self, alloc: Global, parent: Handle, text: &str) -> Result<(), AllocError>
+    pub(crate) fn copy_text(
+        &mut self,
+        alloc: Global,
+        parent: Handle,
+        text: &str,
+    ) -> Result<(), AllocError>
         requires { IsNode self.old parent }
         ensures ok { let nodes = self.old.nodes in OnOk result (self.new
             ≡ record self.old { nodes = text_put nodes parent (last_text nodes parent) text.now }) }
@@ -118,10 +123,27 @@ impl RcDom {
         ensures err { OnlyOutOfMemory result }
         ensures grows { node_count self.old ≤ node_count self.new }
     {
-        let name = QualName::html(LocalName::from_str(alloc, name)?);
         let appended = Handle::new(self.nodes.len());
-        nodes::attach_element(alloc, &mut self.nodes, parent, name)?;
+        self.push_element(alloc, parent, name)?;
         Ok(appended)
+    }
+
+    /// Appends a new HTML element as [`append_element`](RcDom::append_element) does.
+    #[inline(never)]
+    pub(crate) fn push_element(
+        &mut self,
+        alloc: Global,
+        parent: Handle,
+        name: &str,
+    ) -> Result<(), AllocError>
+        requires { IsNode self.old parent }
+        ensures ok { OnOk result (self.new ≡ element_appended self.old parent (html_name name.now)) }
+        ensures len { OnOk result (node_count self.new ≡ node_count self.old + 1) }
+        ensures unchanged { OnErr result (self.new ≡ self.old) }
+        ensures grows { node_count self.old ≤ node_count self.new }
+    {
+        let name = QualName::html(LocalName::from_str(alloc, name)?);
+        nodes::attach_element(alloc, &mut self.nodes, parent, name)
     }
 
     /// Creates an element without a parent or children, and returns its handle, which is the next number.

@@ -10,11 +10,12 @@ ghost use Rattle.html_render_dom.specs.script.Commands.{call_of, svg_name};
 ghost use Rattle.html_render_dom.specs.script.Plain.{Lacks};
 ghost use Rattle.html_render_dom.specs.script.Scripts.{IsScriptFault, document_of, line_taken, taken, texts_put, with_attribute, with_comment, with_text};
 
-use super::calls::Call;
-use super::splits::Lines;
-use super::texts::Texts;
+use super::calls::{Call, opened_name};
+use super::splits::{Lines, after_byte};
+use super::texts::{Texts, without_line_feed_escape};
 use crate::dom::{
-    Attribute, ElementFlags, Handle, LocalName, Namespace, NodeOrText, QualName, RcDom,
+    Attribute, AttributeValue, ElementFlags, Handle, LocalName, Namespace, NodeOrText, QualName,
+    RcDom,
 };
 use html_render_dom_values::Error;
 use std::alloc::{AllocError, AllocFailed, Global};
@@ -92,10 +93,10 @@ fn set_attribute(
     dom: &mut RcDom,
     element: Handle,
     name: &str,
-    value: String,
+    value: AttributeValue,
 ) -> Result<(), ScriptError>
     requires { IsElement (content_at dom.old element) }
-    ensures ok { OnOk result (dom.new ≡ with_attribute dom.old element name.now (string_bytes value)) }
+    ensures ok { OnOk result (dom.new ≡ with_attribute dom.old element name.now value) }
     ensures grows { node_count dom.old ≤ node_count dom.new }
     ensures err { IfErr result (λ e. e ≡ ScriptError.Refused Error.OutOfMemory) }
 {
@@ -162,13 +163,12 @@ fn append_text(
     dom: &mut RcDom,
     current: Handle,
     text: &str,
-) -> Result<(), ScriptError>
+) -> Result<(), AllocError>
     requires { IsNode dom.old current }
     ensures ok { OnOk result (dom.new ≡ with_text dom.old current text.now) }
     ensures grows { node_count dom.old ≤ node_count dom.new }
-    ensures err { IfErr result (λ e. e ≡ ScriptError.Refused Error.OutOfMemory) }
 {
-    Ok(dom.append_str(alloc, current, text)?)
+    dom.copy_text(alloc, current, text)
 }
 
 /// Appends the pending texts to the current node, as one. Most lines find none.
@@ -192,15 +192,18 @@ fn append_texts(
     Ok(())
 }
 
-/// Takes a line that is neither empty nor a text, and returns the node that is then current; `None` if the line is faulty.
+/// Takes a line that is neither empty nor a text, and returns the node that is then current; `None` if the line is faulty. A
+/// plain line has no backslash.
 #[inline(always)]
 fn take_call_line(
     alloc: Global,
     dom: &mut RcDom,
     current: Handle,
     line: &str,
+    is_plain: bool,
 ) -> Result<Option<Handle>, ScriptError>
-    requires { IsNode dom.old current }
+    requires node { IsNode dom.old current }
+    requires plain { is_plain ≡ true → Lacks 92 line.now }
     ensures ok { IfOk result (λ next. option_map (λ node. record { dom = dom.new; current = node }) next
         ≡ option_and_then (taken (record { dom = dom.old; current = current })) (call_of line.now)) }
     ensures is_node { IfOk result (λ next. IfSome next (λ node. IsNode dom.new node)) }
@@ -208,16 +211,60 @@ fn take_call_line(
 {
     // most lines that are no text open an element or close one
     if let [b'>'] = line.as_bytes() {
-        return take_call(alloc, dom, current, Call::Close);
+        return Ok(dom.get_parent(current));
     }
-    match Call::read(alloc, line)? {
+    take_opening(alloc, dom, current, line, is_plain)
+}
+
+/// Takes a line that is neither empty nor a text, as [`take_call_line`] does.
+#[inline(always)]
+fn take_opening(
+    alloc: Global,
+    dom: &mut RcDom,
+    current: Handle,
+    line: &str,
+    is_plain: bool,
+) -> Result<Option<Handle>, ScriptError>
+    requires node { IsNode dom.old current }
+    requires plain { is_plain ≡ true → Lacks 92 line.now }
+    ensures ok { IfOk result (λ next. option_map (λ node. record { dom = dom.new; current = node }) next
+        ≡ option_and_then (taken (record { dom = dom.old; current = current })) (call_of line.now)) }
+    ensures is_node { IfOk result (λ next. IfSome next (λ node. IsNode dom.new node)) }
+    ensures err { IfErr result (λ e. e ≡ ScriptError.Refused Error.OutOfMemory) }
+{
+    if let Some(name) = opened_name(line) {
+        let element = Handle::new(dom.node_count());
+        dom.push_element(alloc, current, name)?;
+        return Ok(Some(element));
+    }
+    take_other_line(alloc, dom, current, line, is_plain)
+}
+
+/// Takes a line that is neither empty nor a text, as [`take_call_line`] does.
+#[inline(never)]
+fn take_other_line(
+    alloc: Global,
+    dom: &mut RcDom,
+    current: Handle,
+    line: &str,
+    is_plain: bool,
+) -> Result<Option<Handle>, ScriptError>
+    requires node { IsNode dom.old current }
+    requires plain { is_plain ≡ true → Lacks 92 line.now }
+    ensures ok { IfOk result (λ next. option_map (λ node. record { dom = dom.new; current = node }) next
+        ≡ option_and_then (taken (record { dom = dom.old; current = current })) (call_of line.now)) }
+    ensures is_node { IfOk result (λ next. IfSome next (λ node. IsNode dom.new node)) }
+    ensures err { IfErr result (λ e. e ≡ ScriptError.Refused Error.OutOfMemory) }
+{
+    match Call::read(alloc, line, is_plain)? {
         Some(call) => take_call(alloc, dom, current, call),
         None => Ok(None),
     }
 }
 
 /// Takes one line of a script, and returns the node that is then current; `None` if the line is faulty. The text of a line
-/// is kept in `texts` with those of the lines after it, so that all are appended at once.
+/// is kept in `texts` with those of the lines after it, so that all are appended at once. A plain text that is the only one,
+/// since no text follows, is appended as it is.
 #[inline(always)]
 fn take_line<'a>(
     alloc: Global,
@@ -226,6 +273,7 @@ fn take_line<'a>(
     texts: &mut Texts<'a>,
     line: &'a str,
     is_plain: bool,
+    is_followed: bool,
 ) -> Result<Option<Handle>, ScriptError>
     requires node { IsNode dom.old current }
     requires plain { is_plain ≡ true → Lacks 92 line.now }
@@ -234,15 +282,20 @@ fn take_line<'a>(
     ensures is_node { IfOk result (λ next. IfSome next (λ node. IsNode dom.new node)) }
     ensures err { IfErr result (λ e. e ≡ ScriptError.Refused Error.OutOfMemory) }
 {
-    if let Some(text) = line.strip_prefix('"') {
-        let is_known = texts.add(text, is_plain)?;
+    if let Some(quoted) = after_byte(b'"', line) {
+        let (text, is_simple) = without_line_feed_escape(quoted, is_plain);
+        if is_simple && !is_followed && texts.as_one().is_none() {
+            append_text(alloc, dom, current, text)?;
+            return Ok(Some(current));
+        }
+        let is_known = texts.add(text, is_simple)?;
         return Ok(is_known.then_some(current));
     }
     if line.is_empty() {
         return Ok(Some(current));
     }
     append_texts(alloc, dom, current, texts)?;
-    let next = take_call_line(alloc, dom, current, line)?;
+    let next = take_call_line(alloc, dom, current, line, is_plain)?;
     Ok(next)
 }
 
@@ -263,8 +316,16 @@ pub fn built(alloc: Global, script: &str) -> Result<RcDom, ScriptError>
     let mut number = 0usize;
     let mut lines = Lines::new(script);
     while let Some((line, is_plain)) = lines.next_line() {
-        number = number.saturating_add(1);
-        match take_line(alloc, &mut dom, current, &mut texts, line, is_plain)? {
+        number += 1;
+        match take_line(
+            alloc,
+            &mut dom,
+            current,
+            &mut texts,
+            line,
+            is_plain,
+            lines.is_at_text(),
+        )? {
             Some(next) => current = next,
             None => return Err(ScriptError::FaultyLine(number)),
         }

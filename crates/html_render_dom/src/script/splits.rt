@@ -1,7 +1,7 @@
 //! Parts of a script: its lines, and the texts around a byte.
 
-ghost use Rattle.std.specs.Prelude.{◌≡◌, ◌==◌, ◌≤◌, ◌<◌, ◌-◌, ◌∷◌, ◌++◌, [], length, take, drop, true, IfSome, MatchOption};
-ghost use Rattle.std.specs.List.{after_first, before_first, position_or_len};
+ghost use Rattle.std.specs.Prelude.{◌≡◌, ◌≢◌, ◌==◌, ◌≤◌, ◌<◌, ◌+◌, ◌-◌, ◌∷◌, ◌++◌, ℕ, List, [], length, take, drop, true, IfSome, MatchOption};
+ghost use Rattle.std.specs.List.{after_first, before_first, position_or_len, slice_index_or};
 ghost use Rattle.std.specs.Str.Lines.{lines, strip_carriage_return};
 ghost use Rattle.html_render_dom.specs.script.Plain.{Lacks};
 
@@ -60,20 +60,33 @@ pub fn split_at_byte(byte: u8, text: &str) -> Option<(&str, &str)>
     }
 }
 
+/// Returns the text after its first byte, if that has this value, which is an ASCII character.
+#[inline(always)]
+pub fn after_byte(byte: u8, text: &str) -> Option<&str>
+    requires { byte < 128 }
+    ensures { MatchOption result ((rest : List ℕ) → text.now ≢ byte ∷ rest) (λ rest. text.now ≡ byte ∷ rest.now) }
+{
+    match text.as_bytes().first() {
+        Some(first) if *first == byte => Some(&text[1..]),
+        _ => None,
+    }
+}
+
 /// Returns a line without the carriage return at its end, if it has one.
 #[inline(always)]
 fn without_carriage_return(line: &str) -> &str
     ensures { result.now ≡ strip_carriage_return line.now }
 {
-    match line.strip_suffix('\r') {
-        Some(front) => front,
-        None => line,
+    match line.as_bytes().last() {
+        Some(last) if *last == b'\r' => &line[..line.len() - 1],
+        _ => line,
     }
 }
 
 /// Returns the number of bytes of a script before its first backslash.
 fn plain_len(script: &str) -> usize
-    ensures { Lacks 92 (take result script.now) }
+    ensures lacks { Lacks 92 (take result script.now) }
+    ensures within { result ≤ length script.now }
 {
     memchr(b'\\', script.as_bytes()).unwrap_or(script.len())
 }
@@ -85,11 +98,14 @@ fn split_line(script: &str) -> (&str, &str)
     ensures lines { lines script.now ≡ result.0.now ∷ lines result.1.now }
     ensures front { result.0.now ≡ take (length result.0.now) script.now }
     ensures rest { result.1.now ≡ drop (length script.now - length result.1.now) script.now }
+    ensures within { length result.0.now + length result.1.now ≤ length script.now }
     ensures shorter { length result.1.now < length script.now }
 {
     // a line that closes an element, of which there are most, needs no search
-    if let Some(after) = script.strip_prefix(">\n") {
-        return (">", after);
+    if let Some(more) = after_byte(b'>', script) {
+        if let Some(after) = after_byte(b'\n', more) {
+            return (">", after);
+        }
     }
     match split_at_byte(b'\n', script) {
         Some((line, after)) => (without_carriage_return(line), after),
@@ -102,19 +118,19 @@ fn split_line(script: &str) -> (&str, &str)
 pub struct Lines<'a> {
     /// The script from its next line.
     rest: &'a str,
-    /// A number of bytes at the start of `rest` without a backslash among them.
-    plain: usize,
+    /// Number of bytes from the first backslash of `rest` on.
+    unknown: usize,
 }
 
 impl<'a> Model for Lines<'a> {
-    ghost use Rattle.std.specs.Prelude.{ℕ, List, take};
+    ghost use Rattle.std.specs.Prelude.{ℕ, ◌-◌, List, length, take};
     ghost use Rattle.html_render_dom.specs.script.Plain.{Lacks};
 
     ghost Value = { List ℕ };
 
     ghost view = { λ s. s.rest.now };
 
-    ghost invariant = { λ s. Lacks 92 (take s.plain s.rest.now) };
+    ghost invariant = { λ s. Lacks 92 (take (length s.rest.now - s.unknown) s.rest.now) };
 }
 
 impl<'a> Lines<'a> {
@@ -124,7 +140,7 @@ impl<'a> Lines<'a> {
     {
         Lines {
             rest: script,
-            plain: 0,
+            unknown: script.len() - plain_len(script),
         }
     }
 
@@ -138,15 +154,23 @@ impl<'a> Lines<'a> {
             return None;
         }
         let (line, after) = split_line(script);
-        // so that no line is searched twice for a backslash
-        let plain = if self.plain < line.len() {
-            plain_len(script)
-        } else {
-            self.plain
-        };
-        let is_plain = line.len() <= plain;
-        self.plain = plain.saturating_sub(script.len() - after.len());
+        // so that nothing is searched twice for a backslash
+        let is_plain = self.unknown <= after.len();
+        if !is_plain {
+            self.unknown = after.len() - plain_len(after);
+        }
         self.rest = after;
         Some((line, is_plain))
+    }
+
+    /// Reports whether the next line is a text.
+    #[inline(always)]
+    pub fn is_at_text(&self) -> bool
+        ensures { result ≡ (slice_index_or self.now 0 0 == 34) }
+    {
+        match self.rest.as_bytes().first() {
+            Some(first) => *first == b'"',
+            None => false,
+        }
     }
 }

@@ -7,6 +7,7 @@ ghost use Rattle.html_render_dom.specs.script.Commands.{unescaped};
 ghost use Rattle.html_render_dom.specs.script.Plain.{Lacks, text_followed_by};
 
 use super::splits::split_at_byte;
+use crate::dom::AttributeValue;
 use std::alloc::{AllocError, Global};
 use std::marker::Model;
 
@@ -146,6 +147,20 @@ fn push_unescaped(text: &str, plain: &mut String) -> Result<bool, AllocError>
     Ok(true)
 }
 
+/// Returns a text with the same meaning, and whether it is known to have no backslash. A single `\n`, as between elements on
+/// lines of their own, becomes a line feed.
+#[inline(always)]
+pub fn without_line_feed_escape(text: &str, is_plain: bool) -> (&str, bool)
+    requires { is_plain ≡ true → Lacks 92 text.now }
+    ensures same { unescaped result.0.now ≡ unescaped text.now }
+    ensures plain { result.1 ≡ true → Lacks 92 result.0.now }
+{
+    if let [b'\\', b'n'] = text.as_bytes() {
+        return ("\n", true);
+    }
+    (text, is_plain)
+}
+
 /// Returns a text with its escapes resolved; `None` if one is unknown.
 pub fn unescaped(alloc: Global, text: &str) -> Result<Option<String>, AllocError>
     ensures { IfOk result (λ plain. option_map string_bytes plain ≡ unescaped text.now) }
@@ -156,4 +171,25 @@ pub fn unescaped(alloc: Global, text: &str) -> Result<Option<String>, AllocError
         return Ok(Some(plain));
     }
     Ok(None)
+}
+
+/// Returns the value of an attribute with its escapes resolved; `None` if one is unknown. A plain value has no backslash, and
+/// is copied at once.
+#[inline(always)]
+pub fn unescaped_value(
+    alloc: Global,
+    value: &str,
+    is_plain: bool,
+) -> Result<Option<AttributeValue>, AllocError>
+    requires { is_plain ≡ true → Lacks 92 value.now }
+    ensures { IfOk result (λ plain. plain ≡ unescaped value.now) }
+{
+    if is_plain {
+        let value = AttributeValue::from_str(alloc, value)?;
+        return Ok(Some(value));
+    }
+    match unescaped(alloc, value)? {
+        Some(value) => Ok(Some(AttributeValue::from(value))),
+        None => Ok(None),
+    }
 }

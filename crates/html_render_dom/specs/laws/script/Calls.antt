@@ -1,16 +1,23 @@
 -- Lines that are calls.
-use Rattle.std.specs.Prelude.{◌≡◌, ◌≢◌, ◌==◌, ℕ, ◌<◌, List, [], ◌∷◌, length, Option, None, option_and_then, option_map}
-use Rattle.std.specs.List.{after_first, before_first, position_or_len}
+use Rattle.std.specs.Prelude.{◌≡◌, ◌≢◌, ◌==◌, nat_eq, ℕ, ◌<◌, false, List, [], ◌∷◌, length, codes, Option, Some, None, option_and_then, option_map}
+use Rattle.std.specs.List.{after_first, before_first, position_or_len, starts_with}
 use Rattle.std.proofs.Common.{refl, sym, ap, ◌∙◌, arith}
 use Rattle.std.proofs.lemmas.Bool.{eq-eqb, ne_eqb}
 use Rattle.html_render_dom.specs.Dom.{Dom}
-use Rattle.html_render_dom.specs.script.Commands.{Command, attribute_given, attribute_of, call_of, command_of}
+use Rattle.html_render_dom.specs.Edits.{html_name}
+use Rattle.html_render_dom.specs.script.Commands.{Command, open_element, attribute_given, attribute_of, call_of, command_of}
 use Rattle.html_render_dom.specs.script.Scripts.{Cursor, line_taken, taken, texts_put}
 
 -- the command of a line that is neither empty nor a text is its call
 pub command-call : (line : List ℕ) → ((rest : List ℕ) → line ≢ 34 ∷ rest) → 0 < length line → command_of line ≡ call_of line
 command-call [] quote some = absurd (omega arith)
 command-call (first ∷ rest) quote some = rw (ne_eqb first 34 (λ e. quote rest (ap (λ (x : ℕ). x ∷ rest) e))) refl
+
+-- a line that opens an element of HTML
+pub call-opened : (line name : List ℕ) → line ≡ 60 ∷ name → 0 < length name → starts_with nat_eq name (codes "svg:") ≡ false →
+    call_of line ≡ Some (open_element (html_name name))
+call-opened line name e some other =
+    ap call_of e ∙ rw (other, ne_eqb (length name) 0 (λ none. omega (arith, some, none))) refl
 
 -- no other first byte begins a call
 pub call-none : (line : List ℕ) → ((rest : List ℕ) → line ≢ 60 ∷ rest) → ((rest : List ℕ) → line ≢ 62 ∷ rest) →

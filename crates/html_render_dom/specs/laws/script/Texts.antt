@@ -1,6 +1,6 @@
 -- Two texts that are appended one after the other are one text.
 use Rattle.std.specs.Prelude.{◌≡◌, ℕ, ◌<◌, ◌+◌, ◌-◌, Bool, true, false, if◌then◌else◌, List, [], ◌∷◌, ◌++◌, length, slice_get, slice_set, Option, Some, None}
-use Rattle.std.specs.Prelude.{MatchOption, option_and_then, option_map, unwrap_or}
+use Rattle.std.specs.Prelude.{MatchOption, is_some, not, option_and_then, option_map, unwrap_or}
 use Rattle.std.specs.Bool.{then_some}
 use Rattle.std.proofs.Common.{refl, sym, ap, ◌∙◌, subst, arith, inl, inr}
 use Rattle.std.proofs.lemmas.Bool.{cases_lt, false≢true}
@@ -12,8 +12,9 @@ use Rattle.html_render_dom_nodes.specs.Nodes.{Node, lone, node_in}
 use Rattle.html_render_dom.specs.Dom.{Dom, IsNode}
 use Rattle.html_render_dom.specs.laws.Changes.{kept}
 use Rattle.html_render_dom.specs.script.Commands.{append_text, unescaped}
-use Rattle.html_render_dom.specs.script.Plain.{text_followed_by}
+use Rattle.html_render_dom.specs.script.Plain.{Lacks, text_followed_by}
 use Rattle.html_render_dom.specs.script.Scripts.{Cursor, line_taken, taken, texts_put, with_text}
+use Rattle.html_render_dom.specs.laws.script.Escapes.{unescaped-plain}
 
 -- whether a text appended after another one in the same place is the same as both appended at once
 abbrev Joins : (nodes : List Node) (parent : ℕ) (before : Option ℕ) (s t : List ℕ) → Type 0
@@ -152,3 +153,16 @@ pub text_line-taken : (waiting new : Option (List ℕ)) (b : Cursor) (line more 
     option_map (λ (node : ℕ). texts_put new (record b { current = node })) (then_some known b.current) ≡ line_taken (texts_put waiting b) line
 text_line-taken waiting new b line more known e at h =
     text-taken waiting new b known at (unescaped more) h ∙ sym (ap (line_taken (texts_put waiting b)) e)
+
+-- no text waits where the one that is given is none
+pub none_waiting : {X : Type 0} (f : X → List ℕ) (given : Option X) (none : Bool) (waiting : Option (List ℕ)) → is_some given ≡ not none → none ≡ true →
+    option_map f given ≡ waiting → waiting ≡ None
+none_waiting f None none waiting some is e = sym e
+none_waiting f (Some x) none waiting some is e = absurd (false≢true (sym (some ∙ ap not is)))
+
+-- a text without escapes is appended at once, where none waits
+pub text_line-put : (b : Cursor) (line more put : List ℕ) → line ≡ 34 ∷ more → unescaped put ≡ unescaped more → Lacks 92 put →
+    Some (record b { dom = with_text b.dom b.current put }) ≡ line_taken b line
+text_line-put b line more put e same plain =
+    sym (ap (line_taken b) e
+    ∙ ap (λ (o : Option (List ℕ)). option_and_then (taken b) (option_map append_text o)) (sym same ∙ unescaped-plain put plain))

@@ -15,4 +15,4 @@ returns-clause-ok c =
     let at : parent < length old = omega (arith, len, c.requires) in
     let pushed : map node_of c.push_child.new.nodes.items ≡ with_children old parent ((node_in old parent).children ++ length old ∷ []) =
     rw (c.reserve.ensures.items, node) at c.in_ok-push_child.ensures.ok in
-    rw (c.in_ok-push.ensures.items, map-append, pushed, c.element_below-below.ensures) (attached_new-named old (element (name_of c.args.name) [] None false) parent at)
+    rw (c.push_reserved.ensures.items, map-append, pushed, c.element_below-below.ensures) (attached_new-named old (element (name_of c.args.name) [] None false) parent at)

@@ -1,4 +1,4 @@
-use Rattle.std.proofs.Common.{◌≡◌, List, ℕ, [], ◌∷◌, sym, ap, ◌∙◌, arith}
+use Rattle.std.proofs.Common.{◌≡◌, List, ℕ, [], ◌∷◌, ap, ◌∙◌, arith}
 use Rattle.std.specs.Str.Lines.{lines}
 use Rattle.html_render_dom.specs.laws.script.Lines.{lines-first, lines-last}
 use Rattle.html_render_dom.proofs.script.splits.split_line.Goals as goal
@@ -7,10 +7,9 @@ use Rattle.html_render_dom.proofs.script.splits.split_line.Goals as goal
 closing : (script rest : List ℕ) → script ≡ 62 ∷ (10 ∷ rest) → lines script ≡ (62 ∷ []) ∷ lines rest
 closing script rest e = ap lines e ∙ lines-first (62 ∷ (10 ∷ rest)) (omega arith)
 
-pub returns-in-Some-clause-lines : goal.returns-in-Some-clause-lines
-returns-in-Some-clause-lines c =
-    let cut = c.in-Some.ensures.cases in
-    closing c.args.script.now c.in-Some.after.now (cut.1.1 ∙ ap (λ l. 62 ∷ (10 ∷ l)) (sym cut.2))
+pub returns-in-Some-after_byte-clause-lines : goal.returns-in-Some-after_byte-clause-lines
+returns-in-Some-after_byte-clause-lines c =
+    closing c.args.script.now c.in-Some-after_byte.after.now (c.in-Some.ensures ∙ ap (λ l. 62 ∷ l) c.in-Some-after_byte.ensures)
 
 pub returns-in-Some-split_at_byte-clause-lines : goal.returns-in-Some-split_at_byte-clause-lines
 returns-in-Some-split_at_byte-clause-lines c =
