@@ -12,7 +12,7 @@ ghost use Rattle.html_render_tree_convert.specs.Tables.{size_of, size_or_one, sp
 
 use crate::tables::CellSpan;
 use html_render_dom::Error;
-use html_render_dom::dom::{Attribute, Namespace, QualName};
+use html_render_dom::dom::{Attribute, AttributeValue, Namespace, QualName};
 use html_render_dom_nodes::is_same_name;
 use html_render_layout_nodes::text::NodeText;
 use std::alloc::Global;
@@ -26,11 +26,11 @@ fn attribute_named<'a>(attributes: &'a [Attribute], name: &str) -> Option<&'a At
 
 /// Returns the value of the first attribute of a local name.
 #[tactic(auto, using(crate::proofs::Numbers::starts))]
-pub fn first_value<'a>(attributes: &'a [Attribute], name: &str) -> Option<&'a str>
+pub fn first_value<'a>(attributes: &'a [Attribute], name: &str) -> Option<&'a AttributeValue>
     ensures { option_map (λ value. value.now) result ≡ first_value name.now (map property_of attributes.now) }
 {
     match attribute_named(attributes, name) {
-        Some(attribute) => Some(attribute.value.as_str()),
+        Some(attribute) => Some(&attribute.value),
         None => None,
     }
 }
@@ -47,7 +47,7 @@ pub fn start_of(attributes: &[Attribute]) -> i64
     ensures { result ≡ start_of (map property_of attributes.now) }
 {
     match first_value(attributes, "start") {
-        Some(number) => number_or_one(number),
+        Some(number) => number_or_one(number.as_str()),
         None => 1,
     }
 }

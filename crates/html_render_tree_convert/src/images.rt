@@ -1,6 +1,6 @@
 //! What an image and a drawing are called, and where an image lies.
 
-ghost use Rattle.std.specs.Prelude.{◌≡◌, IfOk, IfSome, map, option_map, unwrap_or, string_bytes};
+ghost use Rattle.std.specs.Prelude.{◌≡◌, [], IfOk, IfSome, map, option_map, unwrap_or, string_bytes};
 ghost use Rattle.html_render_dom_values.specs.Outcome.{OnlyOutOfMemory};
 ghost use Rattle.html_render_dom_nodes.specs.Content.{content_of, property_of};
 ghost use Rattle.html_render_dom.specs.Dom.{IsForest, IsNode, below, children_at, node_count, trees_of};
@@ -9,32 +9,40 @@ ghost use Rattle.html_render_tree_convert.specs.Images.{read, image_parts, direc
 ghost use Rattle.html_render_tree_convert.specs.Drawings.{is_title_node, text_in};
 
 use html_render_dom::Error;
-use html_render_dom::dom::{Attribute, Handle, Namespace, NodeData, RcDom};
+use html_render_dom::dom::{Attribute, AttributeValue, Handle, Namespace, NodeData, RcDom};
 use html_render_layout_nodes::text::NodeText;
 use std::alloc::{AllocError, Global};
 
 /// Returns an image's source and title once one more attribute is read, which changes neither where there are both.
-fn read<'a>(attribute: &'a Attribute, source: &'a str, title: &'a str) -> (&'a str, &'a str)
+fn read<'a>(
+    attribute: &'a Attribute,
+    source: &'a AttributeValue,
+    title: &'a AttributeValue,
+) -> (&'a AttributeValue, &'a AttributeValue)
     ensures { record { source = result.0.now; title = result.1.now }
         ≡ read (record { source = source.now; title = title.now }) (property_of attribute.now) }
 {
     let value = attribute.value.as_str();
-    if value.is_empty() || (!source.is_empty() && !title.is_empty()) {
+    if value.is_empty() || (!source.as_str().is_empty() && !title.as_str().is_empty()) {
         return (source, title);
     }
     match attribute.name.local.as_str() {
-        "alt" => (source, value),
-        "src" => (value, title),
+        "alt" => (source, &attribute.value),
+        "src" => (&attribute.value, title),
         _ => (source, title),
     }
 }
 
-/// Returns the source and the title of an image, each empty where it isn't given.
-pub fn image_parts(attributes: &[Attribute]) -> (&str, &str)
+/// Returns the source and the title of an image, each `nothing` where it isn't given.
+pub(crate) fn image_parts<'a>(
+    attributes: &'a [Attribute],
+    nothing: &'a AttributeValue,
+) -> (&'a AttributeValue, &'a AttributeValue)
+    requires { nothing.now ≡ [] }
     ensures { record { source = result.0.now; title = result.1.now } ≡ image_parts (map property_of attributes.now) }
 {
-    let mut source = "";
-    let mut title = "";
+    let mut source = nothing;
+    let mut title = nothing;
     for attribute in attributes {
         let (next_source, next_title) = read(attribute, source, title);
         source = next_source;

@@ -17,7 +17,7 @@ use crate::attributes::{first_value, span_of, start_of};
 use crate::images::{drawing_title, image_parts};
 use crate::tables::Part;
 use html_render_dom::Error;
-use html_render_dom::dom::{Attribute, Handle, Namespace, QualName, RcDom};
+use html_render_dom::dom::{Attribute, AttributeValue, Handle, Namespace, QualName, RcDom};
 use html_render_dom::style::{ComputedStyle, Specificity, StyleOrigin, WhiteSpace};
 use html_render_dom_nodes::is_same_name;
 use html_render_layout_nodes::text::NodeText;
@@ -167,14 +167,14 @@ fn other_mapping(name: &str, attributes: &[Attribute]) -> Mapping
 }
 
 /// Returns the mapping of an `a`, by its attributes: a link to its first `href`, if it has one.
-fn link_mapping(alloc: Global, attributes: &[Attribute]) -> Result<Mapping, Error>
+fn link_mapping(attributes: &[Attribute]) -> Result<Mapping, Error>
     ensures ok { IfOk result (λ mapping. mapping ≡ option_map_or (λ t. Mapping.Parent (ElementKind.Node (NodeKind.Link t)) IfEmpty.Vanishes)
         (first_value (codes "href") (map property_of attributes.now)) (Mapping.Parent (ElementKind.Node NodeKind.Container) IfEmpty.Stands)) }
     ensures err { OnlyOutOfMemory result }
 {
     match first_value(attributes, "href") {
         Some(target) => {
-            let target = NodeText::from_str(alloc, target)?;
+            let target = target.clone()?;
             Ok(vanishing(NodeKind::Link(target)))
         }
         None => Ok(standing(NodeKind::Container)),
@@ -182,17 +182,19 @@ fn link_mapping(alloc: Global, attributes: &[Attribute]) -> Result<Mapping, Erro
 }
 
 /// Returns the mapping of an `img`, by its source and its title: nothing without a source.
-fn image_mapping(alloc: Global, source: &str, title: &str) -> Result<Mapping, Error>
+fn image_mapping(
+    alloc: Global,
+    source: &AttributeValue,
+    title: &AttributeValue,
+) -> Result<Mapping, Error>
     ensures ok { IfOk result (λ mapping. mapping ≡ (if is_filled source.now
         then Mapping.Leaf (NodeKind.Image (record { source = source.now; title = title.now })) else Mapping.Nothing)) }
     ensures err { OnlyOutOfMemory result }
 {
-    if source.is_empty() {
+    if source.as_str().is_empty() {
         return Ok(Mapping::Nothing);
     }
-    let source = NodeText::from_str(alloc, source)?;
-    let title = NodeText::from_str(alloc, title)?;
-    let image = Image::new(alloc, source, title)?;
+    let image = Image::new(alloc, source.clone()?, title.clone()?)?;
     Ok(Mapping::Leaf(NodeKind::Image(image)))
 }
 
@@ -214,9 +216,10 @@ fn html_element_mapping(
     ensures err { OnlyOutOfMemory result }
 {
     match name {
-        _ if is(name, "a") => link_mapping(alloc, attributes),
+        _ if is(name, "a") => link_mapping(attributes),
         _ if is(name, "img") => {
-            let (source, title) = image_parts(attributes);
+            let nothing = AttributeValue::new();
+            let (source, title) = image_parts(attributes, &nothing);
             image_mapping(alloc, source, title)
         }
         _ if is(name, "wbr") => {
