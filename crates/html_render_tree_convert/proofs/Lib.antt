@@ -9,3 +9,4 @@ pub mod Running
 pub mod VisitRuns
 pub mod VisitsLeft
 pub mod Names
+pub mod Leaves

@@ -9,17 +9,15 @@ use Rattle.html_render_dom_styles.specs.declared.specificities.Specificity.{Spec
 use Rattle.html_render_dom_styles.specs.declared.updates.Update.{Update}
 use Rattle.html_render_dom_styles.specs.laws.Winners.{winner-one}
 use Rattle.html_render_dom.specs.ElementStyle.{element_style}
-use Rattle.html_render_dom_nodes.specs.Content.{Content, Name, html}
+use Rattle.html_render_dom_nodes.specs.Content.{html}
 use Rattle.html_render_dom_styles.specs.Rules.{Rule}
-use Rattle.html_render_dom_values.specs.Forest.{Forest}
 use Rattle.html_render_tree_convert.specs.declared.mapping.ElementKind.{ElementKind}
 use Rattle.html_render_tree_convert.specs.declared.mapping.IfEmpty.{IfEmpty}
 use Rattle.html_render_tree_convert.specs.declared.mapping.Mapping.{Mapping}
 use Rattle.html_render_tree_convert.specs.declared.mapping.Mapping.TheVariants.{Parent}
 use Rattle.html_render_tree_convert.specs.declared.plans.Plan.TheVariants as plan
-use Rattle.html_render_tree_convert.specs.Conversion.{element_mapping, html_mapping, last_white_space, own_style, preformatted_style}
-use Rattle.html_render_tree_convert.specs.KnownElements.{is_preformatted}
-use Rattle.html_render_tree_convert.specs.Marks.{mark_of}
+use Rattle.html_render_tree_convert.specs.Conversion.{html_mapping, last_white_space, own_style, preformatted_style}
+use Rattle.html_render_tree_convert.specs.KnownElements.{html_element_mapping, named_plan}
 use Rattle.html_render_tree_convert.specs.Plans.{displayed_plan, element_of, element_plan}
 
 -- `pre` gives its style an update of the least specificity after those of all rules
@@ -44,17 +42,15 @@ mapped true i w x y z r e = cc
 mapped false true w x y z r e = cc
 mapped false false true x y z r e = cc
 
--- the plan of an element without attributes of a known style
-pub styled : (rules : List Rule) (name : Name) (local : List ℕ) (below : Forest Content) (kind : ElementKind) (if_empty : IfEmpty) (s : ComputedStyle) →
-    local ≡ name.local → name.space ≡ html → (bytes_eq local (codes "a") || (bytes_eq local (codes "img") || bytes_eq local (codes "wbr"))) ≡ false →
-    is_preformatted name ≡ false → s ≡ element_style rules local [] → is_some s.display ≡ false → html_mapping local [] ≡ Parent kind if_empty →
-    element_plan (element_mapping name.space name.local [] below) (mark_of name []) (own_style rules name []) ≡ plan.Over (element_of kind if_empty None s) true
-styled rules name local below kind if_empty s l n a p e d m =
-    let own : own_style rules name [] ≡ s =
-    ap (λ b. if b then preformatted_style (element_style rules name.local []) else element_style rules name.local []) p
-    ∙ ap (λ x. element_style rules x []) (sym l) ∙ sym e in
-    let is : element_mapping name.space name.local [] below ≡ Parent kind if_empty =
-    ap (λ x. element_mapping x name.local [] below) n ∙ ap (λ x. element_mapping html x [] below) (sym l)
-    ∙ mapped (bytes_eq local (codes "a")) (bytes_eq local (codes "img")) (bytes_eq local (codes "wbr")) _ _ _ (html_mapping local []) a ∙ m in
-    ap (λ x. element_plan x (mark_of name []) (own_style rules name [])) is ∙ ap (element_plan (Parent kind if_empty) (mark_of name [])) own
+-- the plan of an element of HTML without attributes of a known style
+pub styled : (rules : List Rule) (name : List ℕ) (kind : ElementKind) (if_empty : IfEmpty) (s : ComputedStyle) →
+    (bytes_eq name (codes "a") || (bytes_eq name (codes "img") || bytes_eq name (codes "wbr"))) ≡ false → bytes_eq name (codes "pre") ≡ false →
+    s ≡ element_style rules name [] → is_some s.display ≡ false → html_mapping name [] ≡ Parent kind if_empty →
+    named_plan rules name ≡ plan.Over (element_of kind if_empty None s) true
+styled rules name kind if_empty s a p e d m =
+    let own : own_style rules (record { space = html; local = name }) [] ≡ s =
+    ap (λ b. if b then preformatted_style (element_style rules name []) else element_style rules name []) p ∙ sym e in
+    let is : html_element_mapping name [] ≡ Parent kind if_empty =
+    mapped (bytes_eq name (codes "a")) (bytes_eq name (codes "img")) (bytes_eq name (codes "wbr")) _ _ _ (html_mapping name []) a ∙ m in
+    ap (λ x. element_plan x None (own_style rules (record { space = html; local = name }) [])) is ∙ ap (element_plan (Parent kind if_empty) None) own
     ∙ ap (λ b. if b then plan.Nothing else displayed_plan (Parent kind if_empty) None s) d

@@ -106,7 +106,10 @@ fn names_mark(element: &QualName, attribute: &Attribute) -> bool
 }
 
 /// Returns the first attribute of an element that names its mark.
-fn mark_attribute<'a>(element: &QualName, attributes: &'a [Attribute]) -> Option<&'a Attribute>
+pub(crate) fn mark_attribute<'a>(
+    element: &QualName,
+    attributes: &'a [Attribute],
+) -> Option<&'a Attribute>
     ensures { option_copied result ≡ find (λ a. names_mark (name_of element.now) (property_of a)) attributes.now }
 {
     attributes

@@ -1,13 +1,14 @@
 //! Trees that are written in pre-order, from the first node to the last.
 
-ghost use Rattle.std.specs.Prelude.{◌≡◌, [], ◌∷◌, ◌++◌, ◌+◌, IfOk, List, OnOk, take, drop, length, map, ◌<◌};
+ghost use Rattle.std.specs.Prelude.{◌≡◌, [], ◌∷◌, ◌++◌, ◌+◌, IfOk, List, OnOk, take, drop, length, map, vec_capacity, vec_len, ◌<◌};
 ghost use Rattle.html_render_layout_nodes.specs.RenderNodes.{without_style};
 ghost use Rattle.html_render_layout_nodes.specs.declared.tree.Entry.{Entry};
 ghost use Rattle.html_render_layout_nodes.specs.declared.tree.RenderNode.{RenderNode};
 ghost use Rattle.html_render_tree_convert.specs.Held.{leaf, sized, with_kind};
+ghost use Rattle.html_render_tree_convert.specs.Steps.{node_in};
 
 use html_render_layout_nodes::text::NodeText;
-use html_render_layout_nodes::tree::{Entry, NodeKind, RenderNode};
+use html_render_layout_nodes::tree::{Entry, Estimate, NodeKind, NodeStyle, RenderNode};
 use std::alloc::{AllocError, Global};
 
 /// Nodes that are written, in pre-order.
@@ -26,6 +27,32 @@ pub fn put(node: RenderNode, tree: &mut Tree) -> Result<(), AllocError>
     Ok(())
 }
 
+/// Appends an unmeasured node without children. There is room for it.
+#[inline(always)]
+fn put_reserved(style: NodeStyle, kind: NodeKind, tree: &mut Tree)
+    requires { vec_len tree.old < vec_capacity tree.old }
+    ensures { tree.new.items ≡ tree.old.items ++ leaf (node_in style kind) ∷ [] }
+{
+    tree.push_reserved(Entry {
+        node: RenderNode {
+            kind,
+            style,
+            estimate: Estimate::default(),
+        },
+        subtree_len: 1,
+    });
+}
+
+/// Appends an unmeasured node without children.
+#[inline(always)]
+pub fn put_kind(style: NodeStyle, kind: NodeKind, tree: &mut Tree) -> Result<(), AllocError>
+    ensures { OnOk result (tree.new.items ≡ tree.old.items ++ leaf (node_in style kind) ∷ []) }
+{
+    tree.reserve(1)?;
+    put_reserved(style, kind, tree);
+    Ok(())
+}
+
 /// Appends a text, copied.
 #[inline(always)]
 pub fn put_text(contents: &NodeText, tree: &mut Tree) -> Result<(), AllocError>
@@ -33,10 +60,7 @@ pub fn put_text(contents: &NodeText, tree: &mut Tree) -> Result<(), AllocError>
 {
     tree.reserve(1)?;
     let text = contents.clone()?;
-    tree.push_reserved(Entry {
-        node: RenderNode::from(NodeKind::Text(text)),
-        subtree_len: 1,
-    });
+    put_reserved(NodeStyle::default(), NodeKind::Text(text), tree);
     Ok(())
 }
 

@@ -6,15 +6,15 @@ ghost use Rattle.html_render_layout_nodes.specs.RenderNodes.{without_style};
 ghost use Rattle.html_render_parts.specs.Refusal.{Fails};
 ghost use Rattle.html_render_tree_convert.specs.Held.{leaf};
 ghost use Rattle.html_render_tree_convert.specs.OpenElements.{root};
-ghost use Rattle.html_render_tree_convert.specs.Steps.{all_written, begun_with, closed_leaf, come, put};
+ghost use Rattle.html_render_tree_convert.specs.Steps.{all_written, begun_with, closed_leaf, come, node_in, put};
 
-use crate::builder::{Tree, last_kind, put, put_text};
-use crate::due::{Due, DueParts};
+use crate::builder::{Tree, last_kind, put, put_kind, put_text};
+use crate::due::{Due, Spare};
 use crate::elements::{Open, OpenKind};
 use crate::mapping::IfEmpty;
 use html_render_dom_values::Error;
 use html_render_layout_nodes::text::NodeText;
-use html_render_layout_nodes::tree::{Entry, NodeKind, RenderNode};
+use html_render_layout_nodes::tree::{Entry, NodeKind, NodeStyle, RenderNode};
 use std::alloc::Global;
 use std::marker::Model;
 
@@ -64,7 +64,7 @@ pub struct Conversion {
     outer: Vec<Open>,
     tree: Tree,
     // memory of what a closed element had to write, for the next one
-    spare: Option<Box<DueParts>>,
+    spare: Spare,
 }
 
 impl Model for Conversion {
@@ -90,7 +90,7 @@ impl Conversion {
             innermost: Open::new(OpenKind::Root, Due::none(), IfEmpty::Stands, false),
             outer: Vec::new(alloc),
             tree: Tree::with_capacity(alloc, nodes)?,
-            spare: None,
+            spare: Spare::none(),
         })
     }
 
@@ -137,6 +137,21 @@ impl Conversion {
     {
         self.begin_part(element)?;
         put(node, &mut self.tree)?;
+        Ok(())
+    }
+
+    /// Opens an element with an unmeasured node of its own.
+    ///
+    /// # Errors
+    ///
+    /// `OutOfMemory` if an allocation is refused.
+    #[inline(always)]
+    fn begin_kind(&mut self, element: Open, style: NodeStyle, kind: NodeKind) -> Result<(), Error>
+        ensures ok { OnOk result (self.new ≡ begun_with element (leaf (node_in style kind) ∷ []) self.old) }
+        ensures err { OnlyOutOfMemory result }
+    {
+        self.begin_part(element)?;
+        put_kind(style, kind, &mut self.tree)?;
         Ok(())
     }
 

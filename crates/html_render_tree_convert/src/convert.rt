@@ -9,14 +9,17 @@ ghost use Rattle.html_render_dom.specs.RuleIndex.{Finds};
 ghost use Rattle.html_render_tree_convert.specs.Plans.{plan_at};
 ghost use Rattle.html_render_tree_convert.specs.Results.{render_tree_of};
 ghost use Rattle.html_render_tree_convert.specs.Events.{element_events, nothing_inside};
-ghost use Rattle.html_render_tree_convert.specs.KnownElements.{known_element};
+ghost use Rattle.html_render_tree_convert.specs.KnownElements.{known_element, named_plan, plain_cell, plain_plan};
 ghost use Rattle.html_render_tree_convert.specs.Steps.{converted, run};
 ghost use Rattle.html_render_tree_convert.specs.Visits.{done_at_once, first_pick, followed};
 
 use crate::conversion::Conversion;
-use crate::mapping::ElementKind;
-use crate::plans::{Element, KnownElement, Plan, known_element, plan_of, text_at};
-use crate::tables::Part;
+use crate::mapping::{ElementKind, IfEmpty, Mapping};
+use crate::plans::{
+    Element, KnownElement, Plan, is_plain_cell, known_name, plain_mapping, plain_name, plan_of,
+    text_at,
+};
+use crate::tables::{CellSpan, Part};
 use html_render_dom::dom::{Handle, RcDom};
 use html_render_dom::style::{RuleIndex, StyleRule};
 use html_render_dom_values::Error;
@@ -118,6 +121,58 @@ fn enter(
     Ok(())
 }
 
+/// Opens a cell of one column and one row that has no style and inserts nothing. Its children come next.
+///
+/// # Errors
+///
+/// `OutOfMemory` if an allocation is refused.
+#[inline(always)]
+fn enter_cell(node: Handle, cursor: &mut Cursor, conversion: &mut Conversion) -> Result<(), Error>
+    ensures ok { OnOk result (run (done_at_once (Plan.Over plain_cell true)) conversion.old ≡ Some conversion.new) }
+    ensures cursor { OnOk result (cursor.new ≡ followed (Plan.Over plain_cell true) node cursor.old) }
+    ensures err { OnlyOutOfMemory result }
+{
+    let alloc = conversion.allocator();
+    let span = CellSpan {
+        colspan: 1,
+        rowspan: 1,
+    };
+    let cell = ElementKind::Part(Part::Cell(span));
+    conversion.open_plain(alloc, cell, NodeStyle::default(), IfEmpty::Stands)?;
+    cursor.enter(node, Pick::All)?;
+    Ok(())
+}
+
+/// Converts a node of this mapping that inserts nothing and has no style, as far as can be without its children, which come next
+/// if they are converted.
+///
+/// # Errors
+///
+/// `OutOfMemory` if an allocation is refused.
+#[inline(always)]
+fn convert_plain(
+    mapping: Mapping,
+    node: Handle,
+    cursor: &mut Cursor,
+    conversion: &mut Conversion,
+) -> Result<(), Error>
+    ensures ok { OnOk result (run (done_at_once (plain_plan mapping)) conversion.old ≡ Some conversion.new) }
+    ensures cursor { OnOk result (cursor.new ≡ followed (plain_plan mapping) node cursor.old) }
+    ensures err { OnlyOutOfMemory result }
+{
+    match mapping {
+        Mapping::Nothing => Ok(()),
+        Mapping::Leaf(kind) => conversion.put(RenderNode::from(kind)),
+        Mapping::Parent(kind, if_empty) => {
+            let alloc = conversion.allocator();
+            let pick = first_pick(&kind);
+            conversion.open_plain(alloc, kind, NodeStyle::default(), if_empty)?;
+            cursor.enter(node, pick)?;
+            Ok(())
+        }
+    }
+}
+
 /// Converts a node by its plan as far as can be without its children, which come next if they are converted.
 ///
 /// # Errors
@@ -142,6 +197,65 @@ fn convert_planned(
     let alloc = conversion.allocator();
     let plan = plan_of(alloc, rules, index, dom, node)?;
     follow(alloc, plan, node, cursor, conversion)
+}
+
+/// Converts a node as far as can be without its children, which come next if they are converted. Elements without a mark and
+/// without a style need no plan.
+///
+/// # Errors
+///
+/// Those of [`Conversion::close`].
+#[inline(never)]
+fn convert_other(
+    rules: &[StyleRule],
+    index: &RuleIndex,
+    dom: &RcDom,
+    node: Handle,
+    cursor: &mut Cursor,
+    conversion: &mut Conversion,
+) -> Result<(), Error>
+    requires index { Finds index.now (map rule_of rules.now) }
+    requires forest { IsForest dom.now }
+    requires node { IsNode dom.now node }
+    ensures ok { OnOk result (run (done_at_once (plan_at (map rule_of rules.now) dom.now node)) conversion.old ≡ Some conversion.new) }
+    ensures cursor { OnOk result (cursor.new ≡ followed (plan_at (map rule_of rules.now) dom.now node) node cursor.old) }
+    ensures err { IfErr result (λ e. Fails e (run (done_at_once (plan_at (map rule_of rules.now) dom.now node)) conversion.old)) }
+{
+    let alloc = conversion.allocator();
+    if let Some(mapping) = plain_mapping(alloc, rules, index, dom, node)? {
+        return convert_plain(mapping, node, cursor, conversion);
+    }
+    convert_planned(rules, index, dom, node, cursor, conversion)
+}
+
+/// Converts an element of HTML without attributes, by its local name, as far as can be without its children, which come next if
+/// they are converted.
+///
+/// # Errors
+///
+/// Those of [`Conversion::close`].
+#[inline(never)]
+fn convert_named(
+    rules: &[StyleRule],
+    index: &RuleIndex,
+    dom: &RcDom,
+    node: Handle,
+    name: &str,
+    cursor: &mut Cursor,
+    conversion: &mut Conversion,
+) -> Result<(), Error>
+    requires index { Finds index.now (map rule_of rules.now) }
+    requires forest { IsForest dom.now }
+    requires node { IsNode dom.now node }
+    requires name { plan_at (map rule_of rules.now) dom.now node ≡ named_plan (map rule_of rules.now) name.now }
+    ensures ok { OnOk result (run (done_at_once (plan_at (map rule_of rules.now) dom.now node)) conversion.old ≡ Some conversion.new) }
+    ensures cursor { OnOk result (cursor.new ≡ followed (plan_at (map rule_of rules.now) dom.now node) node cursor.old) }
+    ensures err { IfErr result (λ e. Fails e (run (done_at_once (plan_at (map rule_of rules.now) dom.now node)) conversion.old)) }
+{
+    if let Some(known) = known_name(rules, index, name) {
+        return enter(known, node, cursor, conversion);
+    }
+    convert_other(rules, index, dom, node, cursor, conversion)
 }
 
 /// Converts a node as far as can be without its children, which come next if they are converted. Texts, and elements without
@@ -169,10 +283,13 @@ fn convert_node(
     if let Some(text) = text_at(dom, node) {
         return conversion.put_text(text);
     }
-    if let Some(known) = known_element(rules, index, dom, node) {
-        return enter(known, node, cursor, conversion);
+    if let Some(name) = plain_name(dom, node) {
+        if is_plain_cell(rules, index, name) {
+            return enter_cell(node, cursor, conversion);
+        }
+        return convert_named(rules, index, dom, node, name, cursor, conversion);
     }
-    convert_planned(rules, index, dom, node, cursor, conversion)
+    convert_other(rules, index, dom, node, cursor, conversion)
 }
 
 /// Returns the nodes of a document in pre-order. It takes no more stack for a deep document than for a flat one.
@@ -192,7 +309,7 @@ fn entries_of(
     let index = RuleIndex::of(alloc, rules)?;
     let mut cursor = Cursor::new(alloc);
     let mut conversion = Conversion::new(alloc, dom.node_count())?;
-    convert_node(
+    convert_other(
         rules,
         &index,
         dom,

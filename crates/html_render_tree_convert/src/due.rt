@@ -4,7 +4,7 @@ ghost use Rattle.std.specs.Prelude.{◌≡◌, ◌++◌, IfOk, None, OnOk, Some}
 ghost use Rattle.std.specs.Bool.{OnTrue};
 ghost use Rattle.html_render_dom_values.specs.Outcome.{OnlyOutOfMemory};
 ghost use Rattle.html_render_layout_nodes.specs.declared.tree.NodeKind.TheVariants.{FragmentStart};
-ghost use Rattle.html_render_tree_convert.specs.Held.{due_of, held_in, insertion_in, leaves, nothing, nothing_held, text_nodes, within};
+ghost use Rattle.html_render_tree_convert.specs.Held.{due_of, held_back, held_in, insertion_in, leaves, nothing, nothing_held, text_nodes, within};
 
 use crate::builder::{Tree, put};
 use crate::plans::ElementTexts;
@@ -76,6 +76,30 @@ impl DueParts {
     }
 }
 
+/// Memory of what a closed element had to write, for the next one. Nothing is left in it.
+#[derive(Drop)]
+pub struct Spare {
+    parts: Option<Box<DueParts>>,
+}
+
+impl Model for Spare {
+    ghost use Rattle.std.specs.Prelude.{◌≡◌, option_map};
+    ghost use Rattle.html_render_tree_convert.specs.Held.{Held, held_in, nothing_held};
+
+    ghost Value = { Held };
+
+    ghost view = { λ s. held_in (option_map (λ b. b.value) s.parts) };
+
+    ghost invariant = { λ s. held_in (option_map (λ b. b.value) s.parts) ≡ nothing_held };
+}
+
+impl Spare {
+    /// Returns no memory.
+    pub fn none() -> Spare {
+        Spare { parts: None }
+    }
+}
+
 /// What an open element has still to write, boxed since most elements insert nothing.
 #[derive(Drop)]
 pub struct Due {
@@ -128,35 +152,33 @@ impl Due {
         Ok(Due { parts: Some(parts) })
     }
 
-    /// Creates what an element has still to write, in the memory of a closed one if there is any.
+    /// Creates what an element has still to write that leaves this mark if it vanishes, and writes this text after its children.
+    /// It is in the memory of a closed element if there is any.
     ///
     /// # Errors
     ///
     /// `OutOfMemory` if an allocation is refused.
-    pub fn reusing(
+    pub fn held_back(
         alloc: Global,
-        parts: DueParts,
-        spare: &mut Option<Box<DueParts>>,
+        mark: Option<NodeText>,
+        after: Option<NodeText>,
+        spare: &mut Spare,
     ) -> Result<Due, Error>
-        ensures ok { IfOk result (λ d. d ≡ held_in (Some parts)) }
+        ensures ok { IfOk result (λ d. d ≡ held_back mark (text_nodes NodeKind.Text after)) }
         ensures err { OnlyOutOfMemory result }
     {
-        let Some(mut reused) = spare.take() else {
-            return Due::new(alloc, parts);
-        };
-        let DueParts {
+        if let Some(mut parts) = spare.parts.take() {
+            parts.mark = mark;
+            parts.after = after;
+            return Ok(Due { parts: Some(parts) });
+        }
+        let parts = DueParts {
             mark,
             after,
-            own,
-            given,
-        } = parts;
-        reused.mark = mark;
-        reused.after = after;
-        reused.own = own;
-        reused.given = given;
-        Ok(Due {
-            parts: Some(reused),
-        })
+            own: InsertedNodes::new(alloc),
+            given: InsertedNodes::new(alloc),
+        };
+        Due::new(alloc, parts)
     }
 
     /// Creates what rows or a row have still to write in their first cell: their own texts, and an insertion round these.
@@ -278,6 +300,7 @@ impl Due {
                 parts.after = None;
                 parts.own = own;
             }
+            None if own.is_empty() => {}
             None => {
                 let parts = DueParts {
                     mark: None,
@@ -291,25 +314,29 @@ impl Due {
         Ok(())
     }
 
-    /// Writes what is due after the children of an element that closes. Its memory becomes the spare one.
+    /// Writes what is due after the children of an element that closes. Its memory becomes the spare one if nothing is left in it.
     ///
     /// # Errors
     ///
     /// `OutOfMemory` if an allocation is refused.
     #[inline(never)]
-    pub fn write_back(self, tree: &mut Tree, spare: &mut Option<Box<DueParts>>) -> Result<(), Error>
+    pub fn write_back(self, tree: &mut Tree, spare: &mut Spare) -> Result<(), Error>
         ensures ok { OnOk result (tree.new.items ≡ tree.old.items ++ leaves self.own.back) }
         ensures err { OnlyOutOfMemory result }
     {
         let Some(mut parts) = self.parts else {
             return Ok(());
         };
-        let alloc = *parts.own.back.allocator();
-        let after = parts.after.take();
-        let back = std::mem::replace(&mut parts.own.back, Vec::new(alloc));
-        *spare = Some(parts);
-        put_texts(None, after, tree)?;
-        put_all(back, tree)
+        if let Some(text) = parts.after.take() {
+            put(RenderNode::from(NodeKind::Text(text)), tree)?;
+        }
+        if parts.own.is_empty() && parts.given.is_empty() {
+            parts.mark = None;
+            spare.parts = Some(parts);
+            return Ok(());
+        }
+        let DueParts { own, .. } = Box::into_inner(parts);
+        put_all(own.back, tree)
     }
 }
 

@@ -77,7 +77,7 @@ fn table_part(part: Part, if_empty: IfEmpty) -> Mapping
 /// Reports whether a name is `other`, a constant. Compares the bytes in place: a `match` would call a comparison of texts for
 /// each name that it lists.
 #[inline(always)]
-fn is(name: &str, other: &str) -> bool
+pub(crate) fn is(name: &str, other: &str) -> bool
     ensures { result ≡ bytes_eq name.now other.now }
 {
     let bytes = name.as_bytes();

@@ -1,27 +1,28 @@
 //! Plans of nodes: which render node a node of a document becomes, its children aside.
 
-ghost use Rattle.std.specs.Prelude.{◌≡◌, [], false, true, List, None, IfOk, IfSome, map, option_copied};
+ghost use Rattle.std.specs.Prelude.{◌≡◌, ◌||◌, [], false, true, List, None, IfOk, IfSome, codes, map, option_copied};
 ghost use Rattle.std.specs.Bool.{OnTrue};
+ghost use Rattle.std.specs.Str.{bytes_eq};
 ghost use Rattle.std.specs.Option.{option_map_or};
-ghost use Rattle.html_render_dom_values.specs.Forest.{Forest};
 ghost use Rattle.html_render_dom_values.specs.Outcome.{OnlyOutOfMemory};
-ghost use Rattle.html_render_dom_nodes.specs.Content.{Content, name_of, property_of, space_of};
+ghost use Rattle.html_render_dom_nodes.specs.Content.{name_of, property_of};
+ghost use Rattle.html_render_dom.specs.Applying.{style_by};
 ghost use Rattle.html_render_dom.specs.Dom.{IsForest, IsNode};
 ghost use Rattle.html_render_dom.specs.ElementStyle.{element_style, style_of};
 ghost use Rattle.html_render_dom.specs.declared.style.computed.ComputedStyle.{ComputedStyle as TheStyle};
 ghost use Rattle.html_render_dom.specs.RuleIndex.{Finds};
 ghost use Rattle.html_render_dom_styles.specs.Rules.{Rule, rule_of};
 ghost use Rattle.html_render_layout_nodes.specs.RenderNodes.{without_style};
-ghost use Rattle.html_render_tree_convert.specs.Conversion.{element_mapping, node_style, own_style};
+ghost use Rattle.html_render_tree_convert.specs.Conversion.{node_style, own_style};
 ghost use Rattle.html_render_tree_convert.specs.ElementTexts.{has_any, no_texts};
 ghost use Rattle.html_render_tree_convert.specs.Marks.{mark_of};
 ghost use Rattle.html_render_tree_convert.specs.Plans.{displayed_plan, element_plan, plan_at, texts_of};
-ghost use Rattle.html_render_tree_convert.specs.KnownElements.{document_element, known_element, known_style};
+ghost use Rattle.html_render_tree_convert.specs.KnownElements.{document_element, known_element, known_style, named_plan, plain_cell, plain_plan};
 
-use crate::attributes::mark_of;
+use crate::attributes::{mark_attribute, mark_of};
 use crate::mapping::{
-    ElementKind, IfEmpty, Mapping, element_mapping, html_mapping, is_mapped_apart, is_preformatted,
-    node_style, preformat,
+    ElementKind, IfEmpty, Mapping, element_mapping, html_mapping, is, is_mapped_apart,
+    is_preformatted, node_style, preformat,
 };
 use html_render_dom::Error;
 use html_render_dom::dom::{Attribute, Handle, Namespace, NodeData, QualName, RcDom};
@@ -226,6 +227,16 @@ pub struct KnownElement<'a> {
     pub style: Option<&'a ComputedStyle>,
 }
 
+/// Reports whether an element of this name without attributes has the style without any declaration, unless it is `pre`. Returns
+/// `false` where that needs more to be known.
+#[inline(always)]
+fn is_unstyled(rules: &[StyleRule], index: &RuleIndex, name: &str) -> bool
+    requires { Finds index.now (map rule_of rules.now) }
+    ensures { OnTrue result (style_by [] ≡ element_style (map rule_of rules.now) name.now []) }
+{
+    rules.is_empty() || !index.may_select(name, &[])
+}
+
 /// Returns the style of an element of this name without attributes that isn't `pre`; `None` where that needs more to be known, or
 /// it is not displayed.
 #[inline(always)]
@@ -238,7 +249,7 @@ fn known_style<'a>(
     ensures style { IfSome result (λ style. known_style style ≡ element_style (map rule_of rules.now) name.now []) }
     ensures displayed { IfSome result (λ style. (known_style style).display ≡ None) }
 {
-    if rules.is_empty() || !index.may_select(name, &[]) {
+    if is_unstyled(rules, index, name) {
         return Some(None);
     }
     match index.plain_style(name) {
@@ -247,28 +258,22 @@ fn known_style<'a>(
     }
 }
 
-/// Returns the element that an element of this name is without attributes; `None` where that needs more to be known, it is not
-/// displayed, or its children aren't converted.
-#[inline(never)]
-fn known_name<'a>(
+/// Returns the element of HTML that an element of this local name is without attributes; `None` where that needs more to be known,
+/// it is not displayed, or its children aren't converted. `index` is that of the rules.
+#[inline(always)]
+pub fn known_name<'a>(
     rules: &[StyleRule],
     index: &'a RuleIndex,
-    name: &QualName,
+    name: &str,
 ) -> Option<KnownElement<'a>>
     requires { Finds index.now (map rule_of rules.now) }
-    ensures { IfSome result (λ known. (below : Forest Content) →
-        element_plan (element_mapping (space_of name.now.ns) name.now.local [] below) (mark_of (name_of name.now) []) (own_style (map rule_of rules.now) (name_of name.now) [])
-        ≡ Plan.Over (known_element known) true) }
+    ensures { IfSome result (λ known. named_plan (map rule_of rules.now) name.now ≡ Plan.Over (known_element known) true) }
 {
-    let Namespace::Html = name.ns else {
-        return None;
-    };
-    let local = name.local.as_str();
-    if is_mapped_apart(local) || is_preformatted(name) {
+    if is_mapped_apart(name) || is(name, "pre") {
         return None;
     }
-    let style = known_style(rules, index, local)?;
-    match html_mapping(local, &[]) {
+    let style = known_style(rules, index, name)?;
+    match html_mapping(name, &[]) {
         Mapping::Parent(kind, if_empty) => Some(KnownElement {
             kind,
             if_empty,
@@ -278,23 +283,35 @@ fn known_name<'a>(
     }
 }
 
-/// Returns a node of a document as an element whose plan is known by its name; `None` for an element with attributes, where more
-/// needs to be known, and for any other node. `index` is that of the rules.
+/// Reports whether elements of HTML of this local name are cells.
 #[inline(always)]
-pub fn known_element<'a>(
-    rules: &[StyleRule],
-    index: &'a RuleIndex,
-    dom: &RcDom,
-    node: Handle,
-) -> Option<KnownElement<'a>>
-    requires index { Finds index.now (map rule_of rules.now) }
-    requires node { IsNode dom.now node }
-    ensures { IfSome result (λ known. plan_at (map rule_of rules.now) dom.now node ≡ Plan.Over (known_element known) true) }
+fn is_cell(name: &str) -> bool
+    ensures { result ≡ (bytes_eq name.now (codes "td") || bytes_eq name.now (codes "th")) }
+{
+    is(name, "td") || is(name, "th")
+}
+
+/// Reports whether an element of HTML of this local name without attributes is a cell without a style. Returns `false` where that
+/// needs more to be known. `index` is that of the rules.
+#[inline(always)]
+pub fn is_plain_cell(rules: &[StyleRule], index: &RuleIndex, name: &str) -> bool
+    requires { Finds index.now (map rule_of rules.now) }
+    ensures { OnTrue result (named_plan (map rule_of rules.now) name.now ≡ Plan.Over plain_cell true) }
+{
+    is_cell(name) && is_unstyled(rules, index, name)
+}
+
+/// Returns the local name of an element of HTML without attributes; `None` for any other node.
+#[inline(always)]
+pub fn plain_name<'a>(dom: &'a RcDom, node: Handle) -> Option<&'a str>
+    requires { IsNode dom.now node }
+    ensures { IfSome result (λ name. (rules : List Rule) → plan_at rules dom.now node ≡ named_plan rules name.now) }
 {
     match dom.data(node) {
-        NodeData::Element { name, attrs, .. } if attrs.as_slice().is_empty() => {
-            known_name(rules, index, name)
-        }
+        NodeData::Element { name, attrs, .. } if attrs.as_slice().is_empty() => match name.ns {
+            Namespace::Html => Some(name.local.as_str()),
+            _ => None,
+        },
         _ => None,
     }
 }
@@ -333,6 +350,71 @@ fn text_node(alloc: Global, contents: &str) -> Result<RenderNode, Error>
 {
     let text = NodeText::from_str(alloc, contents)?;
     Ok(RenderNode::from(NodeKind::Text(text)))
+}
+
+/// Reports whether an element has no mark.
+#[tactic(auto, using(crate::proofs::Numbers::starts))]
+#[inline(always)]
+fn is_unmarked(name: &QualName, attributes: &[Attribute]) -> bool
+    ensures { OnTrue result (mark_of (name_of name.now) (map property_of attributes.now) ≡ None) }
+{
+    match mark_attribute(name, attributes) {
+        Some(_) => false,
+        None => true,
+    }
+}
+
+/// Reports whether an element has no mark, and the style without any declaration. Returns `false` where that needs more to be known.
+#[inline(always)]
+fn is_plain(
+    rules: &[StyleRule],
+    index: &RuleIndex,
+    name: &QualName,
+    attributes: &[Attribute],
+) -> bool
+    requires { Finds index.now (map rule_of rules.now) }
+    ensures mark { OnTrue result (mark_of (name_of name.now) (map property_of attributes.now) ≡ None) }
+    ensures style { OnTrue result (own_style (map rule_of rules.now) (name_of name.now) (map property_of attributes.now) ≡ style_by []) }
+{
+    !is_preformatted(name)
+        && (rules.is_empty() || !index.may_select(name.local.as_str(), attributes))
+        && is_unmarked(name, attributes)
+}
+
+/// Returns the mapping of a node of a document that inserts nothing and has no style; `None` for a text and the document's node, and
+/// where more needs to be known. `index` is that of the rules.
+///
+/// # Errors
+///
+/// `OutOfMemory` if an allocation for a target, a source or a title is refused.
+#[inline(always)]
+pub fn plain_mapping(
+    alloc: Global,
+    rules: &[StyleRule],
+    index: &RuleIndex,
+    dom: &RcDom,
+    node: Handle,
+) -> Result<Option<Mapping>, Error>
+    requires index { Finds index.now (map rule_of rules.now) }
+    requires forest { IsForest dom.now }
+    requires node { IsNode dom.now node }
+    ensures ok { IfOk result (λ found. IfSome found (λ mapping. plan_at (map rule_of rules.now) dom.now node ≡ plain_plan mapping)) }
+    ensures err { OnlyOutOfMemory result }
+{
+    match dom.data(node) {
+        NodeData::Element { name, attrs, .. } => {
+            let attributes = attrs.as_slice();
+            if !is_plain(rules, index, name, attributes) {
+                return Ok(None);
+            }
+            let mapping = element_mapping(alloc, dom, node, name, attributes)?;
+            Ok(Some(mapping))
+        }
+        NodeData::Doctype { .. }
+        | NodeData::Comment { .. }
+        | NodeData::ProcessingInstruction { .. } => Ok(Some(Mapping::Nothing)),
+        NodeData::Document | NodeData::Text { .. } => Ok(None),
+    }
 }
 
 /// Returns the plan of a node of a document. `index` is that of the rules.

@@ -7,12 +7,12 @@ ghost use Rattle.html_render_tree_convert.specs.Steps.{closed, closed_as, closed
 
 use super::{Conversion, put_in};
 use crate::builder::{Tree, set_kind, write_size};
-use crate::due::{Due, DueParts};
+use crate::due::{Due, Spare};
 use crate::elements::{Open, OpenKind, Role};
 use crate::spans::grid_of;
-use crate::tables::CellSpan;
 use html_render_dom_values::Error;
 use html_render_layout_nodes::tree::{NodeKind, RenderNode};
+use html_render_parts::table::spans::RowCells;
 use std::alloc::Global;
 
 impl Conversion {
@@ -30,9 +30,59 @@ impl Conversion {
         let is_wrapped = self.innermost.is_wrapped;
         self.close_once(alloc)?;
         if is_wrapped {
-            return self.close_once(alloc);
+            return self.close_any(alloc);
         }
         Ok(())
+    }
+
+    /// Closes the innermost open element. Rows, cells and nodes that write nothing after their children, which most elements are,
+    /// aren't moved.
+    ///
+    /// # Errors
+    ///
+    /// `Fail` exactly if it is a table and a cell ends after column or row `u128::MAX`, and `OutOfMemory` if an allocation is
+    /// refused.
+    #[inline(always)]
+    fn close_once(&mut self, alloc: Global) -> Result<(), Error>
+        ensures ok { OnOk result (Some self.new ≡ closed_once self.old) }
+        ensures err { IfErr result (λ e. Fails e (closed_once self.old)) }
+    {
+        if !self.innermost.due.is_none() || self.innermost.vanishes() {
+            return self.close_any(alloc);
+        }
+        let start = self.innermost.start;
+        let has_children = self.innermost.has_children;
+        let is_stray = self.innermost.is_stray;
+        match &mut self.innermost.kind {
+            OpenKind::Cell(span) => {
+                let role = Role::Cell(*span);
+                let Some(parent) = self.outer.pop() else {
+                    return Ok(());
+                };
+                self.innermost = parent;
+                let parent = &mut self.innermost;
+                close_node(role, has_children, is_stray, start, parent, &mut self.tree)
+            }
+            OpenKind::Node(_) => {
+                let Some(parent) = self.outer.pop() else {
+                    return Ok(());
+                };
+                self.innermost = parent;
+                let parent = &mut self.innermost;
+                close_contents(has_children, is_stray, start, parent, &mut self.tree);
+                Ok(())
+            }
+            OpenKind::Row(cells) => {
+                let Some(parent) = self.outer.pop() else {
+                    return Ok(());
+                };
+                let role = Role::Row(std::mem::replace(cells, RowCells::new(alloc)));
+                self.innermost = parent;
+                let parent = &mut self.innermost;
+                close_node(role, has_children, is_stray, start, parent, &mut self.tree)
+            }
+            _ => self.close_any(alloc),
+        }
     }
 
     /// Closes the innermost open element.
@@ -41,8 +91,8 @@ impl Conversion {
     ///
     /// `Fail` exactly if it is a table and a cell ends after column or row `u128::MAX`, and `OutOfMemory` if an allocation is
     /// refused.
-    #[inline(always)]
-    fn close_once(&mut self, alloc: Global) -> Result<(), Error>
+    #[inline(never)]
+    fn close_any(&mut self, alloc: Global) -> Result<(), Error>
         ensures ok { OnOk result (Some self.new ≡ closed_once self.old) }
         ensures err { IfErr result (λ e. Fails e (closed_once self.old)) }
     {
@@ -72,17 +122,13 @@ fn close_in(
     element: Open,
     parent: &mut Open,
     tree: &mut Tree,
-    spare: &mut Option<Box<DueParts>>,
+    spare: &mut Spare,
 ) -> Result<(), Error>
     ensures ok { OnOk result (Some (record { element = parent.new; tree = tree.new.items })
         ≡ closed_in element (record { element = parent.old; tree = tree.old.items })) }
     ensures err { IfErr result (λ e. Fails e (closed_in element (record { element = parent.old; tree = tree.old.items }))) }
 {
-    if let OpenKind::Cell(span) = &element.kind {
-        let span = *span;
-        return close_cell(span, element, parent, tree, spare);
-    }
-    // most other elements become nodes that have no role in a table
+    // most elements become nodes that have no role in a table
     if !matches!(element.kind, OpenKind::Node(_)) {
         return close_part(alloc, element, parent, tree, spare);
     }
@@ -100,38 +146,6 @@ fn close_in(
     Ok(())
 }
 
-/// Closes a cell in its parent.
-///
-/// # Errors
-///
-/// `OutOfMemory` if an allocation is refused.
-#[inline(always)]
-fn close_cell(
-    span: CellSpan,
-    element: Open,
-    parent: &mut Open,
-    tree: &mut Tree,
-    spare: &mut Option<Box<DueParts>>,
-) -> Result<(), Error>
-    requires { element.kind ≡ OpenKind.Cell span }
-    ensures ok { OnOk result (Some (record { element = parent.new; tree = tree.new.items })
-        ≡ closed_in element (record { element = parent.old; tree = tree.old.items })) }
-    ensures err { OnlyOutOfMemory result }
-{
-    if element.vanishes() {
-        return vanish(element, parent, tree);
-    }
-    write_due(element.due, element.start, tree, spare)?;
-    close_node(
-        Role::Cell(span),
-        element.has_children,
-        element.is_stray,
-        element.start,
-        parent,
-        tree,
-    )
-}
-
 /// Closes a table, a part of one, or any other element in its parent.
 ///
 /// # Errors
@@ -144,7 +158,7 @@ fn close_part(
     mut element: Open,
     parent: &mut Open,
     tree: &mut Tree,
-    spare: &mut Option<Box<DueParts>>,
+    spare: &mut Spare,
 ) -> Result<(), Error>
     ensures ok { OnOk result (Some (record { element = parent.new; tree = tree.new.items })
         ≡ closed_in element (record { element = parent.old; tree = tree.old.items })) }
@@ -227,7 +241,7 @@ fn close_standing(
     element: Open,
     parent: &mut Open,
     tree: &mut Tree,
-    spare: &mut Option<Box<DueParts>>,
+    spare: &mut Spare,
 ) -> Result<(), Error>
     ensures ok { OnOk result (record { element = parent.new; tree = tree.new.items }
         ≡ come (closed_as element.kind element (drop element.start tree.old.items))
@@ -279,12 +293,7 @@ fn role_left(kind: OpenKind) -> Role
 ///
 /// `OutOfMemory` if an allocation is refused.
 #[inline(always)]
-fn write_due(
-    due: Due,
-    start: usize,
-    tree: &mut Tree,
-    spare: &mut Option<Box<DueParts>>,
-) -> Result<(), Error>
+fn write_due(due: Due, start: usize, tree: &mut Tree, spare: &mut Spare) -> Result<(), Error>
     ensures own { OnOk result (drop start tree.new.items ≡ with_back due.own.back (drop start tree.old.items)) }
     ensures below { OnOk result (take start tree.new.items ≡ take start tree.old.items) }
     ensures err { OnlyOutOfMemory result }

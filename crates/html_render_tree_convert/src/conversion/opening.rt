@@ -1,6 +1,6 @@
 //! Elements that open: their nodes, what they insert in front of their children, and what is due in them.
 
-ghost use Rattle.std.specs.Prelude.{◌≡◌, ◌++◌, IfOk, OnOk, true};
+ghost use Rattle.std.specs.Prelude.{◌≡◌, ◌++◌, IfOk, None, OnOk, option_copied, true};
 ghost use Rattle.html_render_dom_values.specs.Outcome.{OnlyOutOfMemory};
 ghost use Rattle.html_render_dom.specs.ElementStyle.{style_of};
 ghost use Rattle.html_render_tree_convert.specs.ElementTexts.{has_any, no_texts};
@@ -10,7 +10,7 @@ ghost use Rattle.html_render_tree_convert.specs.Steps.{all_parted, begun_over, e
 ghost use Rattle.html_render_tree_convert.specs.Steps.{taken, taken_own, without_captions, without_own};
 
 use super::Conversion;
-use crate::builder::{Tree, take_inside};
+use crate::builder::{Tree, put_text, take_inside};
 use crate::due::{Due, DueParts, InsertedNodes, put_all, put_texts};
 use crate::elements::{Open, OpenKind};
 use crate::kinds::Keeping;
@@ -19,6 +19,7 @@ use crate::plans::{Element, ElementTexts, copy_of};
 use crate::tables::{CellSpan, Part};
 use html_render_dom::style::ComputedStyle;
 use html_render_dom_values::Error;
+use html_render_layout_nodes::text::NodeText;
 use html_render_layout_nodes::tree::{Estimate, NodeKind, NodeStyle, RenderNode};
 use html_render_parts::table::spans::{PartRows, RowCells, TableSpans};
 use std::alloc::Global;
@@ -76,15 +77,36 @@ impl Conversion {
             after,
         } = texts;
         let written = copy_of(mark.as_ref())?;
-        let parts = DueParts {
-            mark,
-            after,
-            own: InsertedNodes::new(alloc),
-            given: InsertedNodes::new(alloc),
-        };
-        element.due = Due::reusing(alloc, parts, &mut self.spare)?;
+        element.due = Due::held_back(alloc, mark, after, &mut self.spare)?;
         self.begin(element, node)?;
         put_texts(written, before, &mut self.tree)
+    }
+
+    /// Opens an element over a node that writes the content before its children and the one after them, copied.
+    ///
+    /// # Errors
+    ///
+    /// `OutOfMemory` if an allocation is refused.
+    #[inline(always)]
+    fn hold_contents(
+        &mut self,
+        alloc: Global,
+        mut element: Open,
+        node: RenderNode,
+        before: Option<&NodeText>,
+        after: Option<&NodeText>,
+    ) -> Result<(), Error>
+        ensures ok { OnOk result (self.new ≡ begun_over (record element { due = held_back None (text_nodes NodeKind.Text (option_copied after.entry)) })
+            node (text_nodes NodeKind.Text (option_copied before.entry)) self.old) }
+        ensures err { OnlyOutOfMemory result }
+    {
+        let after = copy_of(after)?;
+        element.due = Due::held_back(alloc, None, after, &mut self.spare)?;
+        self.begin(element, node)?;
+        if let Some(text) = before {
+            put_text(text, &mut self.tree)?;
+        }
+        Ok(())
     }
 
     /// Opens an element that becomes a node and inserts nothing.
@@ -105,7 +127,7 @@ impl Conversion {
     {
         let keeping = Keeping::of(&kind);
         let open = Open::new(OpenKind::Node(keeping), Due::none(), if_empty, false);
-        self.begin(open, node_in(style, kind))
+        self.begin_kind(open, style, kind)
     }
 
     /// Opens a cell of a row that inserts nothing, in an element that has nothing to write.
@@ -122,7 +144,58 @@ impl Conversion {
         ensures err { OnlyOutOfMemory result }
     {
         let open = Open::new(OpenKind::Cell(span), Due::none(), IfEmpty::Stands, false);
-        self.begin(open, node_in(style, NodeKind::TableCell))
+        self.begin_kind(open, style, NodeKind::TableCell)
+    }
+
+    /// Opens a row of a table that inserts nothing, in an element that has nothing to write.
+    ///
+    /// # Errors
+    ///
+    /// `OutOfMemory` if an allocation is refused.
+    #[tactic(auto, unfolding(crate::specs::Steps::opened))]
+    #[inline(always)]
+    fn open_plain_row(&mut self, alloc: Global, style: NodeStyle) -> Result<(), Error>
+        requires { self.old.element.due ≡ nothing_held }
+        ensures ok { (if_empty : IfEmpty) → OnOk result (self.new
+            ≡ opened (record { kind = ElementKind.Part Part.Row; style = style; if_empty = if_empty; texts = no_texts }) self.old) }
+        ensures err { OnlyOutOfMemory result }
+    {
+        let row = OpenKind::Row(RowCells::new(alloc));
+        let open = Open::new(row, Due::none(), IfEmpty::Stands, false);
+        self.begin_kind(open, style, NodeKind::TableRow)
+    }
+
+    /// Opens a part of a table that inserts nothing, in an element that has nothing to write.
+    ///
+    /// # Errors
+    ///
+    /// `OutOfMemory` if an allocation is refused.
+    #[tactic(auto, unfolding(crate::specs::Steps::opened))]
+    #[inline(always)]
+    fn open_plain_rows(&mut self, alloc: Global, if_empty: IfEmpty) -> Result<(), Error>
+        requires { self.old.element.due ≡ nothing_held }
+        ensures ok { (style : NodeStyle) → OnOk result (self.new
+            ≡ opened (record { kind = ElementKind.Part Part.Body; style = style; if_empty = if_empty; texts = no_texts }) self.old) }
+        ensures err { OnlyOutOfMemory result }
+    {
+        let rows = OpenKind::Rows(PartRows::new(alloc));
+        self.begin_part(Open::new(rows, Due::none(), if_empty, false))
+    }
+
+    /// Opens a table that inserts nothing, and whose captions come next.
+    ///
+    /// # Errors
+    ///
+    /// `OutOfMemory` if an allocation is refused.
+    #[tactic(auto, unfolding(crate::specs::Steps::opened))]
+    #[inline(always)]
+    fn open_plain_table(&mut self, style: NodeStyle, if_empty: IfEmpty) -> Result<(), Error>
+        ensures ok { OnOk result (self.new
+            ≡ opened (record { kind = ElementKind.Part Part.Table; style = style; if_empty = if_empty; texts = no_texts }) self.old) }
+        ensures err { OnlyOutOfMemory result }
+    {
+        let open = Open::new(OpenKind::Captions, Due::none(), if_empty, true);
+        self.begin_kind(open, style, NodeKind::Container)
     }
 
     /// Opens an element that inserts nothing.
@@ -167,7 +240,13 @@ impl Conversion {
             ≡ opened (record { kind = ElementKind.Part part; style = style; if_empty = if_empty; texts = no_texts }) self.old) }
         ensures err { OnlyOutOfMemory result }
     {
-        self.open_part(alloc, part, style, if_empty, ElementTexts::none())
+        let is_due = !self.innermost.due.is_none();
+        match part {
+            Part::Row if !is_due => self.open_plain_row(alloc, style),
+            Part::Body if !is_due => self.open_plain_rows(alloc, if_empty),
+            Part::Table => self.open_plain_table(style, if_empty),
+            _ => self.open_part(alloc, part, style, if_empty, ElementTexts::none()),
+        }
     }
 
     /// Opens an element that becomes a node and inserts these texts: in the node, or round it in a container that closes with it.
@@ -204,7 +283,7 @@ impl Conversion {
         )?;
         let mut open = Open::new(OpenKind::Node(keeping), Due::none(), if_empty, false);
         open.is_wrapped = true;
-        self.begin(open, node_in(style, kind))
+        self.begin_kind(open, style, kind)
     }
 
     /// Takes the own insertion of the innermost open element, if this is of the right kind.
@@ -284,7 +363,7 @@ impl Conversion {
         let due = Due::carried(alloc, texts, outer, InsertedNodes::new(alloc))?;
         let row = OpenKind::Row(RowCells::new(alloc));
         let open = Open::new(row, due, IfEmpty::Stands, false);
-        self.begin(open, node_in(style, NodeKind::TableRow))
+        self.begin_kind(open, style, NodeKind::TableRow)
     }
 
     /// Opens a cell of a row.
@@ -325,7 +404,7 @@ impl Conversion {
         };
         let due = Due::new(alloc, parts)?;
         let cell = Open::new(OpenKind::Cell(span), due, IfEmpty::Stands, inserts);
-        self.begin(cell, node_in(style, NodeKind::TableCell))?;
+        self.begin_kind(cell, style, NodeKind::TableCell)?;
         put_all(front, &mut self.tree)?;
         put_texts(written, before, &mut self.tree)
     }
@@ -426,6 +505,41 @@ impl Conversion {
         }
     }
 
+    /// Opens an element without a mark that becomes a node, under its style.
+    ///
+    /// # Errors
+    ///
+    /// `OutOfMemory` if an allocation is refused.
+    #[tactic(auto, unfolding(crate::specs::Steps::opened))]
+    #[inline(always)]
+    fn open_styled_node(
+        &mut self,
+        alloc: Global,
+        kind: NodeKind,
+        if_empty: IfEmpty,
+        style: &ComputedStyle,
+    ) -> Result<(), Error>
+        ensures ok { OnOk result (self.new ≡ opened (element_of (ElementKind.Node kind) if_empty None (style_of style.now)) self.old) }
+        ensures err { OnlyOutOfMemory result }
+    {
+        let before = style.content_before.val();
+        let after = style.content_after.val();
+        if before.is_none() && after.is_none() {
+            return self.open_node(kind, node_style(style), if_empty);
+        }
+        let keeping = OpenKind::Node(Keeping::of(&kind));
+        if kind.holds_insertions() {
+            let open = Open::new(keeping, Due::none(), if_empty, true);
+            return self.hold_contents(alloc, open, node_in(node_style(style), kind), before, after);
+        }
+        let container = Open::new(OpenKind::Node(Keeping::Any), Due::none(), if_empty, true);
+        let node = RenderNode::from(NodeKind::Container);
+        self.hold_contents(alloc, container, node, before, after)?;
+        let mut open = Open::new(keeping, Due::none(), if_empty, false);
+        open.is_wrapped = true;
+        self.begin(open, node_in(node_style(style), kind))
+    }
+
     /// Opens an element without a mark, under its style.
     ///
     /// # Errors
@@ -442,13 +556,13 @@ impl Conversion {
         ensures err { OnlyOutOfMemory result }
     {
         let alloc = self.allocator();
-        let element = Element {
-            kind,
-            style: node_style(style),
-            if_empty,
-            texts: ElementTexts::of(None, style)?,
-        };
-        self.open(alloc, element)
+        match kind {
+            ElementKind::Node(kind) => self.open_styled_node(alloc, kind, if_empty, style),
+            ElementKind::Part(part) => {
+                let texts = ElementTexts::of(None, style)?;
+                self.open_part(alloc, part, node_style(style), if_empty, texts)
+            }
+        }
     }
 
     /// Begins the rows of the innermost open table, whose captions have all come.

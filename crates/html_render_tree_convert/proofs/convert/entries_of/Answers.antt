@@ -25,11 +25,11 @@ visits-init c =
     let none : All holds c.new-cursor.result = subst (All holds) (sym c.new-cursor.ensures) (All-nil holds) in
     let at : IsNode dom document = subst (IsNode dom) (sym c.get_document.ensures.document) forest.has_document in
     record {
-      comes = goes-on rules dom (plan_at rules dom document) document c.new-cursor.result c.convert_node.new.cursor
-          c.in_ok-conversion.conversion c.convert_node.new.conversion
+      comes = goes-on rules dom (plan_at rules dom document) document c.new-cursor.result c.convert_other.new.cursor
+          c.in_ok-conversion.conversion c.convert_other.new.conversion
           (starts rules dom forest document c.new-cursor.result c.in_ok-conversion.conversion c.get_document.ensures.document c.new-cursor.ensures
-          c.in_ok-conversion.ensures.ok) c.in_ok-convert_node.ensures.cursor c.in_ok-convert_node.ensures.ok;
-      nodes = subst (All holds) (sym c.in_ok-convert_node.ensures.cursor)
+          c.in_ok-conversion.ensures.ok) c.in_ok-convert_other.ensures.cursor c.in_ok-convert_other.ensures.ok;
+      nodes = subst (All holds) (sym c.in_ok-convert_other.ensures.cursor)
           (followed-nodes rules dom (plan_at rules dom document) document c.new-cursor.result at none);
     }
 
@@ -61,21 +61,21 @@ visits-preserved-in-Continue-branch-4 c =
     let plan = plan_at (map rule_of c.args.rules.now) c.args.dom.now c.in-Node.node in
     let h = c.in-Node.node in
     record {
-      comes = goes-on rules dom plan h ps c.convert_node-in-Node.new.cursor c.visits.conversion c.convert_node-in-Node.new.conversion
+      comes = goes-on rules dom plan h ps c.convert_node.new.cursor c.visits.conversion c.convert_node.new.conversion
           (visits-node rules dom c.get_document.ensures.forest h c.visits.cursor ps c.visits.conversion (comes-node m) c.visits.invariant.comes)
           c.in_ok-convert_node-in-Node.ensures.cursor c.in_ok-convert_node-in-Node.ensures.ok;
       nodes = subst (All holds) (sym c.in_ok-convert_node-in-Node.ensures.cursor)
           (followed-nodes rules dom plan h ps (node-visited m) c.next.ensures.nodes);
     }
 
-pub returns-in_err-convert_node-clause-err : goal.returns-in_err-convert_node-clause-err
-returns-in_err-convert_node-clause-err c =
+pub returns-in_err-convert_other-clause-err : goal.returns-in_err-convert_other-clause-err
+returns-in_err-convert_other-clause-err c =
     let dom = c.args.dom.now in
     let rules = map rule_of c.args.rules.now in
     let h = c.get_document.result in
-    fails-whole rules dom c.from_residual-in_err-convert_node.result c.in_err-convert_node.field-0.0 _ (followed (plan_at rules dom h) h [])
+    fails-whole rules dom c.from_residual-in_err-convert_other.result c.in_err-convert_other.field-0.0 _ (followed (plan_at rules dom h) h [])
     (starts rules dom c.get_document.ensures.forest h [] c.in_ok-conversion.conversion c.get_document.ensures.document refl
-    c.in_ok-conversion.ensures.ok) c.in_err-convert_node.ensures.err c.from_residual-in_err-convert_node.ensures.1
+    c.in_ok-conversion.ensures.ok) c.in_err-convert_other.ensures.err c.from_residual-in_err-convert_other.ensures.1
 
 pub returns-in_err-convert_node-in-Node-clause-err : goal.returns-in_err-convert_node-in-Node-clause-err
 returns-in_err-convert_node-in-Node-clause-err c =
