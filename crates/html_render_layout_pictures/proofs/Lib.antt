@@ -1,5 +1,6 @@
 pub mod Blanks
 pub mod CellLines
+pub mod Crosses
 pub mod LawSets
 pub mod OnlyCell
 pub mod RowLines

@@ -46,6 +46,13 @@ spaces_parted text next left h =
     ∙ ap (λ l. text ++ l) (replicate-append-replicate next (left - next) 0x20)
     ∙ ap (λ n. text ++ replicate n 0x20) whole
 
+pub spaces_ended : (text : List ℕ) (few count : ℕ) → few ≤ count → (text ++ replicate (count - few) 0x20) ++ replicate few 0x20 ≡ text ++ replicate count 0x20
+spaces_ended text few count h =
+    let whole : count - few + few ≡ count = omega (arith, h) in
+    append_assoc text (replicate (count - few) 0x20) (replicate few 0x20)
+    ∙ ap (λ l. text ++ l) (replicate-append-replicate (count - few) few 0x20)
+    ∙ ap (λ n. text ++ replicate n 0x20) whole
+
 -- the last of them with a separator
 pub gap-parted : (text : List ℕ) (missing few c : ℕ) → few ≤ missing →
     (text ++ replicate (missing - few) 0x20) ++ (replicate few 0x20 ++ c ∷ []) ≡ (text ++ replicate missing 0x20) ++ c ∷ []

@@ -88,6 +88,7 @@ impl<'a> Columns<'a> {
 impl<T: Tag> Frame<T> {
     /// Appends horizontal border characters of `dashes` columns and the border character of the next column. `above` and
     /// `below` say whether the adjacent rows have a separator there.
+    #[inline(always)]
     #[tactic(auto, using(crate::proofs::LawSets::gaps_put))]
     fn draw_joint<M: Copy>(
         &self,
@@ -156,6 +157,27 @@ impl<T: Tag> Frame<T> {
         Ok(())
     }
 
+    /// Appends a border between two rows of the same columns: horizontal border characters, and a cross at each separator. The first
+    /// cell has `first` columns, and the other cells have these widths.
+    fn put_crosses<M: Copy>(
+        &self,
+        to: &mut LineBuffer<T, M>,
+        first: usize,
+        others: &[usize],
+    ) -> Result<(), AllocError>
+        ensures { OnOk result (to.new ≡ record {
+          lines = to.old.lines;
+          line = to.old.line ++ definition.border self.now (separators_from first others.now) (separators_from first others.now);
+        }) }
+    {
+        let mut dashes = first;
+        for width in others {
+            self.draw_joint(to, dashes, true, true)?;
+            dashes = *width;
+        }
+        push_fillers(to, Filler::Dash, dashes, self.tag)
+    }
+
     /// Appends a border between two rows whose cells have these widths.
     pub(crate) fn put_border<M: Copy>(
         &self,
@@ -168,6 +190,11 @@ impl<T: Tag> Frame<T> {
           line = to.old.line ++ definition.border self.now (separators_between above.now) (separators_between below.now);
         }) }
     {
+        if let [first, others @ ..] = below {
+            if above == below {
+                return self.put_crosses(to, *first, others);
+            }
+        }
         let (Some(up), Some(down)) = (column_count(above), column_count(below)) else {
             return Err(AllocError);
         };

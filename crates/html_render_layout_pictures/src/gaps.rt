@@ -51,12 +51,39 @@ const GAP: &str =
     "                                                                                                                               │";
 
 /// Returns the last `few + 1` characters of a text that consists of `CHUNK - 1` times `character` and `last`.
+#[inline(always)]
 fn last_of(text: &'static str, character: char, last: char, few: usize) -> &'static str
     requires text { text.now ≡ encode_utf8_all (replicate 127 character ++ last ∷ []) }
     requires few { few < CHUNK }
     ensures { chars result.now ≡ replicate few character ++ last ∷ [] }
 {
     &text[(CHUNK - 1 - few) * character.len_utf8()..]
+}
+
+/// Returns the separator between two cells. Without borders it is a space.
+#[inline]
+fn separator(borders: bool) -> char
+    ensures { result ≡ cond borders BORDERS.separator 0x20 }
+{
+    if borders { BORDERS.separator } else { ' ' }
+}
+
+/// Returns `CHUNK - 1` spaces and the separator between two cells, without an allocation.
+#[inline]
+pub(crate) fn long_gap(borders: bool) -> &'static str
+    ensures { result.now ≡ encode_utf8_all (replicate 127 0x20 ++ cond borders BORDERS.separator 0x20 ∷ []) }
+{
+    if borders { GAP } else { SPACES }
+}
+
+/// Returns the last `few` spaces of a long gap and the separator.
+#[inline(always)]
+pub(crate) fn end_of_gap(gap: &'static str, borders: bool, few: usize) -> &'static str
+    requires gap { gap.now ≡ encode_utf8_all (replicate 127 0x20 ++ cond borders BORDERS.separator 0x20 ∷ []) }
+    requires few { few < CHUNK }
+    ensures { chars result.now ≡ replicate few 0x20 ++ cond borders BORDERS.separator 0x20 ∷ [] }
+{
+    last_of(gap, ' ', separator(borders), few)
 }
 
 /// Returns `few` spaces and the separator between two cells, without an allocation. Without borders it is another space.

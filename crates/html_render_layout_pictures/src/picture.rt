@@ -374,6 +374,40 @@ impl<T: Tag, M: Copy> Picture<T, M> {
           waiting = [];
         }) }
     {
+        if self.draw_few(&row)? {
+            self.spare = Some(row);
+            return Ok(());
+        }
+        self.draw_many(row)
+    }
+
+    /// Adds copies of the lines of a row, after the marks that wait, if they are few. Reports whether it does.
+    fn draw_few(&mut self, row: &RowCells<T, M>) -> Result<bool, AllocError>
+        requires { 0 < length row.now }
+        ensures { IfOk result (λ put. MatchBool put
+            (self.new ≡ record self.old {
+              lines = self.old.lines ++ marked_before self.old.waiting (definition.row_lines self.old.frame row.now);
+              waiting = [];
+            })
+            (self.new ≡ self.old)) }
+    {
+        let put = self
+            .frame
+            .put_few_of(self.alloc, &mut self.last, self.waiting.as_slice(), row)?;
+        if put {
+            self.waiting.clear();
+        }
+        Ok(put)
+    }
+
+    /// Adds the lines of a row, after the marks that wait.
+    fn draw_many(&mut self, row: RowCells<T, M>) -> Result<(), AllocError>
+        requires { 0 < length row }
+        ensures { OnOk result (self.new ≡ record self.old {
+          lines = self.old.lines ++ marked_before self.old.waiting (definition.row_lines self.old.frame row);
+          waiting = [];
+        }) }
+    {
         let mut last = mem::replace(&mut self.last, LineBuffer::new(self.alloc));
         last.push_marks(self.waiting.as_slice())?;
         let spare = self.frame.put_row(self.alloc, &mut last, row)?;

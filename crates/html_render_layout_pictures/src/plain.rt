@@ -3,7 +3,7 @@
 ghost use Rattle.std.specs.Prelude.{◌≡◌, ◌==◌, ◌+◌, ◌≤◌, ◌<◌, ◌++◌, ◌∷◌, [], All, cond, length, map, drop, replicate, OnOk, IfOk};
 ghost use Rattle.std.specs.Bool.{OnTrue};
 ghost use Rattle.std.specs.List.{range_with_len};
-ghost use Rattle.std.specs.Str.{chars};
+ghost use Rattle.std.specs.Str.{chars, encode_utf8_all};
 ghost use Rattle.html_render_layout_lines.specs.TaggedText.{text_columns, under};
 ghost use Rattle.html_render_layout_buffer.specs.Lines.{ArePlain};
 ghost use Rattle.html_render_layout_buffer.specs.Padding.{repeated};
@@ -12,7 +12,7 @@ ghost use Rattle.html_render_layout_pictures.specs.RowCells.{cell_at, cells_of, 
 ghost use Rattle.html_render_layout_pictures.specs.Rows.{filled_at, marked_cell, row_line, cells_behind, rows_put};
 
 use crate::cells::RowCell;
-use crate::gaps::{CHUNK, few_spaces, gap};
+use crate::gaps::{CHUNK, end_of_gap, few_spaces, long_gap};
 use crate::picture::Frame;
 use crate::row::RowLine;
 use html_render_layout_buffer::buffer::{LineBuffer, columns_missing};
@@ -100,15 +100,32 @@ impl LineText {
         Ok(())
     }
 
-    /// Appends the spaces that are missing after a cell's line, and a separator.
+    /// Appends `count` spaces, at once if they are few.
+    #[inline(always)]
+    #[tactic(auto, using(crate::proofs::PlainLines::spaces_wide, crate::proofs::PlainLines::spaces_ended))]
+    fn push_padding(&mut self, count: usize) -> Result<(), AllocError>
+        ensures { OnOk result (self.new ≡ self.old ++ replicate count 0x20) }
+    {
+        let few = count.min(CHUNK);
+        self.push_spaces(count - few)?;
+        self.push_str(few_spaces(few), few)
+    }
+
+    /// Appends the spaces that are missing after a cell's line, and the separator, both from a long gap.
     #[inline(always)]
     #[tactic(auto, using(crate::proofs::LawSets::gaps_put))]
-    fn push_gap(&mut self, borders: bool, missing: usize) -> Result<(), AllocError>
+    fn push_gap(
+        &mut self,
+        gap: &'static str,
+        borders: bool,
+        missing: usize,
+    ) -> Result<(), AllocError>
+        requires { gap.now ≡ encode_utf8_all (replicate 127 0x20 ++ cond borders BORDERS.separator 0x20 ∷ []) }
         ensures { OnOk result (self.new ≡ (self.old ++ replicate missing 0x20) ++ cond borders BORDERS.separator 0x20 ∷ []) }
     {
         let few = missing.min(CHUNK - 1);
         self.push_spaces(missing - few)?;
-        self.push_str(gap(borders, few), few + 1)
+        self.push_str(end_of_gap(gap, borders, few), few + 1)
     }
 
     /// Appends the text to the open line of a buffer, under a tag.
@@ -175,14 +192,15 @@ impl<T: Tag> Frame<T> {
         ensures { OnOk result (under self.now.tag text.new ≡ (under self.now.tag text.old ++ repeated self.now.tag 0x20 missing)
             ++ cells_behind self.now line.now.number (cells_of others.now (drop start line.now.lines.now.lines))) }
     {
+        let gap = long_gap(self.borders);
         let mut missing = missing;
         let mut start = start;
         for cell in others {
-            text.push_gap(self.borders, missing)?;
+            text.push_gap(gap, self.borders, missing)?;
             missing = self.put_plain_cell(text, line, start, cell)?;
             start += cell.count;
         }
-        text.push_spaces(missing)
+        text.push_padding(missing)
     }
 
     /// Appends a line of a row. `text` is a buffer for its text.

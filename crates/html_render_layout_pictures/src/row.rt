@@ -1,14 +1,15 @@
 //! The lines of a row, each written from left to right over the row's cells.
 //!
-//! In a high row most cells have no line of a given number. So its lines are written over its blank text: all that stands
-//! between two cells that have one is put at once.
+//! In a high row most cells have no line of a given number. So its lines are written over its blank text: the characters
+//! between two cells that have one are put at once.
 
-ghost use Rattle.std.specs.Prelude.{◌≡◌, ◌+◌, ◌≤◌, ◌<◌, ◌^◌, ◌++◌, ◌∷◌, [], length, map, drop, replicate, OnOk, IfOk};
+ghost use Rattle.std.specs.Prelude.{◌≡◌, ◌+◌, ◌≤◌, ◌<◌, ◌^◌, ◌++◌, ◌∷◌, [], length, map, drop, replicate, OnOk, OnErr, IfOk, MatchBool};
 ghost use Rattle.std.specs.List.{range_with_len};
 ghost use Rattle.std.specs.Str.{chars};
 ghost use Rattle.std.specs.String.{string_bytes};
 ghost use Rattle.html_render_layout_lines.specs.TaggedText.{under};
-ghost use Rattle.html_render_layout_buffer.specs.Lines.{with_spaces};
+ghost use Rattle.html_render_layout_lines.specs.Line.{marks_line};
+ghost use Rattle.html_render_layout_buffer.specs.Lines.{with_spaces, no_lines};
 ghost use Rattle.html_render_layout_buffer.specs.Padding.{repeated};
 ghost use Rattle.html_render_layout_pictures.specs.Blank.{blank_cells, with_due};
 ghost use Rattle.html_render_layout_pictures.specs.Picture as definition;
@@ -62,7 +63,7 @@ fn height<M: Copy>(cells: &[RowCell<M>]) -> usize
 }
 
 impl<T: Tag> Frame<T> {
-    /// Appends what stands between a cell and the next one: the spaces that are missing after its line, and a separator.
+    /// Appends the characters between a cell and the next one: the spaces that are missing after its line, and a separator.
     #[inline(always)]
     #[tactic(auto, using(crate::proofs::LawSets::gaps_put))]
     fn put_gap<M: Copy>(&self, to: &mut LineBuffer<T, M>, missing: usize) -> Result<(), AllocError>
@@ -328,6 +329,49 @@ impl<T: Tag> Frame<T> {
             }
             _ => self.put_low_lines(to, cells, lines, height),
         }
+    }
+
+    /// Appends the lines of a row. If memory runs out, the buffer then has no lines.
+    fn put_lines_or_clear<M: Copy>(
+        &self,
+        alloc: Global,
+        to: &mut LineBuffer<T, M>,
+        cells: &[RowCell<M>],
+        lines: &LineBuffer<T, M>,
+    ) -> Result<(), AllocError>
+        requires { line_total cells.now ≤ length lines.now.lines }
+        ensures ok { OnOk result (to.new ≡ rows_put to.old
+            (map (λ n. row_line self.now n (map marked_cell (cells_of cells.now lines.now.lines)))
+            (range_with_len 0 (definition.height (cells_of cells.now lines.now.lines))))) }
+        ensures err { OnErr result (to.new ≡ no_lines) }
+    {
+        let put = self.put_lines(alloc, to, cells, lines);
+        if put.is_err() {
+            to.clear();
+        }
+        put
+    }
+
+    /// Appends marks and the lines of a row, if these are few. Reports whether it does.
+    pub(crate) fn put_few_of<M: Copy>(
+        &self,
+        alloc: Global,
+        to: &mut LineBuffer<T, M>,
+        marks: &[M],
+        row: &RowCells<T, M>,
+    ) -> Result<bool, AllocError>
+        requires { 0 < length row.now }
+        ensures ok { IfOk result (λ put. MatchBool put
+            (to.new ≡ rows_put (record { lines = to.old.lines; line = to.old.line ++ marks_line marks.now }) (definition.row_lines self.now row.now))
+            (to.new ≡ to.old)) }
+        ensures err { OnErr result (to.new ≡ no_lines) }
+    {
+        let Some(lines) = row.lines.few() else {
+            return Ok(false);
+        };
+        to.push_marks(marks)?;
+        self.put_lines_or_clear(alloc, to, row.cells.as_slice(), lines)?;
+        Ok(true)
     }
 
     /// Appends the lines of a row. Returns a row without cells, in the memory of this one.

@@ -3,9 +3,7 @@ use Rattle.std.proofs.lemmas.List.{nil_from_length}
 use Rattle.html_render_layout_lines.specs.Line.{Line}
 use Rattle.html_render_layout_buffer.specs.Marked.{marked_behind}
 use Rattle.html_render_layout_buffer.specs.Padding.{filled}
-use Rattle.html_render_layout_pictures.specs.declared.cells.RowCell.{RowCell}
 use Rattle.html_render_layout_pictures.specs.Picture.{KeptCell, row_lines}
-use Rattle.html_render_layout_pictures.specs.RowCells.{cells_of}
 use Rattle.html_render_layout_pictures.proofs.CellLines.{one-counted, only-row, only-count, some-lines}
 use Rattle.html_render_layout_pictures.proofs.OnlyCell.{only_cell, only_blank_cell, one_cell}
 use Rattle.html_render_layout_pictures.proofs.picture.Frame.only_cell_lines.Goals.{then-cell-eq0+in_ok-push_marks_line, else-cell-eq0+in_ok-mark_last}

@@ -18,8 +18,8 @@ loop-cell-preserved g c =
 
 pub returns : goal.returns
 returns g c =
-    on_ok_weaker c.push_spaces.result
+    on_ok_weaker c.push_padding.result
     (λ e. ap (λ cs. under {M = g.row.M.Denot} c.args.self.now.tag cs) e
     ∙ all-put c.args.self.now c.args.line.now.number c.loop-cell.text c.loop-cell.missing c.loop-cell.cell-index c.args.others.now
     (drop c.loop-cell.start c.args.line.now.lines.now.lines) _ (omega arith) c.loop-cell.invariant.line)
-    c.push_spaces.ensures
+    c.push_padding.ensures

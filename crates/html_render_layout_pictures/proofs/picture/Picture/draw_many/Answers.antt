@@ -6,7 +6,7 @@ use Rattle.html_render_layout_pictures.specs.Drawing.{Drawing}
 use Rattle.html_render_layout_pictures.specs.Picture.{row_lines}
 use Rattle.html_render_layout_pictures.proofs.CellLines.{rows-drawn}
 use Rattle.html_render_layout_pictures.proofs.RowLines.{some_row_lines}
-use Rattle.html_render_layout_pictures.proofs.picture.Picture.draw_cells.Goals as goal
+use Rattle.html_render_layout_pictures.proofs.picture.Picture.draw_many.Goals as goal
 
 -- the last lines with those of the row, the first of which has the marks that waited
 drawn : (g : _) (c : goal.Joined-self g) →
