@@ -192,6 +192,7 @@ impl<T: Tag, M: Copy> CurrentBlock<T, M> {
     }
 
     /// Returns a finished block to the pool, or drops it if the pool is full.
+    #[inline(always)]
     fn keep(&mut self, over: Box<Prefixing<Block<T, M>, T>>) -> Result<(), AllocError>
         ensures { OnOk result (self.new ≡ self.old) }
     {
@@ -211,6 +212,7 @@ impl<T: Tag, M: Copy> CurrentBlock<T, M> {
     }
 
     /// Returns an empty block of `width` columns in the current one, from the pool if possible.
+    #[inline(always)]
     fn inner_block(&mut self, width: usize) -> Result<BoxedBlock<T, M>, Error>
         ensures same { OnOk result (self.new ≡ self.old) }
         ensures ok { IfOk result (λ inner. inner ≡ block.inner_block machine self.old width) }
@@ -267,6 +269,7 @@ impl<T: Tag, M: Copy> CurrentBlock<T, M> {
     ///
     /// `OutOfMemory`.
     #[tactic(auto, unfolding(crate::specs::Machine::operations))]
+    #[inline(always)]
     pub fn cell_block(&mut self) -> Result<Option<BoxedBlock<T, M>>, Error>
         ensures same { OnOk result (self.new ≡ self.old) }
         ensures ok { IfOk result (λ cell. cell ≡ machine.operations.cell_block self.old) }

@@ -324,7 +324,7 @@ fn open_kind<D: TextDecorator, G: Tagging<D::Annotation>>(
 }
 
 /// Resumes a suspended block, if there is one.
-#[inline(never)]
+#[inline(always)]
 fn resume_block<D: TextDecorator, G: Tagging<D::Annotation>>(
     alloc: Global,
     interrupted: Interrupted<D, G>,
@@ -499,7 +499,7 @@ fn next_cell<D: TextDecorator, G: Tagging<D::Annotation>>(
 }
 
 /// Opens a node as the next cell of a row. If the cell is skipped, so are all nodes in it.
-#[inline(never)]
+#[inline(always)]
 fn open_cell<D: TextDecorator, G: Tagging<D::Annotation>>(
     alloc: Global,
     node: &RenderNode,

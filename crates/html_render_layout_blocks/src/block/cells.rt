@@ -39,6 +39,7 @@ pub enum CellPlace<T> {
 
 /// Opens the next of the rows ahead, or an empty row if there is none. Its kept cells have the memory of a row that `picture`
 /// has drawn.
+#[inline(always)]
 fn next_row<T: Tag, M: Copy>(
     alloc: Global,
     picture: &mut Picture<T, M>,
@@ -276,6 +277,7 @@ impl<T: Tag, M: Copy> Block<T, M> {
     }
 
     /// Adds a flushed block as a cell to the open row, if there is one.
+    #[inline(always)]
     fn add_to_row(&mut self, cell: &mut Block<T, M>) -> Result<(), AllocError>
         ensures { OnOk result (self.new ≡ record self.old {
           table = option_map (with_next (record {

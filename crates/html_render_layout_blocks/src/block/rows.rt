@@ -289,6 +289,7 @@ impl Widths {
 impl<T: Tag, M: Copy> OpenRow<T, M> {
     /// Returns an open row with these cells, placeholders and gaps ahead, over columns of these widths. Its kept cells are those
     /// of `row`, which has none yet.
+    #[inline(always)]
     pub fn new(
         alloc: Global,
         widths: &mut Widths,
