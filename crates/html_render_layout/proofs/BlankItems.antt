@@ -16,7 +16,7 @@ use Rattle.html_render_layout_nodes.specs.declared.tree.NodeKind.{NodeKind}
 use Rattle.html_render_layout_nodes.specs.declared.tree.NodeKind.TheVariants.{Text}
 use Rattle.html_render_layout_nodes.specs.declared.tree.NodeStyle.{NodeStyle}
 use Rattle.html_render_layout_nodes.specs.declared.tree.RenderNode.{RenderNode}
-use Rattle.html_render_layout_nodes.specs.Visitor.{Way, Past, past}
+use Rattle.html_render_layout_nodes.specs.Visits.{Way, Past, past}
 use Rattle.html_render_layout_blocks.specs.Machine as machine
 use Rattle.html_render_layout_blocks.specs.Machine.{MachineBlock}
 use Rattle.html_render_layout_blocks.specs.declared.held.Prefixing.{Prefixing}
@@ -53,7 +53,7 @@ module _ {S A K T : Type 0} (d : Decoration S A) (push : K → T → A → K × 
   Ways = Way St (OpenNode S T (Prefixing (MachineBlock T ℕ) T) (MachineBlock T ℕ))
 
   -- a style that changes nothing
-  plain-style : (q : St) (style : NodeStyle) → IsPlain style → perform_all algebra q (style_steps d style) q ≡ Some q
+  pub plain-style : (q : St) (style : NodeStyle) → IsPlain style → perform_all algebra q (style_steps d style) q ≡ Some q
   plain-style q style is =
       let steps : Option _ → Option _ → WhiteSpace → Bool → Option St = λ colour background mode preformatted.
       perform_all algebra q (style_steps d (record style { colour = colour; background = background; white_space = mode; preformatted = preformatted })) q in

@@ -7,7 +7,7 @@ use Rattle.html_render_parts.specs.Decoration.{Decoration}
 use Rattle.html_render_layout_lines.specs.Line.{Line}
 use Rattle.html_render_layout_lines.specs.Visible.{visible_in_lines}
 use Rattle.html_render_layout_nodes.specs.declared.tree.RenderNode.{RenderNode}
-use Rattle.html_render_layout_nodes.specs.Visitor.{bare, nodes_at}
+use Rattle.html_render_layout_nodes.specs.Visits.{bare, nodes_at}
 use Rattle.html_render_layout_blocks.specs.declared.block.BlockSetting.{BlockSetting}
 use Rattle.html_render_layout_blocks.specs.Visible.{visible_in_text}
 use Rattle.html_render_layout_pictures.specs.Visible.{count}

@@ -27,7 +27,7 @@ use Rattle.html_render_layout_nodes.specs.declared.tree.NodeKind.TheVariants.{Ta
 use Rattle.html_render_layout_nodes.specs.declared.tree.NodeStyle.{NodeStyle}
 use Rattle.html_render_layout_nodes.specs.declared.tree.Estimate.{Estimate}
 use Rattle.html_render_layout_nodes.specs.declared.tree.RenderNode.{RenderNode}
-use Rattle.html_render_layout_nodes.specs.Visitor.{NodePlace, Bare, Skipped, Within, bare, Visit, Leaf, Inner, Visits, placed, run}
+use Rattle.html_render_layout_nodes.specs.Visits.{NodePlace, Bare, Skipped, Within, bare, Visit, Leaf, Inner, Visits, placed, run}
 use Rattle.html_render_layout_blocks.specs.declared.block.BlockSetting.{BlockSetting}
 use Rattle.html_render_layout_blocks.specs.Operations.{Operations}
 use Rattle.html_render_layout_blocks.specs.Block.{empty_block, end_document}

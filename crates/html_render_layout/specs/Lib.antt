@@ -7,6 +7,8 @@ pub mod Layout
 pub mod Opening
 -- texts that show nothing as items of lists
 pub mod Blank
+-- cells of a table that hold one text
+pub mod TextCells
 pub mod Working
 -- the texts of a document that its lines show
 pub mod Kept

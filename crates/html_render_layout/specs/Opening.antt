@@ -1,5 +1,5 @@
 -- The walk's machine: opening and closing a node, with the pending work as data.
-use Rattle.std.specs.Prelude.{Bool, ℕ, ℤ, pos, ◌+◌, ◌-◌, ◌+ℤ◌, ◌++◌, List, codes, length, Option, Some, None, option_map, option_and_then, if◌then◌else◌}
+use Rattle.std.specs.Prelude.{Bool, true, false, ℕ, ℤ, pos, ◌+◌, ◌-◌, ◌+ℤ◌, ◌++◌, List, codes, length, Option, Some, None, option_map, option_and_then, if◌then◌else◌}
 use Rattle.std.specs.Char.{is_ascii_digit}
 use Rattle.std.specs.Fmt.{decimal}
 use Rattle.std.specs.List.{list_all}
@@ -16,7 +16,7 @@ use Rattle.html_render_layout_nodes.specs.declared.tree.NodeKind.{NodeKind}
 use Rattle.html_render_layout_nodes.specs.declared.tree.NodeKind.TheVariants.{Block, Div, Emphasis, Ul, Ol, ListItem, Dt, Strikeout, Superscript, Link, Table, TableRow}
 use Rattle.html_render_layout_nodes.specs.declared.tree.NodeStyle.{NodeStyle}
 use Rattle.html_render_layout_nodes.specs.declared.tree.RenderNode.{RenderNode}
-use Rattle.html_render_layout_nodes.specs.Visitor.{Visits, Places, Way, Into, Past, past, opened_with}
+use Rattle.html_render_layout_nodes.specs.Visits.{Visits, Places, Way, Into, Past, past, opened_with}
 use Rattle.html_render_layout.specs.Layout.{OwnBlock}
 use Rattle.html_render_layout.specs.Layout as layout
 use Rattle.html_render_layout.specs.Layout.{Shared, Prefixed}
@@ -40,6 +40,13 @@ number_from first n = saturate_signed w64 (first +ℤ pos n)
 -- digits of the text of a node, of ASCII digits alone; none for any other node
 abbrev pub digits_of_kind : NodeKind → Option (List ℕ)
 digits_of_kind kind = option_and_then (λ t. if list_all is_ascii_digit t then Some t else None) (kind_text kind)
+
+-- whether the children of a node share a block, by its closing action: those of a row are cells, and those of a list items
+abbrev pub children_share : {S T P B : Type 0} → CloseAction S T P B → Bool
+children_share EndRow = false
+children_share (Bullets bullet min_width) = false
+children_share (Numbers first columns min_width) = false
+children_share _ = true
 
 module _ {S A K T B : Type 0} (m : Algebra S A K T B) where
   -- state after characters are added in a style, with U+0336 if texts are struck out

@@ -159,7 +159,7 @@ pub fn is_blank<T: Copy>(node: &RenderNode, text: &TextContext<T>) -> bool
 
 /// Reports whether a style changes nothing of texts.
 #[inline(always)]
-fn is_plain(style: &NodeStyle) -> bool
+pub fn is_plain(style: &NodeStyle) -> bool
     ensures { OnTrue result (IsPlain style.now) }
 {
     style.colour.is_none()

@@ -10,7 +10,7 @@ ghost use Rattle.html_render_layout_blocks.specs.Ends.{ended_by};
 ghost use Rattle.html_render_layout_blocks.specs.Machine as machine;
 ghost use Rattle.html_render_layout_blocks.specs.Machine.{machine};
 ghost use Rattle.html_render_layout_nodes.specs.Counts.{CountsNodes};
-ghost use Rattle.html_render_layout_nodes.specs.Visitor.{run};
+ghost use Rattle.html_render_layout_nodes.specs.Visits.{run};
 ghost use Rattle.html_render_layout_estimates.specs.Passes.{with_needed_sizes};
 ghost use Rattle.html_render_layout.specs.Layout.{by_stacks, layout_of, shown_after, empty_state};
 ghost use Rattle.html_render_layout.specs.Layout.{estimated, layout_lines, mark_names, unannotated};
@@ -31,14 +31,13 @@ use html_render_layout_buffer::finished::FinishedLines;
 use html_render_layout_estimates::estimate::measure;
 use html_render_layout_estimates::settings::LayoutSettings;
 use html_render_layout_lines::tag::Tag;
-use html_render_layout_nodes::tree::{Entry, PreorderForest, RenderNode, RenderTree};
-use html_render_layout_nodes::visitor::{Visitor, walk};
+use html_render_layout_nodes::tree::{PreorderForest, RenderNode, RenderTree};
 use html_render_layout_tagged::laid_out::{LaidOut, TextList};
 use html_render_layout_tagged::stacks::Stacks;
 use html_render_parts::decorate::TextDecorator;
 use html_render_parts_widths::Meter;
 use std::alloc::Global;
-use std::marker::PhantomData;
+use tree::walk_tree;
 
 mod emphasis;
 mod ending;
@@ -47,50 +46,9 @@ mod links;
 mod steps;
 mod superscripts;
 mod tables;
+mod text_cells;
 mod texts;
-
-/// The visitor that lays out a tree.
-struct Layout<D, G> {
-    /// Decorator and tagging of the layout.
-    of: PhantomData<(D, G)>,
-}
-
-impl<D: TextDecorator, G: Tagging<D::Annotation>> Visitor for Layout<D, G> {
-    type Node = RenderNode;
-
-    type State = State<D, G>;
-
-    type Kept = Kept<D, G>;
-
-    ghost visits = { walk_visits (by_tags D.decoration G.annotated) };
-
-    ghost below = { walk_below (by_tags D.decoration G.annotated) };
-
-    ghost opened = { walk_opened (by_tags D.decoration G.annotated) };
-
-    ghost closed = { walk_closed (by_tags D.decoration G.annotated) };
-
-    ghost told = { walk-told (by_tags D.decoration G.annotated) };
-
-    /// Opens a node by its kind and its style.
-    #[tactic(auto, unfolding(crate::specs::Opening::walk_opened))]
-    fn open(
-        alloc: Global,
-        node: &RenderNode,
-        children: &[Entry<RenderNode>],
-        parent: Option<&Kept<D, G>>,
-        number: usize,
-        state: &mut State<D, G>,
-    ) -> Result<Option<Kept<D, G>>, Error> {
-        steps::open(alloc, node, children, parent, number, state)
-    }
-
-    /// Closes a node.
-    #[tactic(auto, unfolding(crate::specs::Opening::walk_closed))]
-    fn close(alloc: Global, kept: Kept<D, G>, state: &mut State<D, G>) -> Result<(), Error> {
-        steps::close(alloc, kept, state)
-    }
-}
+mod tree;
 
 /// Returns the state in which a layout begins.
 fn begin_with<D: TextDecorator, G: Tagging<D::Annotation>>(
@@ -119,20 +77,6 @@ fn begin_with<D: TextDecorator, G: Tagging<D::Annotation>>(
         targets: TextList::new(alloc),
         names: TextList::new(alloc),
     }
-}
-
-/// Lays out a tree from a state.
-fn walk_tree<D: TextDecorator, G: Tagging<D::Annotation>>(
-    alloc: Global,
-    tree: &PreorderForest<RenderNode>,
-    state: &mut State<D, G>,
-    meter: &mut Meter,
-) -> Result<(), Error>
-    ensures ok { OnOk result (run (walk_visits (by_tags D.decoration G.annotated)) tree.now state.old ≡ Some state.new) }
-    ensures err { IfErr result (λ e. Refuses e (run (walk_visits (by_tags D.decoration G.annotated)) tree.now state.old)) }
-    ensures counts { CountsNodes result (walk_visits (by_tags D.decoration G.annotated)) tree.now state.old meter.old meter.new }
-{
-    walk::<Layout<D, G>>(alloc, tree, state, meter)
 }
 
 /// Lays out a tree, and closes the document under the tag of its first texts.

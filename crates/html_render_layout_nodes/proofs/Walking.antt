@@ -10,13 +10,13 @@ use Rattle.std.specs.Result.{IsErrAnd}
 use Rattle.html_render_dom_values.specs.declared.errors.Error.{Error}
 use Rattle.html_render_dom_values.specs.Forest.{Forest, none, node}
 use Rattle.html_render_dom_values.specs.Outcome.{Refuses}
-use Rattle.html_render_dom_values.specs.laws.Outcome.{Refuses-then, Refuses-same}
+use Rattle.html_render_dom_values.specs.laws.Outcome.{Refuses-then, Refuses-same, Refuses-memory}
 use Rattle.html_render_parts_widths.specs.declared.Meter.{Meter}
 use Rattle.html_render_layout_nodes.specs.Counts.{CountsNodes}
 use Rattle.html_render_layout_nodes.specs.declared.tree.Entry.{Entry}
-use Rattle.html_render_layout_nodes.specs.declared.visitor.Frame.{Frame}
-use Rattle.html_render_layout_nodes.specs.Visitor.{Visit, Leaf, Inner, Visits, Places, placed, through_visit, inside, Way, Into, Past, run, run_at, places_in}
-use Rattle.html_render_layout_nodes.specs.Visitor.{IsOpened, nodes_at, visited, open_at, most_open}
+use Rattle.html_render_layout_nodes.specs.declared.frames.Frame.{Frame}
+use Rattle.html_render_layout_nodes.specs.Visits.{Visit, Leaf, Inner, Visits, Places, placed, through_visit, inside, Way, Into, Past, run, run_at, places_in}
+use Rattle.html_render_layout_nodes.specs.Visits.{IsOpened, nodes_at, visited, open_at, most_open, passed_in, pair_at, RefusesPair}
 use Rattle.html_render_layout_nodes.specs.Walk.{innermost}
 use Rattle.html_render_layout_nodes.specs.Preorder.{flatten}
 use Rattle.html_render_layout_nodes.specs.laws.Counts.{failed-counted}
@@ -159,6 +159,16 @@ module _ {K S T : Type 0} (d : How K S T) where
           ∙ same_counts _ _ _ _ _ (omega arith) (omega arith) ∙ along b n m (option_and_then after o)
           ∙ same_counts _ _ _ _ _ (omega (arith, length-append (nodes_at true d.visits below 0 children q) then_beside)) (omega arith)
 
+  -- the outcome of an only child without children, by its way
+  paired : (h : ℕ) (child : K) (l : T) (q : S) (v : Option (Way S T)) → d.opened (Some l) 0 child none q ≡ v → (next : S → Outcome S) →
+      behind 0 (suc h) (walked (suc h) (d.below l) 0 (node child none none) q (λ r. from_step (d.closed l r) next))
+      ≡ behind 1 (suc h) (by_way v (λ below r after. behind 0 (suc (suc h)) (walked (suc (suc h)) below 0 none r after)) (λ r. from_step (d.closed l r) next))
+  paired h child l q v is next =
+      ap (λ o. behind 0 (suc h) (behind 1 0 o)) (visit-way _ _ (d.told (Some l) 0 child none q)
+      (λ below r after. behind 0 (suc (suc h)) (walked (suc (suc h)) below 0 none r after)) (λ r. from_step (d.closed l r) next)
+      ∙ ap (λ w. by_way w (λ below r after. behind 0 (suc (suc h)) (walked (suc (suc h)) below 0 none r after)) (λ r. from_step (d.closed l r) next)) is)
+      ∙ same_counts _ _ _ _ _ (omega arith) (omega arith)
+
 -- ---- the open nodes
 
 slice_get-last : {X : Type 0} (xs : List X) (x : X) → slice_get (xs ++ x ∷ []) (length xs) ≡ Some x
@@ -222,7 +232,7 @@ module _ {K S T : Type 0} (d : How K S T) where
       by_way d w (λ below q next. behind 0 (suc (length path)) (walked d (suc (length path)) below 0 children q next)) (onward path number beside)
 
 -- The state of a walk at the index `next`. So far `entered` nodes are visited and at most `most` were open at once. The next
--- node has the number `number`, and `s` is the visitor's state.
+-- node has the number `number`, and `s` is the state.
 pub record Walking {K S T : Type 0} (d : How K S T) (nodes : List (Entry K)) (all : Outcome S) (frames : List (Frame T))
     (entered most next number : ℕ) (s : S) : Type 0 where
   pub rest : Forest K
@@ -403,6 +413,65 @@ module _ {K S T : Type 0} {d : How K S T} where
 
         pub Opening-refuses : (why : Error) → Refuses why (d.opened p number e.node trees s) → Refuses why all.state
         Opening-refuses why h = refuses_from why (entered + 1) most (d.opened p number e.node trees s) _ (comes_by _ refl) h
+
+        -- a pair is followed by the next sibling
+        pair-comes : (below : Forest K) → below ≡ w.children → (v : Option (Way S T)) → d.opened p number e.node below s ≡ v → (o : Option S) →
+            pair_at d.opened d.closed p number e.node below s ≡ Some o →
+            (behind (entered + 2) (max most (length frames + 1)) (from_step o (onward d w.path (number + 1) w.beside)) ≡ all) × (e.subtree_len ≡ 2)
+        pair-comes none is v step o pair = absurd cc
+        pair-comes (node child (node a b c) beside) is v step o pair = absurd cc
+        pair-comes (node child none (node a b c)) is v step o pair = absurd cc
+        pair-comes (node child none none) is None step o pair = let none_in : None ≡ Some o = rw step at pair in absurd cc
+        pair-comes (node child none none) is (Some (Past t)) step o pair = let none_in : None ≡ Some o = rw step at pair in absurd cc
+        pair-comes (node child none none) is (Some (Into q l)) step o pair =
+            (by (d.opened (Some l) 0 child none q) refl (rw step at pair), omega (arith, w.subtree_len, ap (λ f. length (flatten f)) is))
+          where
+            next_sibling : S → Outcome S
+            next_sibling = onward d w.path (number + 1) w.beside
+
+            start : behind (entered + 1) most (behind 0 (suc (length w.path))
+                (walked d (suc (length w.path)) (d.below l) 0 (node child none none) q (λ r. from_step (d.closed l r) next_sibling))) ≡ all
+            start = ap (λ f. behind (entered + 1) most (beyond d w.path (number + 1) f w.beside (Some (Into q l)))) is
+                ∙ comes_by _ (ap (λ f. d.opened p number e.node f s) (same ∙ sym is) ∙ step)
+
+            by : (x : Option (Way S T)) → d.opened (Some l) 0 child none q ≡ x → passed_in d.closed l x ≡ Some o →
+                behind (entered + 2) (max most (length frames + 1)) (from_step o next_sibling) ≡ all
+            by None opens passed =
+                let same_state : None ≡ o = cc in
+                subst (λ x. behind (entered + 2) (max most (length frames + 1)) (from_step x next_sibling) ≡ all) same_state
+                (same_counts _ _ _ _ _ (omega arith) (omega (arith, ap length w.stack, length-frames_of w.path))
+                ∙ ap (behind (entered + 1) most) (sym (paired d (length w.path) child l q None opens next_sibling)) ∙ start)
+            by (Some (Past r)) opens passed =
+                let same_state : d.closed l r ≡ o = cc in
+                subst (λ x. behind (entered + 2) (max most (length frames + 1)) (from_step x next_sibling) ≡ all) same_state
+                (same_counts _ _ _ _ _ (omega arith) (omega (arith, ap length w.stack, length-frames_of w.path))
+                ∙ ap (behind (entered + 1) most) (sym (paired d (length w.path) child l q (Some (Past r)) opens next_sibling)) ∙ start)
+            by (Some (Into r inner)) opens passed = absurd cc
+
+        -- after a pair the walk continues with the next sibling
+        pub Opening-pair : {t : S} → pair_at d.opened d.closed p number e.node trees s ≡ Some (Some t) →
+            Walking d nodes all frames (entered + e.subtree_len) (max most (length frames + 1)) (next + e.subtree_len) (number + 1) t
+        Opening-pair {t = t} pair =
+            let comes = pair-comes trees same _ refl (Some t) pair in
+            let at : next + 1 + length (flatten w.children) ≡ next + e.subtree_len = omega (arith, w.subtree_len) in
+            record {
+              rest = w.beside;
+              path = w.path;
+              stack = w.stack;
+              ahead = sym (ap (λ n. drop n nodes) at) ∙ sym (drop-drop (length (flatten w.children)) (next + 1) nodes)
+                  ∙ ap (drop (length (flatten w.children))) w.ahead
+                  ∙ drop-append_seam (flatten w.children) (flatten w.beside ++ tails w.path);
+              ends = w.ends;
+              comes = ap (λ n. behind (entered + n) (max most (length frames + 1)) (onward d w.path (number + 1) w.beside t)) comes.1 ∙ comes.0;
+            }
+
+        pub Opening-pair-refuses : (why : Error) → RefusesPair why (pair_at d.opened d.closed p number e.node trees s) → Refuses why all.state
+        Opening-pair-refuses why h = by (pair_at d.opened d.closed p number e.node trees s) refl h
+          where
+            by : (o : Option (Option S)) → pair_at d.opened d.closed p number e.node trees s ≡ o → RefusesPair why o → Refuses why all.state
+            by None is h = Refuses-memory why all.state h
+            by (Some o) is h =
+                refuses_from why (entered + 2) (max most (length frames + 1)) o _ (pair-comes trees same _ refl o is).0 h
 
       -- the end of the node's subtree is within the nodes
       pub Opening-end : next + e.subtree_len ≤ length nodes

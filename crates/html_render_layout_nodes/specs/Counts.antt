@@ -2,7 +2,7 @@
 use Rattle.std.specs.Prelude.{◌≡◌, ◌≤◌, length, Result, OnOk}
 use Rattle.html_render_dom_values.specs.Forest.{Forest, count, depth}
 use Rattle.html_render_parts_widths.specs.declared.Meter.{Meter}
-use Rattle.html_render_layout_nodes.specs.Visitor.{Visits, visited, most_open}
+use Rattle.html_render_layout_nodes.specs.Visits.{Visits, visited, most_open}
 
 -- Whether a meter has the counts of a walk over a tree from the state `s`. After a result, `entered` and `left` are the
 -- number of nodes that a run visits, and `frames` is the greatest number of them open at once. After an error they are at

@@ -6,8 +6,8 @@ pub mod Splits
 -- properties of each kind of node, and the dump of a tree
 pub mod Kinds
 pub mod Dump
--- the walk: the result of a visitor, and its counts
-pub mod Visitor
+-- the walk: the visit of each node, and the counts of visits
+pub mod Visits
 pub mod Counts
 pub mod Walk
 -- the depths of the nodes

@@ -4,6 +4,7 @@ ghost use Rattle.std.specs.Prelude.{◌≡◌, ◌==◌, ◌++◌, ◌∷◌, []
 ghost use Rattle.std.specs.List.{list_any};
 ghost use Rattle.html_render_layout_lines.specs.Line.{is_empty};
 ghost use Rattle.html_render_layout_pictures.specs.Picture as definition;
+ghost use Rattle.html_render_layout_pictures.specs.RowCells.{cells_of, line_total};
 ghost use Rattle.html_render_layout_pictures.specs.Separators.{separators_between};
 
 use html_render_layout_buffer::buffer::LineBuffer;
@@ -23,11 +24,17 @@ pub(crate) struct RowCell<M> {
     pub marks: Vec<M>,
 }
 
-/// The kept cells of a row, with their lines one after another.
+/// Kept cells, with their lines one after another.
+#[derive(Drop)]
+pub(crate) struct RowContents<T, M> {
+    pub cells: Vec<RowCell<M>>,
+    pub lines: FinishedLines<T, M>,
+}
+
+/// The kept cells of a row, with their lines. They are boxed, so that moving a row is cheap.
 #[derive(Drop)]
 pub struct RowCells<T, M> {
-    pub(crate) cells: Vec<RowCell<M>>,
-    pub(crate) lines: FinishedLines<T, M>,
+    pub(crate) held: Box<RowContents<T, M>>,
 }
 
 impl<T, M> Model for RowCells<T, M> {
@@ -37,50 +44,69 @@ impl<T, M> Model for RowCells<T, M> {
 
     ghost Value = { List (KeptCell T M) };
 
-    ghost view = { λ r. cells_of r.cells.items r.lines };
+    ghost view = { λ r. cells_of r.held.value.cells.items r.held.value.lines };
 
-    ghost invariant = { λ r. line_total r.cells.items ≡ length r.lines };
+    ghost invariant = { λ r. line_total r.held.value.cells.items ≡ length r.held.value.lines };
 }
 
 impl<T: Tag, M: Copy> RowCells<T, M> {
     /// Returns a row without cells.
-    pub fn new(alloc: Global) -> RowCells<T, M>
-        ensures { result ≡ [] }
+    ///
+    /// # Errors
+    ///
+    /// `AllocError`.
+    pub fn new(alloc: Global) -> Result<RowCells<T, M>, AllocError>
+        ensures { IfOk result (λ row. row ≡ []) }
     {
-        RowCells {
+        let none = RowContents {
             cells: Vec::new(alloc),
             lines: FinishedLines::new(alloc),
-        }
+        };
+        Ok(RowCells {
+            held: Box::new(alloc, none)?,
+        })
     }
 
     /// Returns a row without cells, in the memory of another one's cells and lines.
     pub(crate) fn in_memory_of(
+        alloc: Global,
         mut cells: Vec<RowCell<M>>,
         mut lines: LineBuffer<T, M>,
-    ) -> RowCells<T, M>
-        ensures { result ≡ [] }
+    ) -> Result<RowCells<T, M>, AllocError>
+        ensures { IfOk result (λ row. row ≡ []) }
     {
         cells.clear();
         lines.clear();
-        RowCells {
+        let none = RowContents {
             cells,
             lines: FinishedLines::from_buffer(lines),
-        }
+        };
+        Ok(RowCells {
+            held: Box::new(alloc, none)?,
+        })
+    }
+
+    /// Returns the cells and their lines.
+    pub(crate) fn into_contents(self) -> RowContents<T, M>
+        ensures cells { cells_of result.cells.items result.lines ≡ self }
+        ensures lines { line_total result.cells.items ≡ length result.lines }
+    {
+        Box::into_inner(self.held)
     }
 
     /// Removes all cells, and keeps the memory.
     pub(crate) fn clear(&mut self)
         ensures { self.new ≡ [] }
     {
-        self.cells.clear();
-        self.lines.clear();
+        self.held.cells.clear();
+        self.held.lines.clear();
     }
 
     /// Returns the number of cells.
     pub(crate) fn len(&self) -> usize
         ensures { result ≡ length self.now }
     {
-        self.cells.as_slice().len()
+        self.held.cells.as_slice().len()
     }
 
     /// Appends a cell, whose lines are moved out of `lines`.
@@ -97,18 +123,18 @@ impl<T: Tag, M: Copy> RowCells<T, M> {
         ensures { OnOk result (self.new ≡ self.old ++ record { width = width; lines = lines.old; marks = marks.items } ∷ []) }
     {
         let count = lines.line_count()?;
-        self.cells.reserve(1)?;
-        let appended = self.lines.append(lines);
+        self.held.cells.reserve(1)?;
+        let appended = self.held.lines.append(lines);
         match appended {
-            Ok(()) => self.cells.push_reserved(RowCell {
+            Ok(()) => self.held.cells.push_reserved(RowCell {
                 width,
                 count,
                 marks,
             }),
             // Memory ran out.
             Err(_) => {
-                self.cells.clear();
-                self.lines.clear();
+                self.held.cells.clear();
+                self.held.lines.clear();
             }
         }
         appended
@@ -122,7 +148,7 @@ impl<T: Tag, M: Copy> RowCells<T, M> {
     pub fn push_empty(&mut self, alloc: Global, width: usize) -> Result<(), AllocError>
         ensures { OnOk result (self.new ≡ self.old ++ record { width = width; lines = []; marks = [] } ∷ []) }
     {
-        self.cells.push(RowCell {
+        self.held.cells.push(RowCell {
             width,
             count: 0,
             marks: Vec::new(alloc),
@@ -134,14 +160,14 @@ impl<T: Tag, M: Copy> RowCells<T, M> {
     pub(crate) fn has_lines(&self) -> bool
         ensures { result ≡ list_any (λ c. not (is_empty c.lines)) self.now }
     {
-        !self.lines.is_empty()
+        !self.held.lines.is_empty()
     }
 
     /// Appends the marks of cells without lines to those that wait, from left to right.
     pub(crate) fn wait_for_lines(&self, waiting: &mut Vec<M>) -> Result<(), AllocError>
         ensures { OnOk result (waiting.new.items ≡ waiting.old.items ++ definition.waiting_in self.now) }
     {
-        let cells = self.cells.as_slice();
+        let cells = self.held.cells.as_slice();
         for cell in cells {
             wait_for_line(waiting, cell)?;
         }
@@ -153,7 +179,7 @@ impl<T: Tag, M: Copy> RowCells<T, M> {
         ensures { OnOk result (separators_between widths.new.items ≡ definition.separators_of self.now) }
     {
         widths.clear();
-        let cells = self.cells.as_slice();
+        let cells = self.held.cells.as_slice();
         for cell in cells {
             widths.push(cell.width)?;
         }

@@ -9,7 +9,7 @@ ghost use Rattle.html_render_layout_pictures.specs.Drawing.{appended};
 ghost use Rattle.html_render_layout_buffer.specs.Marked.{marked_before};
 ghost use Rattle.html_render_layout_pictures.specs.Separators.{separators_between};
 
-use crate::cells::RowCells;
+use crate::cells::{RowCells, RowContents};
 use html_render_dom_values::Error;
 use html_render_layout_buffer::buffer::LineBuffer;
 use html_render_layout_buffer::finished::FinishedLines;
@@ -78,7 +78,7 @@ impl<T: Tag> Frame<T> {
         requires { length row ≡ 1 }
         ensures { IfOk result (λ lines. lines ≡ definition.row_lines self.now row) }
     {
-        let RowCells { cells, mut lines } = row;
+        let RowContents { cells, mut lines } = row.into_contents();
         let [cell, ..] = cells.as_slice() else {
             return Ok(lines);
         };
@@ -104,14 +104,14 @@ impl<T: Tag> Frame<T> {
             (to.new ≡ record { lines = to.old.lines ++ definition.row_lines self.now row.now; line = [] })
             (to.new ≡ to.old)) }
     {
-        let [cell, ..] = row.cells.as_slice() else {
+        let [cell, ..] = row.held.cells.as_slice() else {
             return Ok(false);
         };
         let marks = cell.marks.as_slice();
         if cell.count == 0 || !marks.is_empty() {
             return Ok(false);
         }
-        let Some(lines) = row.lines.few() else {
+        let Some(lines) = row.held.lines.few() else {
             return Ok(false);
         };
         to.append_filled(lines, cell.width, self.tag)?;
@@ -268,14 +268,18 @@ impl<T: Tag, M: Copy> Picture<T, M> {
     }
 
     /// Removes and returns a row without cells, in the memory of one that is drawn, or a new one.
-    pub fn take_row(&mut self) -> RowCells<T, M>
+    ///
+    /// # Errors
+    ///
+    /// `AllocError`.
+    pub fn take_row(&mut self) -> Result<RowCells<T, M>, AllocError>
         ensures same { self.new ≡ self.old }
-        ensures none { result ≡ [] }
+        ensures none { IfOk result (λ row. row ≡ []) }
     {
         match self.spare.take() {
             Some(mut row) => {
                 row.clear();
-                row
+                Ok(row)
             }
             None => RowCells::new(self.alloc),
         }

@@ -17,7 +17,7 @@ ghost use Rattle.html_render_layout_pictures.specs.RowCells.{cell_at, cells_of, 
 ghost use Rattle.html_render_layout_pictures.specs.Rows.{filled_at, marked_cell, row_line, cells_behind, rows_put, separator};
 
 use crate::blank::{Blank, add_blank_cell, first_blank_cell};
-use crate::cells::{RowCell, RowCells};
+use crate::cells::{RowCell, RowCells, RowContents};
 use crate::gaps::{CHUNK, Filler, gap, push_fillers};
 use crate::picture::Frame;
 use crate::plain::has_no_marks;
@@ -366,11 +366,11 @@ impl<T: Tag> Frame<T> {
             (to.new ≡ to.old)) }
         ensures err { OnErr result (to.new ≡ no_lines) }
     {
-        let Some(lines) = row.lines.few() else {
+        let Some(lines) = row.held.lines.few() else {
             return Ok(false);
         };
         to.push_marks(marks)?;
-        self.put_lines_or_clear(alloc, to, row.cells.as_slice(), lines)?;
+        self.put_lines_or_clear(alloc, to, row.held.cells.as_slice(), lines)?;
         Ok(true)
     }
 
@@ -385,9 +385,9 @@ impl<T: Tag> Frame<T> {
         ensures drawn { OnOk result (to.new ≡ rows_put to.old (definition.row_lines self.now row)) }
         ensures memory { IfOk result (λ r. r ≡ []) }
     {
-        let RowCells { cells, lines } = row;
+        let RowContents { cells, lines } = row.into_contents();
         let lines = lines.into_buffer()?;
         self.put_lines(alloc, to, cells.as_slice(), &lines)?;
-        Ok(RowCells::in_memory_of(cells, lines))
+        RowCells::in_memory_of(alloc, cells, lines)
     }
 }

@@ -5,7 +5,7 @@ use Rattle.html_render_dom_values.specs.Forest.{Forest, none, node, count}
 use Rattle.html_render_layout_nodes.specs.declared.tree.NodeKind.{NodeKind}
 use Rattle.html_render_layout_nodes.specs.declared.tree.NodeKind.TheVariants.{Superscript, TableCell}
 use Rattle.html_render_layout_nodes.specs.declared.tree.RenderNode.{RenderNode}
-use Rattle.html_render_layout_nodes.specs.Visitor.{Visits, Places, bare, placed, through_visit, inside, run_at, is_skipped, visited}
+use Rattle.html_render_layout_nodes.specs.Visits.{Visits, Places, bare, placed, through_visit, inside, run_at, is_skipped, visited}
 use Rattle.html_render_layout.specs.Layout.{digits_of}
 
 -- nodes of trees in pre-order

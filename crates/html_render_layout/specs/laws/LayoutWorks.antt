@@ -27,7 +27,7 @@ use Rattle.html_render_layout_blocks.specs.laws.Related.{OptionTags, either}
 use Rattle.html_render_layout_tagged.specs.Stacks.{stack_at}
 use Rattle.html_render_layout_tagged.specs.LaidOut.{tagged}
 use Rattle.html_render_layout_nodes.specs.Counts.{CountsNodes}
-use Rattle.html_render_layout_nodes.specs.Visitor.{visited, most_open}
+use Rattle.html_render_layout_nodes.specs.Visits.{visited, most_open}
 use Rattle.html_render_layout_nodes.specs.laws.Counts.{counts-same}
 use Rattle.html_render_layout_estimates.specs.declared.settings.LayoutSettings.{LayoutSettings}
 use Rattle.html_render_layout.specs.Layout.{by_stacks, layout_of, shown_after, Defined, empty_state}

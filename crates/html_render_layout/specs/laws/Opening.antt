@@ -9,8 +9,8 @@ use Rattle.html_render_layout_nodes.specs.declared.tree.Estimate.{Estimate}
 use Rattle.html_render_layout_nodes.specs.declared.tree.NodeKind.{NodeKind}
 use Rattle.html_render_layout_nodes.specs.declared.tree.NodeKind.TheVariants.{Text, Break, Header, BlockQuote, Dd, Superscript, Image, Svg, FragmentStart, Table}
 use Rattle.html_render_layout_nodes.specs.declared.tree.RenderNode.{RenderNode}
-use Rattle.html_render_layout_nodes.specs.Visitor.{Visit, Leaf, Inner, followed, placed, places_in}
-use Rattle.html_render_layout_nodes.specs.Visitor.{Way, Past, past, opened_with, IsOpened}
+use Rattle.html_render_layout_nodes.specs.Visits.{Visit, Leaf, Inner, followed, placed, places_in}
+use Rattle.html_render_layout_nodes.specs.Visits.{Way, Past, past, opened_with, IsOpened}
 use Rattle.html_render_layout_nodes.specs.laws.Visits.{from_state}
 use Rattle.html_render_layout_estimates.specs.Estimates.{prefix_columns}
 use Rattle.html_render_layout.specs.Layout.{OwnBlock}

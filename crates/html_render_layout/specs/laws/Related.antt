@@ -11,8 +11,8 @@ use Rattle.html_render_layout_nodes.specs.declared.tree.Estimate.{Estimate}
 use Rattle.html_render_layout_nodes.specs.declared.tree.NodeKind.{NodeKind}
 use Rattle.html_render_layout_nodes.specs.declared.tree.RenderNode.{RenderNode}
 use Rattle.html_render_layout_estimates.specs.Estimates.{prefix_columns}
-use Rattle.html_render_layout_nodes.specs.Visitor.{NodePlace, Bare, Skipped, Within, Places, bare, Visit, Leaf, Inner, through_visit, inside, followed}
-use Rattle.html_render_layout_nodes.specs.Visitor.{placed, run_at, run, nodes_at, visited, open_at, most_open}
+use Rattle.html_render_layout_nodes.specs.Visits.{NodePlace, Bare, Skipped, Within, Places, bare, Visit, Leaf, Inner, through_visit, inside, followed}
+use Rattle.html_render_layout_nodes.specs.Visits.{placed, run_at, run, nodes_at, visited, open_at, most_open}
 use Rattle.html_render_layout_nodes.specs.laws.Visits.{from_state}
 use Rattle.html_render_layout_paragraphs.specs.laws.Answers.{Both, Both-then, Both-map, Both-weaken}
 use Rattle.html_render_layout_blocks.specs.Ends.{DocumentEnd, ended_by}

@@ -7,7 +7,7 @@ use Rattle.html_render_parts.specs.Decoration.{Decoration}
 use Rattle.html_render_layout_lines.specs.Line.{Line}
 use Rattle.html_render_layout_lines.specs.Tags.{lines_with}
 use Rattle.html_render_layout_nodes.specs.declared.tree.RenderNode.{RenderNode}
-use Rattle.html_render_layout_nodes.specs.Visitor.{visited, most_open}
+use Rattle.html_render_layout_nodes.specs.Visits.{visited, most_open}
 use Rattle.html_render_layout_blocks.specs.Definition as definition
 use Rattle.html_render_layout_blocks.specs.Ends.{ended_by}
 use Rattle.html_render_layout_blocks.specs.Definition.{DefinedBlock}

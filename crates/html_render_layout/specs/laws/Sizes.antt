@@ -10,8 +10,8 @@ use Rattle.html_render_layout_nodes.specs.declared.tree.NodeKind.{NodeKind}
 use Rattle.html_render_layout_nodes.specs.declared.tree.NodeKind.TheVariants.{BlockQuote, Superscript, Table}
 use Rattle.html_render_layout_nodes.specs.declared.tree.RenderNode.{RenderNode}
 use Rattle.html_render_layout_nodes.specs.Counts.{CountsNodes}
-use Rattle.html_render_layout_nodes.specs.Visitor.{NodePlace, Bare, Skipped, Within, Places, bare, through_visit, inside, followed}
-use Rattle.html_render_layout_nodes.specs.Visitor.{placed, run_at, run, nodes_at, open_at}
+use Rattle.html_render_layout_nodes.specs.Visits.{NodePlace, Bare, Skipped, Within, Places, bare, through_visit, inside, followed}
+use Rattle.html_render_layout_nodes.specs.Visits.{placed, run_at, run, nodes_at, open_at}
 use Rattle.html_render_layout_nodes.specs.laws.Visits.{from, from_state, count_from, length-from}
 use Rattle.html_render_layout_estimates.specs.Passes.{is_table, has_table, without_size, without_sizes, with_needed_sizes}
 use Rattle.html_render_layout.specs.declared.state.LayoutState.{LayoutState}

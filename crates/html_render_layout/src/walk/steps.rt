@@ -1,16 +1,17 @@
 //! Opening and closing of nodes, kind by kind.
 #![tactic(auto, using(html_render_dom_values::specs::laws::Outcome::refusals))]
 
-ghost use Rattle.std.specs.Prelude.{◌≡◌, ◌+◌, ◌-◌, ◌++◌, ◌∷◌, [], length, Some, OnOk, IfOk, IfErr, option_copied};
+ghost use Rattle.std.specs.Prelude.{◌≡◌, ◌+◌, ◌-◌, ◌++◌, ◌∷◌, [], length, true, Some, OnOk, IfOk, IfErr, MatchBool, option_copied};
+ghost use Rattle.std.specs.Option.{option_map_or};
 ghost use Rattle.html_render_dom_values.specs.Outcome.{OnlyOutOfMemory, Refuses};
 ghost use Rattle.html_render_layout_blocks.specs.Machine as machine;
-ghost use Rattle.html_render_layout_nodes.specs.Visitor.{way};
+ghost use Rattle.html_render_layout_nodes.specs.Visits.{Past, way};
 ghost use Rattle.html_render_layout_nodes.specs.Preorder.{flatten, forest_of};
 ghost use Rattle.html_render_parts.specs.Decoration.{link};
 ghost use Rattle.html_render_layout_estimates.specs.Estimates.{number_columns};
 ghost use Rattle.html_render_layout.specs.Layout.{AddTarget, BeginTable, Fence, NewLine, StartBlock, Strike, block_of, perform_all};
 ghost use Rattle.html_render_layout.specs.Layout.{start};
-ghost use Rattle.html_render_layout.specs.Opening.{child_block, block_begun, block_kept, continued};
+ghost use Rattle.html_render_layout.specs.Opening.{child_block, children_share, block_begun, block_kept, continued};
 ghost use Rattle.html_render_layout.specs.Opening.{kind_opened, kind_closed, opened_in, text_opened, cell_opened, block_opened, opened_below, keeping};
 ghost use Rattle.html_render_layout.specs.Opening.{opened, closed};
 ghost use Rattle.html_render_layout.specs.Working.{by_tags};
@@ -19,7 +20,7 @@ use super::emphasis::{begin_emphasis, begin_strikeout, begin_superscript, end_of
 use super::images::add_image;
 use super::links::{add_mark, begin_link, close_link};
 use super::superscripts::{digits_of, write_superscript};
-use super::tables::{begin_cell, begin_table, end_cell, end_table};
+use super::tables::{begin_cell, begin_table, end_cell, end_table, next_cell};
 use super::texts::add_text;
 use crate::bullet::Bullet;
 use crate::items::{begin_item, indent_of, is_blank};
@@ -29,7 +30,6 @@ use crate::styles::begin_style;
 use crate::tagging::Tagging;
 use crate::working::{Interrupted, Kept, KindKept, State};
 use html_render_dom_values::Error;
-use html_render_layout_blocks::held::BoxedBlock;
 use html_render_layout_estimates::estimate::number_columns;
 use html_render_layout_nodes::tree::{
     Emphasis, Entry, Estimate, Grid, NodeKind, NodeStyle, RenderNode,
@@ -448,56 +448,6 @@ fn open_in<D: TextDecorator, G: Tagging<D::Annotation>>(
     }
 }
 
-/// Opens a text in its style, in the block of its siblings. Returns `None`: a text has no pending work, and the state is the
-/// one after it.
-#[inline(always)]
-fn open_text<D: TextDecorator, G: Tagging<D::Annotation>>(
-    alloc: Global,
-    text: &str,
-    style: &NodeStyle,
-    state: &mut State<D, G>,
-) -> Result<Option<Kept<D, G>>, Error>
-    ensures ok { IfOk result (λ c. text_opened (by_tags D.decoration G.annotated) text.now style.now state.old ≡ Some (way state.new c)) }
-    ensures err { IfErr result (λ e. Refuses e (text_opened (by_tags D.decoration G.annotated) text.now style.now state.old)) }
-{
-    let context = begin_style(alloc, style, state)?;
-    add_text(alloc, text, state)?;
-    state.text = context;
-    Ok(None)
-}
-
-/// Opens a node in the block of its siblings. Most nodes are texts, which take a shorter path.
-#[inline(always)]
-fn open_shared<D: TextDecorator, G: Tagging<D::Annotation>>(
-    alloc: Global,
-    node: &RenderNode,
-    children: &[Entry<RenderNode>],
-    state: &mut State<D, G>,
-) -> Result<Option<Kept<D, G>>, Error>
-    requires { flatten (forest_of children.now) ≡ children.now }
-    ensures ok { IfOk result (λ c. opened_in (by_tags D.decoration G.annotated) Suspended.NoBlock node.now (forest_of children.now) state.old
-        ≡ Some (way state.new c)) }
-    ensures err { IfErr result (λ e. Refuses e (opened_in (by_tags D.decoration G.annotated) Suspended.NoBlock node.now (forest_of children.now)
-        state.old)) }
-{
-    if let NodeKind::Text(text) = &node.kind {
-        return open_text(alloc, text.as_str(), &node.style, state);
-    }
-    open_in(alloc, Suspended::NoBlock, node, children, state)
-}
-
-/// Returns the block for the next cell of a row; `None` if the cell is skipped.
-#[inline(always)]
-fn next_cell<D: TextDecorator, G: Tagging<D::Annotation>>(
-    state: &mut State<D, G>,
-) -> Result<Option<BoxedBlock<G::Tag, usize>>, Error>
-    ensures same { OnOk result (state.new ≡ state.old) }
-    ensures ok { IfOk result (λ cell. cell ≡ machine.operations.cell_block state.old.block) }
-    ensures err { OnlyOutOfMemory result }
-{
-    state.block.cell_block()
-}
-
 /// Opens a node as the next cell of a row. If the cell is skipped, so are all nodes in it.
 #[inline(always)]
 fn open_cell<D: TextDecorator, G: Tagging<D::Annotation>>(
@@ -582,7 +532,71 @@ pub fn open<D: TextDecorator, G: Tagging<D::Annotation>>(
             _ => {}
         }
     }
-    open_shared(alloc, node, children, state)
+    open_in(alloc, Suspended::NoBlock, node, children, state)
+}
+
+/// Adds a text in its style.
+#[inline(always)]
+fn add_node_text<D: TextDecorator, G: Tagging<D::Annotation>>(
+    alloc: Global,
+    text: &str,
+    style: &NodeStyle,
+    state: &mut State<D, G>,
+) -> Result<(), Error>
+    ensures ok { OnOk result (text_opened (by_tags D.decoration G.annotated) text.now style.now state.old ≡ Some (Past state.new)) }
+    ensures err { IfErr result (λ e. Refuses e (text_opened (by_tags D.decoration G.annotated) text.now style.now state.old)) }
+{
+    let context = begin_style(alloc, style, state)?;
+    add_text(alloc, text, state)?;
+    state.text = context;
+    Ok(())
+}
+
+/// Reports whether the children of an open node share a block. Those of a row are cells, those of a list are items, and all
+/// others share one, as roots do.
+#[inline(always)]
+fn children_share<D: TextDecorator, G: Tagging<D::Annotation>>(parent: Option<&Kept<D, G>>) -> bool
+    ensures { result ≡ option_map_or (λ c. children_share c.kind) (option_copied parent.entry) true }
+{
+    let Some(parent) = parent else {
+        return true;
+    };
+    match parent.kind {
+        CloseAction::EndRow | CloseAction::Bullets { .. } | CloseAction::Numbers { .. } => false,
+        _ => true,
+    }
+}
+
+/// Lays out a text that is neither a child of a list nor of a row. Returns `false`, without a change of the state, for any
+/// other node.
+///
+/// Most nodes are such texts, so they aren't opened as other nodes are.
+///
+/// # Errors
+///
+/// Those of [`open`].
+#[inline(always)]
+pub fn visit_text<D: TextDecorator, G: Tagging<D::Annotation>>(
+    alloc: Global,
+    node: &RenderNode,
+    children: &[Entry<RenderNode>],
+    parent: Option<&Kept<D, G>>,
+    number: usize,
+    state: &mut State<D, G>,
+) -> Result<bool, Error>
+    ensures ok { IfOk result (λ found. MatchBool found
+        (opened (by_tags D.decoration G.annotated) (option_copied parent.entry) number node.now (forest_of children.now) state.old ≡ Some (Past state.new))
+        (state.new ≡ state.old)) }
+    ensures err { IfErr result (λ e. Refuses e (opened (by_tags D.decoration G.annotated) (option_copied parent.entry) number node.now (forest_of children.now) state.old)) }
+{
+    let NodeKind::Text(text) = &node.kind else {
+        return Ok(false);
+    };
+    if !children_share::<D, G>(parent) {
+        return Ok(false);
+    }
+    add_node_text(alloc, text.as_str(), &node.style, state)?;
+    Ok(true)
 }
 
 /// Closes a node with this pending work: the state becomes the one after it.

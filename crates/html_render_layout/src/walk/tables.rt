@@ -4,6 +4,7 @@
 ghost use Rattle.std.specs.Prelude.{◌≡◌, [], ◌∷◌, Some, OnOk, IfOk, IfErr, codes};
 ghost use Rattle.std.specs.Str.{chars};
 ghost use Rattle.html_render_dom_values.specs.Outcome.{OnlyOutOfMemory, Refuses};
+ghost use Rattle.html_render_layout_blocks.specs.Machine as machine;
 ghost use Rattle.html_render_layout.specs.Layout.{StartBlock, Fence, BeginTable, fence, perform, perform_all, within};
 ghost use Rattle.html_render_layout.specs.Opening.{cell_closed, table_closed};
 ghost use Rattle.html_render_layout.specs.Working.{by_tags};
@@ -110,6 +111,22 @@ pub fn end_table<D: TextDecorator, G: Tagging<D::Annotation>>(
     state.block.as_mut().end_table()?;
     state.in_table = in_table;
     add_fence(state)
+}
+
+/// Returns the block for the next cell of a row; `None` if the cell is skipped.
+///
+/// # Errors
+///
+/// `OutOfMemory`.
+#[inline(always)]
+pub fn next_cell<D: TextDecorator, G: Tagging<D::Annotation>>(
+    state: &mut State<D, G>,
+) -> Result<Option<BoxedBlock<G::Tag, usize>>, Error>
+    ensures same { OnOk result (state.new ≡ state.old) }
+    ensures ok { IfOk result (λ cell. cell ≡ machine.operations.cell_block state.old.block) }
+    ensures err { OnlyOutOfMemory result }
+{
+    state.block.cell_block()
 }
 
 /// Begins a cell of a row in this block, and returns the block of the table, suspended.

@@ -54,9 +54,9 @@ fn next_row<T: Tag, M: Copy>(
 {
     let mut cells = mem::replace(&mut widths.cells, Vec::new(alloc));
     if !ahead.next(&mut cells)? {
-        return Ok(OpenRow::new(alloc, widths, &[], picture.take_row())?);
+        return Ok(OpenRow::new(alloc, widths, &[], picture.take_row()?)?);
     }
-    let row = OpenRow::new(alloc, widths, cells.as_slice(), picture.take_row())?;
+    let row = OpenRow::new(alloc, widths, cells.as_slice(), picture.take_row()?)?;
     widths.keep_cells(cells);
     Ok(row)
 }

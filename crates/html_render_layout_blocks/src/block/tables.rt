@@ -299,7 +299,7 @@ fn add_rest<T: Tag, M: Copy>(
     add_open(alloc, picture, widths, row)?;
     let mut cells = Vec::new(alloc);
     while ahead.next(&mut cells)? {
-        let row = OpenRow::new(alloc, widths, cells.as_slice(), picture.take_row())?;
+        let row = OpenRow::new(alloc, widths, cells.as_slice(), picture.take_row()?)?;
         add_open(alloc, picture, widths, Some(row))?;
     }
     Ok(())

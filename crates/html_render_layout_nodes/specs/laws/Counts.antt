@@ -6,7 +6,7 @@ use Rattle.std.proofs.Common.{arith, subst, ◌∙◌}
 use Rattle.html_render_dom_values.specs.Forest.{Forest, count, depth}
 use Rattle.html_render_parts_widths.specs.declared.Meter.{Meter}
 use Rattle.html_render_layout_nodes.specs.Counts.{CountsNodes}
-use Rattle.html_render_layout_nodes.specs.Visitor.{Visits, visited, most_open}
+use Rattle.html_render_layout_nodes.specs.Visits.{Visits, visited, most_open}
 use Rattle.html_render_layout_nodes.specs.laws.Visits.{visited-at_most, most_open-at_most}
 
 pub counts-same : {X E K S D : Type 0} (r : Result X E) (m : Visits K S) (n : Visits K D) (t : Forest K)

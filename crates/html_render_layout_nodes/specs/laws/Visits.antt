@@ -3,7 +3,7 @@ use Rattle.std.specs.Prelude.{ℕ, ◌+◌, ◌≤◌, ◌≡◌, true, List, []
 use Rattle.std.specs.Option.{option_map_or}
 use Rattle.std.proofs.Common.{arith, length-append}
 use Rattle.html_render_dom_values.specs.Forest.{Forest, none, node, count, depth}
-use Rattle.html_render_layout_nodes.specs.Visitor.{Visit, Leaf, Visits, Places, bare, placed, through_visit, inside, run_at, nodes_at, visited, open_at, most_open}
+use Rattle.html_render_layout_nodes.specs.Visits.{Visit, Leaf, Visits, Places, bare, placed, through_visit, inside, run_at, nodes_at, visited, open_at, most_open}
 
 -- a visit from an optional state; without a state the visit isn't possible
 abbrev pub from_state : {S : Type 0} → Option S → (S → Visit S) → Visit S

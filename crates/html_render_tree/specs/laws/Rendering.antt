@@ -12,7 +12,7 @@ use Rattle.html_render_layout_lines.specs.Line.{Line, text_bytes}
 use Rattle.html_render_layout_lines.specs.Tags.{line_with, lines_with}
 use Rattle.html_render_layout_nodes.specs.declared.tree.RenderNode.{RenderNode}
 use Rattle.html_render_layout_estimates.specs.declared.settings.LayoutSettings.{LayoutSettings}
-use Rattle.html_render_layout_nodes.specs.Visitor.{run}
+use Rattle.html_render_layout_nodes.specs.Visits.{run}
 use Rattle.html_render_layout_blocks.specs.declared.block.BlockSetting.{BlockSetting}
 use Rattle.html_render_layout.specs.Layout.{layout_lines, mark_names, by_stacks, layout_of, Defined, estimated, empty_state, unannotated}
 use Rattle.html_render_layout.specs.Promises.{AreLines}

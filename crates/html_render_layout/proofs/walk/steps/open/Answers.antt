@@ -2,7 +2,7 @@ use Rattle.std.proofs.Common.{◌≡◌, ◌⊎◌, ℕ, ℤ, List, Some, IfOk, 
 use Rattle.html_render_dom_values.specs.Forest.{Forest}
 use Rattle.html_render_dom_values.specs.Outcome.{Refuses}
 use Rattle.html_render_layout_nodes.specs.declared.tree.RenderNode.{RenderNode}
-use Rattle.html_render_layout_nodes.specs.Visitor.{way}
+use Rattle.html_render_layout_nodes.specs.Visits.{way}
 use Rattle.html_render_layout_nodes.specs.Preorder.{forest_of}
 use Rattle.html_render_layout_blocks.specs.declared.held.Prefixing.{Prefixing}
 use Rattle.html_render_layout.specs.declared.state.CloseAction.{CloseAction}

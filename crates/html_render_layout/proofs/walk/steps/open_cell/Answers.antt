@@ -1,7 +1,7 @@
 use Rattle.std.proofs.Common.{◌≡◌, ◌∙◌, Some, IfOk, IfErr, sym, subst}
 use Rattle.html_render_dom_values.specs.Outcome.{Refuses}
 use Rattle.html_render_layout_blocks.specs.Machine as machine
-use Rattle.html_render_layout_nodes.specs.Visitor.{way}
+use Rattle.html_render_layout_nodes.specs.Visits.{way}
 use Rattle.html_render_layout_nodes.specs.Preorder.{forest_of}
 use Rattle.html_render_layout.specs.declared.state.Suspended.TheVariants.{Cell}
 use Rattle.html_render_layout.specs.Layout.{within}

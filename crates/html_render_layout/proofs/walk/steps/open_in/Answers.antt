@@ -1,5 +1,5 @@
 use Rattle.std.proofs.Common.{ap, ◌∙◌}
-use Rattle.html_render_layout_nodes.specs.Visitor.{way, past}
+use Rattle.html_render_layout_nodes.specs.Visits.{way, past}
 use Rattle.html_render_layout.specs.Opening.{keeping}
 use Rattle.html_render_layout.specs.Working.{by_tags}
 use Rattle.html_render_layout.proofs.walk.steps.open_in.Goals as goal

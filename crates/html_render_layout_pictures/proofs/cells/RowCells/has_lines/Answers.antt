@@ -7,5 +7,5 @@ use Rattle.html_render_layout_pictures.proofs.cells.RowCells.has_lines.Goals as 
 
 pub returns : goal.returns
 returns g c =
-    ap not c.is_empty.ensures ∙ sym (any-lines c.self.inside.cells.items c.self.inside.lines c.self.invariant)
+    ap not (rw c.deref.ensures at c.is_empty.ensures) ∙ sym (any-lines c.self.inside.held.value.cells.items c.self.inside.held.value.lines c.self.invariant)
     ∙ ap (λ (cs : List (KeptCell g.row.T.Denot g.row.M.Denot)). list_any (λ d. not (is_empty d.lines)) cs) c.self.view_is

@@ -11,21 +11,21 @@ use Rattle.html_render_layout_pictures.proofs.picture.Frame.only_cell_lines.Goal
 
 pub returns-in_default : goal.returns-in_default
 returns-in_default g c =
-    let one = one-counted _ c.row.inside.cells.items c.row.inside.lines c.args.row c.as_slice.ensures.value c.row.view_is c.requires in
+    let one = one-counted _ c.into_contents-cells.result.cells.items c.into_contents-cells.result.lines c.args.row c.as_slice.ensures.value c.into_contents-cells.ensures.cells c.requires in
     absurd (omega (arith, one, c.in_default.len_below))
 
 pub returns : goal.returns
 returns g c =
     let frame = c.args.self.now in
-    let cells = c.row.inside.cells.items in
-    let ls = c.row.inside.lines in
+    let cells = c.into_contents-cells.result.cells.items in
+    let ls = c.into_contents-cells.result.lines in
     let cell = c.cell-item.result in
     let ms = cell.marks.items in
     let kept : KeptCell g.row.T.Denot g.row.M.Denot = record { width = cell.width; lines = ls; marks = ms } in
-    let one = one-counted _ cells ls c.args.row c.as_slice.ensures.value c.row.view_is c.requires in
+    let one = one-counted _ cells ls c.args.row c.as_slice.ensures.value c.into_contents-cells.ensures.cells c.requires in
     let only : cells ≡ cell ∷ [] = sym c.as_slice.ensures.value ∙ one_cell c.as_slice.result.now cell one c.cell-item.is in
-    let count : cell.count ≡ length ls = only-count cells ls cell only c.row.invariant in
-    let row : kept ∷ [] ≡ c.args.row = sym (only-row cells ls cell only c.row.invariant) ∙ c.row.view_is in
+    let count : cell.count ≡ length ls = only-count cells ls cell only c.into_contents-cells.ensures.lines in
+    let row : kept ∷ [] ≡ c.args.row = sym (only-row cells ls cell only c.into_contents-cells.ensures.lines) ∙ c.into_contents-cells.ensures.cells in
     let drawn : filled (Some frame.tag) cell.width c.if-cell-eq0.lines ≡ row_lines frame (kept ∷ []) =
     elim c.if-cell-eq0.branch [
       | then-cell-eq0+in_ok-push_marks_line w ↦

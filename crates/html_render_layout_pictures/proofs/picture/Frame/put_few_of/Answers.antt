@@ -20,7 +20,7 @@ returns-clause-ok g c =
     let some = ne_eqb (length row) 0 (λ e. absurd (omega (arith, e, c.requires))) in
     c.in_ok-put_lines_or_clear.ensures.ok
     ∙ ap (λ (b : BufferedLines g.row.T.Denot g.row.M.Denot). drawn b (cells_of c.as_slice.result.now c.in-Some.lines.now.lines)) c.in_ok-push_marks.ensures.ok
-    ∙ ap (λ (ds : List (RowCell g.row.M.Denot)). drawn marked (cells_of ds c.in-Some.lines.now.lines)) c.as_slice.ensures.value
-    ∙ ap (λ (b : BufferedLines g.row.T.Denot g.row.M.Denot). drawn marked (cells_of c.row.inside.cells.items b.lines)) c.in-Some.ensures
+    ∙ ap (λ (ds : List (RowCell g.row.M.Denot)). drawn marked (cells_of ds c.in-Some.lines.now.lines)) (rw c.deref-2.ensures at c.as_slice.ensures.value)
+    ∙ ap (λ (b : BufferedLines g.row.T.Denot g.row.M.Denot). drawn marked (cells_of c.row.inside.held.value.cells.items b.lines)) (rw c.deref.ensures at c.in-Some.ensures)
     ∙ ap (drawn marked) c.row.view_is
     ∙ ap (λ (ls : List (Line g.row.T.Denot g.row.M.Denot)). rows_put marked ls) (row_lines_by_number frame row some)

@@ -1,9 +1,11 @@
--- The result of a visitor over a forest, and the nodes that it visits.
+-- The visits of the nodes of a forest: the state after them, and the nodes that are visited.
 use Rattle.std.specs.Prelude.{◌≡◌, ℕ, ◌+◌, max, Bool, true, false, not, ◌||◌, List, [], ◌∷◌, ◌++◌, Option, Some, None, option_and_then, option_map}
 use Rattle.std.specs.Prelude.{if◌then◌else◌}
 use Rattle.std.specs.Option.{option_map_or}
 use Rattle.html_render_dom_values.specs.Forest.{Forest, none, node}
-use Rattle.html_render_dom_values.specs.Outcome.{◌>>=◌}
+use Rattle.html_render_dom_values.specs.Outcome.{◌>>=◌, Refuses}
+use Rattle.html_render_dom_values.specs.declared.errors.Error.{Error}
+use Rattle.html_render_dom_values.specs.declared.errors.Error.TheVariants.{OutOfMemory}
 
 -- THE PLACE of a node among its siblings, in a state. `Bare`: the node as it is. `Skipped`: no visit, with the state after
 -- the node. `Within`: steps around the node, with the state before it, `None` if the visit isn't possible, and the step after
@@ -27,7 +29,7 @@ pub data Visit (S : Type 0) : Type 0 where
   Leaf : Option S → Visit S
   Inner : Option S → Places S → (after : S → Option S) → Visit S
 
--- the visits of a visitor, by the node, its children and the state
+-- the visit of each node, by the node, its children and the state
 abbrev pub Visits : Type 0 → Type 0 → Type 0
 Visits K S = K → Forest K → S → Visit S
 
@@ -137,3 +139,29 @@ into below (Past t) = None
 pub record IsOpened {S T : Type 0} (below : T → Places S) (closed : T → S → Option S) (visit : Visit S) (opened : Option (Way S T)) : Type 0 where
   pub told : (children : Places S → S → Option S) → through_visit visit children ≡ option_and_then (through below closed children) opened
   pub asked : inside visit ≡ option_and_then (λ w. into below w) opened
+
+-- ---- pairs of a node and its only child
+
+-- the state after a node that keeps `kept`, by the way of its only child; no pair if the child has children that are visited
+abbrev pub passed_in : {S T : Type 0} → (closed : T → S → Option S) → (kept : T) → Option (Way S T) → Option (Option S)
+passed_in closed kept None = Some None
+passed_in closed kept (Some (Past r)) = Some (closed kept r)
+passed_in closed kept (Some (Into q inner)) = None
+
+-- the state after a node by its way and its only child; no pair if the child isn't visited
+abbrev pub pair_in : {K S T : Type 0} → (opened : Option T → ℕ → K → Forest K → S → Option (Way S T)) → (closed : T → S → Option S) → (child : K) →
+    Option (Way S T) → Option (Option S)
+pair_in opened closed child (Some (Into q kept)) = passed_in closed kept (opened (Some kept) 0 child none q)
+pair_in opened closed child _ = None
+
+-- THE STATE AFTER A PAIR: a node with one child, which has no children, both visited; `None` for any other node, and `Some None`
+-- if the visit isn't possible
+abbrev pub pair_at : {K S T : Type 0} → (opened : Option T → ℕ → K → Forest K → S → Option (Way S T)) → (closed : T → S → Option S) →
+    (parent : Option T) → (number : ℕ) → K → Forest K → S → Option (Option S)
+pair_at opened closed parent number k (node child none none) s = pair_in opened closed child (opened parent number k (node child none none) s)
+pair_at opened closed parent number k _ s = None
+
+-- relation of an error to the state after a pair: without a pair it is `OutOfMemory`
+abbrev pub RefusesPair : {S : Type 0} → Error → Option (Option S) → Type 0
+RefusesPair e None = e ≡ OutOfMemory
+RefusesPair e (Some after) = Refuses e after
