@@ -86,7 +86,7 @@ module _ {S A K T : Type 0} (d : Decoration S A) (push : K → T → A → K × 
         texts_pass algebra is.child text none q is.content
         ∙ ap (λ o. option_and_then (λ (p : St). option_and_then (λ (r : St). Some (Past (record r { text = s.text }))) (write algebra (chars text) p)) o)
         (plain-style d push q is.child.style is.plain)
-        ∙ ap (λ b. written b s.text.struck_out) ordinary.ordinary ∙ ap (λ b. written false b) ordinary.whole
+        ∙ ap (λ b. written b s.text.struck_out) ordinary.not_preformatted ∙ ap (λ b. written false b) ordinary.not_struck_out
         ∙ by (machine.operations.add_inline_text cell style (chars text))
       where
         by : (o : Option (MachineBlock T ℕ)) → option_and_then (λ (r : St). Some (Past (record r { text = s.text })))

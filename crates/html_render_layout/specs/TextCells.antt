@@ -10,7 +10,7 @@ use Rattle.html_render_layout.specs.declared.state.CloseAction.TheVariants.{EndR
 use Rattle.html_render_layout.specs.declared.state.OpenNode.{OpenNode}
 use Rattle.html_render_layout.specs.declared.state.TextContext.{TextContext}
 
--- the node is a cell of one text, both in no style
+-- whether a node is a cell of one text, neither of which has a style
 pub record IsTextCell (n : RenderNode) (trees : Forest RenderNode) (text : List ℕ) : Type 0 where
   pub child : RenderNode
   pub kind : n.kind ≡ TableCell
@@ -19,18 +19,18 @@ pub record IsTextCell (n : RenderNode) (trees : Forest RenderNode) (text : List 
   pub content : child.kind ≡ Text text
   pub plain : IsPlain child.style
 
--- the innermost open node is a row, so that its children are cells
+-- whether the innermost open node is a row, so that its children are cells
 pub record IsRow {S T P B : Type 0} (parent : Option (OpenNode S T P B)) : Type 0 where
   pub kept : OpenNode S T P B
   pub is : parent ≡ Some kept
   pub row : kept.kind ≡ EndRow
 
--- texts are neither preformatted nor struck out
+-- whether texts are neither preformatted nor struck out
 pub record IsOrdinary {T : Type 0} (text : TextContext T) : Type 0 where
-  pub ordinary : text.preformatted ≡ false
-  pub whole : text.struck_out ≡ false
+  pub not_preformatted : text.preformatted ≡ false
+  pub not_struck_out : text.struck_out ≡ false
 
--- state after a block is added to the open row as the next cell, with an ordinary text
+-- state after an ordinary text is added to a block, and the block to the open row as the next cell
 abbrev pub cell_put : {S A K T B : Type 0} → (m : Algebra S A K T B) → (cell : B) → (text : List ℕ) → State m → Option (State m)
 cell_put m cell text s =
     on_block (λ b. option_and_then (λ c. m.operations.add_cell b c)

@@ -3,26 +3,23 @@
 //! `lay_out(alloc, &decorator, tree, block, &settings, &mut meter)?` returns the lines of the tree, wrapped to the columns
 //! of a block.
 
-ghost use Rattle.std.specs.Prelude.{◌≡◌, ◌≢◌, ◌≤◌, ◌<◌, Some, ℕ, true, Err, OnOk, OnErr, IfOk, IfErr};
+ghost use Rattle.std.specs.Prelude.{◌≡◌, ◌≢◌, ◌<◌, Some, true, Err, OnOk, IfOk, IfErr};
 ghost use Rattle.html_render_dom_values.specs.Outcome.{OnlyOutOfMemory, Refuses};
 ghost use Rattle.html_render_layout_blocks.specs.Block.{empty_block};
 ghost use Rattle.html_render_layout_blocks.specs.Ends.{ended_by};
 ghost use Rattle.html_render_layout_blocks.specs.Machine as machine;
 ghost use Rattle.html_render_layout_blocks.specs.Machine.{machine};
 ghost use Rattle.html_render_layout_nodes.specs.Counts.{CountsNodes};
-ghost use Rattle.html_render_layout_nodes.specs.Visits.{run};
 ghost use Rattle.html_render_layout_estimates.specs.Passes.{with_needed_sizes};
 ghost use Rattle.html_render_layout.specs.Layout.{by_stacks, layout_of, shown_after, empty_state};
 ghost use Rattle.html_render_layout.specs.Layout.{estimated, layout_lines, mark_names, unannotated};
 ghost use Rattle.html_render_layout.specs.Promises.{AreLines, Lines, HasLines, LeavesTexts};
-ghost use Rattle.html_render_layout.specs.Opening.{walk_visits, walk_below, walk_opened, walk_closed};
-ghost use Rattle.html_render_layout.specs.laws.Opening.{walk-told};
 ghost use Rattle.html_render_layout.specs.Working.{begin_with, padding, by_tags, tabled, work_lines, work_names, untagged_work};
 ghost use Rattle.html_render_layout_tagged.specs.LaidOut.{laid_out};
 
 use crate::state::{LayoutState, TextContext};
 use crate::tagging::{Tagging, Untagged};
-use crate::working::{Kept, State};
+use crate::working::State;
 use html_render_dom_values::Error;
 use html_render_dom_values::white_space::WhiteSpace;
 use html_render_layout_blocks::block::{Block, BlockSetting};

@@ -570,7 +570,7 @@ fn children_share<D: TextDecorator, G: Tagging<D::Annotation>>(parent: Option<&K
 /// Lays out a text that is neither a child of a list nor of a row. Returns `false`, without a change of the state, for any
 /// other node.
 ///
-/// Most nodes are such texts, so they aren't opened as other nodes are.
+/// About half of the nodes are such texts. They keep nothing for their end, so they aren't opened as other nodes are.
 ///
 /// # Errors
 ///

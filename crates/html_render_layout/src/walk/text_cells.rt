@@ -1,4 +1,5 @@
-//! Cells of one text in no style. Such a cell is laid out at once, and its block doesn't become the current one.
+//! Cells of one text, neither of which has a style. Such a cell is laid out at once, and its block doesn't become the
+//! current one.
 #![tactic(auto, using(html_render_dom_values::specs::laws::Outcome::refusals))]
 
 ghost use Rattle.std.specs.Prelude.{◌≡◌, Some, OnOk, IfOk, IfErr, IfSome, MatchBool, option_copied};
@@ -35,7 +36,7 @@ fn only_node(nodes: &[Entry<RenderNode>]) -> Option<&RenderNode>
     }
 }
 
-/// Returns the text of a cell of one text, if cell and text have no style.
+/// Returns the text of a cell of one text, if neither of them has a style.
 #[inline(always)]
 fn text_of_cell<'a>(node: &RenderNode, children: &'a [Entry<RenderNode>]) -> Option<&'a str>
     requires { flatten (forest_of children.now) ≡ children.now }
@@ -77,7 +78,7 @@ fn is_row<D: TextDecorator, G: Tagging<D::Annotation>>(parent: Option<&Kept<D, G
     }
 }
 
-/// Adds a block to the open row as the next cell, with an ordinary text.
+/// Adds an ordinary text to a block, and the block to the open row as the next cell.
 #[inline(always)]
 fn put_text_cell<D: TextDecorator, G: Tagging<D::Annotation>>(
     cell: BoxedBlock<G::Tag, usize>,
@@ -124,8 +125,8 @@ fn add_text_cell<D: TextDecorator, G: Tagging<D::Annotation>>(
     Ok(true)
 }
 
-/// Lays out a cell of one text at once, if both have no style. Returns `false`, without a change of the state, for any other
-/// node.
+/// Lays out a cell of one text at once, if neither of them has a style and texts are neither preformatted nor struck out.
+/// Otherwise, or if the cell is skipped, returns `false`, without a change of the state.
 ///
 /// # Errors
 ///

@@ -1,4 +1,5 @@
-//! The walk over a tree: a node is opened before its children are visited, and closed after them.
+//! The walk over a tree: a node is opened before its children are visited, and closed after them. Most texts, and most cells
+//! of one text, are laid out at once.
 
 ghost use Rattle.std.specs.Prelude.{◌≡◌, Some, MatchBool, OnOk, IfOk, IfErr, option_copied};
 ghost use Rattle.html_render_dom_values.specs.Outcome.{Refuses};
@@ -37,7 +38,8 @@ fn open<D: TextDecorator, G: Tagging<D::Annotation>>(
     steps::open(alloc, node, children, parent, number, state)
 }
 
-/// Lays out a cell of one text at once. Returns `false`, without a change of the state, for any other node.
+/// Lays out a node at once if it is a cell of one text, as [`text_cells::visit_pair`] does. Otherwise returns `false`, without a
+/// change of the state.
 #[inline(always)]
 #[tactic(auto, unfolding(crate::specs::Opening::walk_opened, crate::specs::Opening::walk_closed))]
 fn visit_pair<D: TextDecorator, G: Tagging<D::Annotation>>(
@@ -58,7 +60,7 @@ fn visit_pair<D: TextDecorator, G: Tagging<D::Annotation>>(
     text_cells::visit_pair(node, children, parent, number, state)
 }
 
-/// Lays out a text outside of lists and rows. Returns `false`, without a change of the state, for any other node.
+/// Lays out a node at once if it is a text outside of lists and rows. Otherwise returns `false`, without a change of the state.
 #[inline(always)]
 #[tactic(auto, unfolding(crate::specs::Opening::walk_opened))]
 fn visit_text<D: TextDecorator, G: Tagging<D::Annotation>>(
@@ -91,7 +93,15 @@ fn close<D: TextDecorator, G: Tagging<D::Annotation>>(
     steps::close(alloc, kept, state)
 }
 
-/// Lays out a tree from a state, node by node, with a stack of the open nodes.
+/// Lays out a tree from a state, from the first node to the last, with a stack of the open nodes.
+///
+/// Nodes below a node whose children aren't visited are skipped. The meter's `entered`, `left` and `frames` are set, counted
+/// from 0, also on an error. A cell that is laid out at once counts as open, though it isn't pushed on the stack. `probes` is
+/// unchanged.
+///
+/// # Errors
+///
+/// Those of [`steps::open`] and [`steps::close`].
 pub fn walk_tree<D: TextDecorator, G: Tagging<D::Annotation>>(
     alloc: Global,
     tree: &PreorderForest<RenderNode>,
