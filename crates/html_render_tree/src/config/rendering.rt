@@ -141,7 +141,8 @@ impl<D: TextDecorator> Config<D> {
 
     /// Renders a tree as a text under a colour map, wrapped to `width` columns: for each line what `colour_map` returns for
     /// each of its tagged strings, in order, and then a newline. The map is given a string's annotations, the outermost
-    /// first, and its text. It is called once for each string, and never for a mark. Consumes the tree, also on an error.
+    /// first, and its text. It is called once for each string, in order, and never for a mark. Consumes the tree, also on
+    /// an error.
     ///
     /// The caller ensures that the map can be called with all annotations and texts, and that its only error is
     /// `OutOfMemory`.
@@ -150,7 +151,7 @@ impl<D: TextDecorator> Config<D> {
     ///
     /// Those of [`Config::render_to_string`]. `OutOfMemory` also if the map returns it.
     #[tactic(auto, using(crate::specs::laws::Rendering::promises_kept))]
-    pub fn render_coloured<F: Fn(&[D::Annotation], &str) -> Result<String, Error>>(
+    pub fn render_coloured<F: FnMut(&[D::Annotation], &str) -> Result<String, Error>>(
         &self,
         alloc: Global,
         tree: RenderTree,
@@ -158,22 +159,22 @@ impl<D: TextDecorator> Config<D> {
         colour_map: F,
     ) -> Result<String, Error>
         requires callable { F.IsAlwaysCallable colour_map }
-        requires memory { (tag : _) (string : _) (e : Error) → F.post colour_map tag string (Err e) → e ≡ Error.OutOfMemory }
+        requires memory { (map : F) (tag : _) (string : _) (e : Error) → F.post map tag string (Err e) → e ≡ Error.OutOfMemory }
 
         // the text is that of the definition's strings under the map; the result is `TooNarrow` exactly if there are no
         // lines, unless memory runs out
-        ensures ok { IfOk result (λ text. (lines : List (List (LinePart (List D.Annotation))))
+        ensures ok { IfOk result (λ text. (lines : List (List (LinePart (List D.Annotation)))) × (last : F)
             × (rendered_strings D.decoration self.now tree width D.Annotation.eq ≡ Some lines)
-            × IsColoured (F.post colour_map) lines (string_bytes text)) }
+            × IsColoured F.step colour_map lines (string_bytes text) last) }
         ensures err { IfErr result (λ e. Refuses e (rendered_lines D.decoration self.now tree width)) }
 
         // promises of the lines and of their strings, and the clauses of `render_to_string`
-        ensures lines { IfOk result (λ text. (strings : List (List (LinePart (List D.Annotation))))
+        ensures lines { IfOk result (λ text. (strings : List (List (LinePart (List D.Annotation)))) × (last : F)
             × Rendered D.decoration self.now tree width (AreStrings D.decoration self.now tree width D.Annotation.eq strings)
-            × IsColoured (F.post colour_map) strings (string_bytes text)) }
+            × IsColoured F.step colour_map strings (string_bytes text) last) }
         ensures promises { KeepsPromises D.decoration self.now tree width result }
     {
         let lines = self.render_to_lines(alloc, tree, width)?;
-        coloured(alloc, &lines, &colour_map)
+        coloured(alloc, &lines, colour_map)
     }
 }
