@@ -6,8 +6,8 @@
 #![tactic(auto)]
 
 ghost use Rattle.std.specs.Prelude.{◌≡◌, ◌≤◌, ◌-◌, IfOk, IfErr, length};
-ghost use Rattle.std.specs.Vec.{vec_ptr};
-ghost use Rattle.html_render_tree_records.specs.Faults.{code_of, record_of};
+ghost use Rattle.std.specs.Ptr.{as_mut_ptr};
+ghost use Rattle.html_render_tree_records.specs.Faults.{code_of, record_of, HasBytesAt, IsGiven};
 ghost use Rattle.html_render_tree_records.specs.Pages.{IsPlainLines, IsPlainText, IsReturned, IsRichLines, IsRichText};
 
 use html_render_tree::decorate::RichAnnotation;
@@ -17,31 +17,42 @@ use html_render_tree_records::settings::Setting;
 use html_render_tree_records::step::Step;
 use std::alloc::Global;
 
-/// Hands the memory of bytes over to the caller: sets `out` to their address, where they stay until the caller frees them.
-fn hand_over(bytes: Vec<u8>, out: &mut *mut u8) -> &'static mut [u8]
-    ensures place { out.new ≡ vec_ptr bytes }
-    ensures lent { result.now ≡ bytes.items }
+/// Returns the address of a slice.
+fn address(slice: &mut [u8]) -> *mut u8
+    ensures { (result ≡ as_mut_ptr slice.entry) × (slice.new ≡ slice.old) }
 {
-    let mut bytes = bytes;
-    *out = bytes.as_mut_ptr();
-    bytes.leak()
+    slice.as_mut_ptr()
 }
 
-/// Returns the status of a result. Hands its bytes over, the last of which is a zero that `size` doesn't count. For a fault
-/// it sets `size` to the number of the faulty record.
-fn give(given: Result<Vec<u8>, Fault>, out: &mut *mut u8, size: &mut usize) -> u32
-    ensures ok { IfOk given (λ ended. (result ≡ 0) × (size.new ≡ length ended.items - 1) × (out.new ≡ vec_ptr ended)) }
-    ensures err { IfErr given (λ fault. (result ≡ code_of fault) × (size.new ≡ record_of fault) × (out.new ≡ out.old)) }
-    ensures status { result ≤ 6 }
+/// Gives the memory of bytes away: sets `out` to the address of the slice that it returns, which nothing frees.
+fn hand_over(bytes: Vec<u8>, out: &mut *mut u8) -> &'static mut [u8]
+    ensures { HasBytesAt result bytes.items out.new }
 {
-    match given {
+    let slice = bytes.leak();
+    *out = address(slice);
+    slice
+}
+
+/// Returns the status of a result, and its bytes as the slice that is given away, at the address that `out` is set to. The last
+/// byte is a zero that `size` doesn't count. For a fault it sets `size` to the number of the faulty record.
+fn give(
+    rendered: Result<Vec<u8>, Fault>,
+    out: &mut *mut u8,
+    size: &mut usize,
+) -> (u32, Option<&'static mut [u8]>)
+    ensures ok { IfOk rendered (λ ended. (result.0 ≡ 0) × (size.new ≡ length ended.items - 1) × IsGiven result.1 ended.items out.new) }
+    ensures err { IfErr rendered (λ fault. (result.0 ≡ code_of fault) × (size.new ≡ record_of fault) × (out.new ≡ out.old)) }
+    ensures status { result.0 ≤ 6 }
+{
+    match rendered {
         Ok(ended) => {
-            *size = hand_over(ended, out).len().saturating_sub(1);
-            0
+            let slice = hand_over(ended, out);
+            *size = slice.len().saturating_sub(1);
+            (0, Some(slice))
         }
         Err(fault) => {
             *size = fault.record();
-            fault.code()
+            (fault.code(), None)
         }
     }
 }
@@ -80,7 +91,8 @@ pub extern "C" fn html_render_text(
         text,
         settings,
     };
-    give(rendering::text(alloc, given, decorator, width), out, size)
+    let (status, _) = give(rendering::text(alloc, given, decorator, width), out, size);
+    status
 }
 
 /// Renders the document that steps build as lines of tagged strings, wrapped to `width` columns.
@@ -121,5 +133,6 @@ pub extern "C" fn html_render_lines(
         text,
         settings,
     };
-    give(rendering::lines(alloc, given, decorator, width), out, size)
+    let (status, _) = give(rendering::lines(alloc, given, decorator, width), out, size);
+    status
 }

@@ -1,14 +1,14 @@
 -- The outcome of a document is that of a call: a fault on the way is the fault of the call.
 use Rattle.std.proofs.Common.{◌≡◌, ℕ, ◌+◌, ◌-◌, List, [], ◌∷◌, length, Option, Some, Result, Ok, Err, IfOk, IfErr, Vec, ap, subst, ◌∙◌, arith, length-append}
+use Rattle.std.specs.Borrow.{MutBor}
 use Rattle.std.specs.Ptr.{Ptr}
-use Rattle.std.specs.Vec.{vec_ptr}
 use Rattle.std.specs.declared.alloc.Global.{Global}
 use Rattle.html_render_dom_values.specs.Forest.{Forest}
 use Rattle.html_render_dom_values.specs.declared.errors.Error.TheVariants.{TooNarrow, Fail, OutOfMemory}
 use Rattle.html_render_layout_nodes.specs.declared.tree.RenderNode.{RenderNode}
 use Rattle.html_render_tree.specs.Rendering.{Options, initial_options}
 use Rattle.html_render_tree_records.specs.declared.step.Step.{Step}
-use Rattle.html_render_tree_records.specs.Faults.{code_of, record_of}
+use Rattle.html_render_tree_records.specs.Faults.{code_of, record_of, IsGiven}
 use Rattle.html_render_tree_records.specs.Pages.{Ends, IsDocumentOutcome, IsOutcome, IsReturned}
 use Rattle.html_render_tree_records.specs.Settings.{configured}
 use Rattle.html_render_tree_records.specs.declared.faults.Fault.{Fault}
@@ -36,13 +36,15 @@ module _ {S : Type 0} (written : Options S → Forest RenderNode → Option (Lis
 
 -- ---- result for the caller
 
-module _ (Is : Result (List ℕ) Fault → Type 0) (status size : ℕ) (old_place place : Ptr) where
-  pub returned : (given : Result (Vec ℕ Global) Fault) → Ends Is given
-      → IfOk given (λ ended. (status ≡ 0) × (size ≡ length ended.items - 1) × (place ≡ vec_ptr ended))
-      → IfErr given (λ f. (status ≡ code_of f) × (size ≡ record_of f) × (place ≡ old_place))
+module _ (Is : Result (List ℕ) Fault → Type 0) (status : ℕ) (given : Option (MutBor (List ℕ))) (size : ℕ) (old_place place : Ptr) where
+  pub returned : (rendered : Result (Vec ℕ Global) Fault) → Ends Is rendered
+      → IfOk rendered (λ ended. (status ≡ 0) × (size ≡ length ended.items - 1) × IsGiven given ended.items place)
+      → IfErr rendered (λ f. (status ≡ code_of f) × (size ≡ record_of f) × (place ≡ old_place))
       → IsReturned Is status size old_place place
   returned (Ok ended) h is_ok is_err =
-      let given : size ≡ length ended.items - 1 = is_ok.1 in
+      let size_is : size ≡ length ended.items - 1 = is_ok.1 in
       let longer : length ended.items ≡ length h.0 + 1 = ap length h.1 ∙ length-append h.0 (0 ∷ []) in
-      record { outcome = Ok h.0; is = h.2; has_status = is_ok.0; has_size = omega arith; has_place = (ended, h.1, is_ok.2) }
+      let slice = is_ok.2.slice in
+      let has = is_ok.2.has in
+      record { outcome = Ok h.0; is = h.2; has_status = is_ok.0; has_size = omega arith; has_place = (slice, record { has_bytes = has.has_bytes ∙ h.1; is_at = has.is_at }) }
   returned (Err f) h is_ok is_err = record { outcome = Err f; is = h; has_status = is_err.0; has_size = is_err.1; has_place = is_err.2 }

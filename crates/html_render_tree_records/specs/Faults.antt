@@ -1,8 +1,7 @@
 -- THE RESULT OF A CALL for bytes or for a fault: a status, a size, and the address of the bytes.
-use Rattle.std.specs.Prelude.{◌≡◌, ℕ, List, [], ◌∷◌, ◌++◌, length, Result, Ok, Err, Vec}
-use Rattle.std.specs.Ptr.{Ptr}
-use Rattle.std.specs.Vec.{vec_ptr}
-use Rattle.std.specs.declared.alloc.Global.{Global}
+use Rattle.std.specs.Prelude.{◌≡◌, ℕ, List, [], ◌∷◌, ◌++◌, length, Option, Some, Result, Ok, Err}
+use Rattle.std.specs.Borrow.{MutBor}
+use Rattle.std.specs.Ptr.{Ptr, as_mut_ptr}
 use Rattle.html_render_dom_values.specs.declared.errors.Error.TheVariants as error
 use Rattle.html_render_tree_records.specs.declared.building.StepError.{StepError}
 use Rattle.html_render_tree_records.specs.declared.building.StepError.TheVariants as step
@@ -40,7 +39,18 @@ abbrev pub result_size : Result (List ℕ) Fault → ℕ
 result_size (Ok bytes) = length bytes
 result_size (Err fault) = record_of fault
 
--- whether this is the address of a result: that of the bytes with a zero after them, or the old one
+-- whether a slice has these bytes, and begins at this address
+pub record HasBytesAt (slice : MutBor (List ℕ)) (bytes : List ℕ) (place : Ptr) : Type 0 where
+  pub has_bytes : slice.now ≡ bytes
+  pub is_at : place ≡ as_mut_ptr slice
+
+-- whether memory is given away: a slice of these bytes that begins at this address
+pub record IsGiven (given : Option (MutBor (List ℕ))) (bytes : List ℕ) (place : Ptr) : Type 0 where
+  pub slice : MutBor (List ℕ)
+  pub is : given ≡ Some slice
+  pub has : HasBytesAt slice bytes place
+
+-- whether this is the address of a result: that of a slice of the bytes with a zero after them, or the old one
 abbrev pub IsPlaceOf : Result (List ℕ) Fault → (old_place place : Ptr) → Type 0
-IsPlaceOf (Ok bytes) old_place place = (given : Vec ℕ Global) × (given.items ≡ bytes ++ 0 ∷ []) × (place ≡ vec_ptr given)
+IsPlaceOf (Ok bytes) old_place place = (slice : MutBor (List ℕ)) × HasBytesAt slice (bytes ++ 0 ∷ []) place
 IsPlaceOf (Err fault) old_place place = place ≡ old_place
