@@ -45,6 +45,7 @@
 //! | `render_to_lines` | a width; each string follows its annotations in braces, each name of a mark is in angle brackets |
 //! | `render_to_lines_metered` | a width; the meter's counts, also if the layout is `TooNarrow` |
 //! | `render_coloured angles` | a width; each string is in angle brackets, after the number of its annotations |
+//! | `render_coloured numbered` | a width; each string is in angle brackets, after the number of the map's call |
 //! | `render_coloured refusing` | a width and a text for which the colour map returns `OutOfMemory` |
 //! | `dom_to_render_tree`, `try_clone` | the display of the render tree, or of its copy |
 //! | `dom_into_render_tree` | a script; the display of the render tree |

@@ -295,8 +295,17 @@ fn in_angles<A>(
     Ok(format!(in alloc; "<{count}:{text}>")?)
 }
 
-/// Returns the lines of a render tree's text under a colour map: `angles WIDTH`, or `refusing WIDTH TEXT`, which returns
-/// `OutOfMemory` for that text.
+/// Returns `<n:text>` for the text of the map's n-th call, and counts the call.
+fn numbered(alloc: Global, calls: &mut u64, text: &str) -> Result<String, Error>
+    ensures err { OnlyOutOfMemory result }
+{
+    *calls = calls.saturating_add(1);
+    let number = *calls;
+    Ok(format!(in alloc; "<{number}:{text}>")?)
+}
+
+/// Returns the lines of a render tree's text under a colour map: `angles WIDTH`; `numbered WIDTH`, which numbers its calls; or
+/// `refusing WIDTH TEXT`, which returns `OutOfMemory` for that text.
 fn coloured<D: TextDecorator>(
     alloc: Global,
     config: &Config<D>,
@@ -306,17 +315,27 @@ fn coloured<D: TextDecorator>(
 ) -> Result<String, Fault> {
     let (map, given) = split_word(given);
     let (width, refused) = split_word(given);
-    if map != "angles" && map != "refusing" {
+    if map != "angles" && map != "numbered" && map != "refusing" {
         return Err(Fault::Malformed("no map has this name"));
     }
     let width = number(width)?;
     watch.begin(at_width("render_coloured", "render_coloured 0", width));
-    let came = config.render_coloured(
-        alloc,
-        tree,
-        width,
-        |annotations: &[D::Annotation], text: &str| in_angles(alloc, annotations, text, refused),
-    );
+    let came = if map == "numbered" {
+        let mut calls = 0;
+        config.render_coloured(
+            alloc,
+            tree,
+            width,
+            |_annotations: &[D::Annotation], text: &str| numbered(alloc, &mut calls, text),
+        )
+    } else {
+        config.render_coloured(
+            alloc,
+            tree,
+            width,
+            |annotations: &[D::Annotation], text: &str| in_angles(alloc, annotations, text, refused),
+        )
+    };
     watch.end(&came);
     printed(alloc, &came?)
 }
