@@ -59,7 +59,7 @@
 //! | `check_cut` | minimums, shares, width and a cut |
 //! | calls of names, attributes and texts | `TextContents::push_str a b`, .. |
 //! | `built` | a script; the dump of its document, or its first faulty line |
-//! | `htree` | words and an input; its output, faults and status |
+//! | `htree` | words and an input; its output as far as it is flushed, its faults and status |
 //!
 //! In lists of numbers `5*3` is five times 3. The lines of a script or an input follow the question, each after `:`, or
 //! after `.` for one without its line feed.

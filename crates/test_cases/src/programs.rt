@@ -1,7 +1,9 @@
 //! Questions about runs of the program `htree`.
 
+use html_render_tree::Error;
 use html_render_tree::htree::run;
 use std::alloc::Global;
+use std::io::BufWriter;
 use test_case_calls::faults::Fault;
 use test_case_calls::texts::push_lines;
 
@@ -10,7 +12,8 @@ fn text(bytes: &[u8]) -> &str {
     str::from_utf8(bytes).unwrap_or("not UTF-8")
 }
 
-/// Returns the lines of the program's output, its lines about faults, each after `~`, and its status if that isn't 0.
+/// Returns the lines of the program's output, its lines about faults, each after `~`, and its status if that isn't 0. The output is
+/// buffered, and what isn't flushed is no part of it.
 pub fn answer(alloc: Global, words: &str, script: &str) -> Result<String, Fault> {
     let mut arguments = Vec::new(alloc);
     if !words.is_empty() {
@@ -19,11 +22,14 @@ pub fn answer(alloc: Global, words: &str, script: &str) -> Result<String, Fault>
         }
     }
     let mut input = script.as_bytes();
-    let mut output = Vec::new(alloc);
+    let mut output = match BufWriter::new(alloc, Vec::new(alloc)) {
+        Ok(output) => output,
+        Err(_) => return Err(Fault::Refused(Error::OutOfMemory)),
+    };
     let mut faults = Vec::new(alloc);
     let status = run(alloc, &arguments, &mut input, &mut output, &mut faults);
     let mut shown = String::new(alloc);
-    push_lines(&mut shown, '|', text(&output))?;
+    push_lines(&mut shown, '|', text(output.get_ref()))?;
     push_lines(&mut shown, '~', text(&faults))?;
     if status != 0 {
         write!(shown, "status {status}\n")?;
