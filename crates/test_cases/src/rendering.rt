@@ -333,7 +333,12 @@ fn coloured<D: TextDecorator>(
             alloc,
             tree,
             width,
-            |annotations: &[D::Annotation], text: &str| in_angles(alloc, annotations, text, refused),
+            |annotations: &[D::Annotation], text: &str| in_angles(
+                alloc,
+                annotations,
+                text,
+                refused,
+            ),
         )
     };
     watch.end(&came);
