@@ -529,6 +529,13 @@ mod tests {
     }
 
     #[test]
+    fn white_space_of_a_table_is_held_back() {
+        for page in ["x<table> <!doctype>y", "x<table> <!doctype>\0 </p>y", "x<table><tr> <!DOCTYPE html>&amp;<td>z", "x<table> <!-- c -->y", "x<table> </p>y", "x<table> \0y"] {
+            assert_eq!(recorded(by_reader(page)), recorded(by_html5ever(page)), "{page:?}");
+        }
+    }
+
+    #[test]
     fn as_the_library_moves_nodes() {
         for_random_pages(2_000, |page| {
             let moves = Moves::read(page.strip_prefix('\u{feff}').unwrap_or(page));

@@ -308,8 +308,7 @@ impl<'a> Watched<'a> {
 
     /// Has html5ever's tree builder go on where the open elements are known.
     fn leave(&mut self, token: &Token) {
-        let is_text = matches!(token, Token::CharacterTokens(_) | Token::NullCharacterToken);
-        if !is_text {
+        if !holds_spaces(token) {
             self.put_spaces();
         }
         if !matches!(token, Token::EOFToken) {
@@ -381,6 +380,11 @@ fn is_settled_by(token: &Token) -> bool {
         // in a table it is held until it is known whether it is blank
         _ => false,
     }
+}
+
+/// Reports whether html5ever still holds back the white space in a table after a token: the next text may move that out of the table.
+fn holds_spaces(token: &Token) -> bool {
+    matches!(token, Token::CharacterTokens(_) | Token::NullCharacterToken | Token::DoctypeToken(_))
 }
 
 /// Reports whether a token can end the body.
