@@ -25,6 +25,8 @@ mod encoding;
 mod error;
 mod footnotes;
 mod hiding;
+#[cfg(test)]
+mod html5ever_alone;
 mod limits;
 mod lines;
 #[cfg(test)]
@@ -36,6 +38,8 @@ mod outline;
 mod padding;
 mod page;
 mod pass;
+#[cfg(test)]
+mod random_pages;
 mod reader;
 mod record;
 mod recorded;

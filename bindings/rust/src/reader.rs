@@ -16,7 +16,7 @@ use html5ever::{namespace_url, ns, Attribute, QualName};
 use memchr::{memchr, memchr2, memchr_iter, memmem};
 use tendril::StrTendril;
 
-/// Number of bytes of a page that its tendrils share, and the most that one token or call has.
+/// Usual length of a window: number of bytes of a page that its tendrils share, and the most that one token or call has.
 const WINDOW: usize = if cfg!(test) { 24 } else { 1 << 16 };
 
 /// The reference to an ampersand, the most usual one in attributes.
@@ -33,21 +33,24 @@ struct Page<'a> {
     text: &'a str,
     start: usize,
     window: StrTendril,
+    /// Maximum number of bytes of a window, at least 4.
+    window_length: usize,
     /// Whether some text has a carriage return or a zero byte.
     is_odd: bool,
 }
 
 impl<'a> Page<'a> {
     fn new(text: &'a str) -> Page<'a> {
-        Page { text, start: 0, window: StrTendril::new(), is_odd: memchr2(b'\r', 0, text.as_bytes()).is_some() }
+        Page { text, start: 0, window: StrTendril::new(), window_length: WINDOW, is_odd: memchr2(b'\r', 0, text.as_bytes()).is_some() }
     }
 
-    /// Returns where a part that begins at an offset ends, if it is to end at another and to have at most `WINDOW` bytes.
+    /// Returns where a part that begins at an offset ends, if it is to end at another and to fit a window.
     fn end(&self, start: usize, end: usize) -> usize {
-        if end - start <= WINDOW {
+        if end - start <= self.window_length {
             return end;
         }
-        (start + WINDOW - 3..=start + WINDOW).rev().find(|&at| self.text.is_char_boundary(at)).unwrap_or(end)
+        let most = start + self.window_length;
+        (most - 3..=most).rev().find(|&at| self.text.is_char_boundary(at)).unwrap_or(end)
     }
 
     /// Returns the number of bytes of the text at an offset, up to a tag or a byte that the tokenizer changes.
@@ -56,7 +59,7 @@ impl<'a> Page<'a> {
         self.find(b'<', rest).unwrap_or(rest.len())
     }
 
-    /// Returns where the quoted value at an offset ends, and whether it has `&amp;`; `None` if it is longer than `WINDOW`, or the tokenizer
+    /// Returns where the quoted value at an offset ends, and whether it has `&amp;`; `None` if it is longer than a window, or the tokenizer
     /// changes something else of it.
     fn value_end(&self, start: usize) -> Option<(usize, bool)> {
         let bytes = self.text.as_bytes();
@@ -66,7 +69,7 @@ impl<'a> Page<'a> {
             end += AMPERSAND.len();
             end += self.find(b'"', &bytes[end..])?;
         }
-        (bytes[end] == b'"' && end - start <= WINDOW).then(|| (end, has_references))
+        (bytes[end] == b'"' && end - start <= self.window_length).then(|| (end, has_references))
     }
 
     /// Returns the position of the first byte that is `end`, or that the tokenizer changes.
@@ -79,7 +82,7 @@ impl<'a> Page<'a> {
         }
     }
 
-    /// Returns a piece of at most `WINDOW` bytes.
+    /// Returns a piece that fits a window.
     #[inline]
     fn piece(&mut self, start: usize, end: usize) -> StrTendril {
         if end - start <= INLINE {
@@ -161,16 +164,19 @@ fn comment_length(content: &[u8]) -> usize {
 impl<'a> Reader<'a> {
     /// Reads a page into a sink.
     pub fn read(page: &'a str, sink: Sink, wanted: Wanted, options: TreeBuilderOpts) -> Result<Sink, Refusal> {
-        let mut reader = Reader::new(page, sink, wanted, options);
-        reader.tokenizer.sink.look_at_size();
+        Reader::new(page, sink, wanted, options).read_all()
+    }
+
+    fn read_all(mut self) -> Result<Sink, Refusal> {
+        self.tokenizer.sink.look_at_size();
         let mut at = 0;
-        while at < page.len() && reader.tokenizer.sink.refusal.is_none() {
-            at = if reader.is_in_data { reader.read_in_data(at) } else { reader.feed_raw(at) };
+        while at < self.page.text.len() && self.tokenizer.sink.refusal.is_none() {
+            at = if self.is_in_data { self.read_in_data(at) } else { self.feed_raw(at) };
         }
-        reader.tokenizer.end();
-        match reader.tokenizer.sink.refusal {
+        self.tokenizer.end();
+        match self.tokenizer.sink.refusal {
             Some(refusal) => Err(refusal),
-            None => Ok(reader.tokenizer.sink.builder.sink),
+            None => Ok(self.tokenizer.sink.builder.sink),
         }
     }
 
@@ -410,141 +416,165 @@ impl<'a> Reader<'a> {
 #[cfg(test)]
 mod tests {
     use super::*;
+    use crate::adapt;
     use crate::characters::Filter;
     use crate::config::plain;
+    use crate::html5ever_alone::{self, Outline};
     use crate::moves::Moves;
-    use crate::pass;
-    use crate::record::{self, Recorder};
-    use crate::records::Step;
-    use crate::tree::{Tree, MAX_ATTRIBUTES};
-    use html5ever::driver::ParseOpts;
-    use tendril::{SliceExt, TendrilSink};
+    use crate::random_pages::{depends_on_pieces, reduced, Random};
+    use crate::record;
+    use crate::tree::{Data, Id, Tree, DOCUMENT, MAX_ATTRIBUTES};
+    use html5ever::{local_name, LocalName};
+    use std::panic::catch_unwind;
+    use std::time::SystemTime;
 
-    const PIECES: [&str; 89] = [
-        "<p>", "</p>", "<td>", "</td>", "<table>", "</table>", "<tr>", "<b>", "</b>", "<i>", "</i>", "<a href=\"x\">", "</a>", "<a href='y'>", "<img src=\"a&amp;b\" alt=\"t\">", "<img alt=\"&amp;&amp;\">", "<b id=\"&amp;c\">", "<u class=\"a&amp;b&lt\">",
-        "<br/>", "<br />", "<b id=\"i\" />", "<path d=\"m\"/>", "</p/>", "<BR>", "<div class=\"c\" class=\"d\">", "</div>", "<div id=\"i\" title=\"a>b\">", "text", " ", "\n", "\r\n", "\r", "\0", "&amp;", "&nbsp;", "&#233;", "&#x;", "&#150;", "&#55296;", "&#;", "&am", "&lt", "&#x41;", "&",
-        "<", ">", "<!-- c -->", "<!--", "-->", "-", "!>", "<!DOCTYPE html>", "<!x>", "</>", "<script>", "</script>", "<style>", "</style>", "<title>", "</title>", "<textarea>", "</textarea>",
-        "<svg>", "</svg>", "<![CDATA[x]]>", "<math>", "<template>", "</template>", "<select>", "<pre>", "\n<li>", "<h1>", "\u{feff}", "\u{e9}\u{754c}", "<ul>", "<ol start=\"3\">",
-        "<font color='a'>", "<body class=x>", "<html id=y>", "</body>", "<caption>", "<th>", "<option>", "<noscript>", "<frameset>", "<mtext>", "<annotation-xml encoding='text/html'>", "</p a='>' b>", "<foreignObject>",
-    ];
+    /// Number of pages of a round.
+    const PAGES: usize = 100;
+
+    /// Number of rounds, unless the variable HTML_RENDER_ROUNDS of the environment says another one.
+    const ROUNDS: usize = 20;
 
     const WANTED: Wanted = Wanted { is_asked: record::is_asked, css: true };
 
-    fn new_sink() -> Sink {
-        Sink::new(Tree::new(Filter { keeps_controls: true, ..Filter::default() }), WANTED)
-    }
-
-    fn recorded(mut sink: Sink) -> (Vec<Step>, String, String) {
-        let text = std::mem::take(&mut sink.tree.text);
-        let (recorder, _) = pass::record(&sink.tree, Recorder::new(text, sink.tree.filter), None);
-        (recorder.steps, String::from_utf8(recorder.text).unwrap(), sink.css)
-    }
-
-    /// Its tokenizer drops a byte order mark after each script too.
-    fn by_html5ever(page: &str) -> Sink {
-        let options = ParseOpts { tokenizer: TokenizerOpts { discard_bom: false, ..TokenizerOpts::default() }, ..ParseOpts::default() };
-        html5ever::parse_document(new_sink(), options).one(page.to_tendril())
+    fn new_sink(wanted: Wanted) -> Sink {
+        Sink::new(Tree::new(Filter { keeps_controls: true, ..Filter::default() }), wanted)
     }
 
     fn by_reader(page: &str) -> Sink {
-        Reader::read(page, new_sink(), WANTED, TreeBuilderOpts::default()).unwrap()
+        Reader::read(page, new_sink(WANTED), WANTED, TreeBuilderOpts::default()).unwrap()
     }
 
-    /// Calls a function with random numbers below another, and a number of rounds: the variable HTML_RENDER_ROUNDS of the environment,
-    /// or 1.
-    fn with_random(test: impl FnOnce(&mut dyn FnMut(usize) -> usize, usize)) {
-        let rounds = std::env::var("HTML_RENDER_ROUNDS").ok().and_then(|rounds| rounds.parse().ok()).unwrap_or(1);
-        let mut state: u64 = 1;
-        let mut random = |below: usize| {
-            state = state.wrapping_mul(6364136223846793005).wrapping_add(1442695040888963407);
-            (state >> 33) as usize % below
-        };
-        test(&mut random, rounds);
+    /// How a page is read.
+    #[derive(Clone, Copy, Debug)]
+    struct Way {
+        /// Whether it is adapted to what a browser shows.
+        is_adapted: bool,
+        window_length: usize,
     }
 
-    /// Calls a function with random pages: so many, or a number of rounds times that.
-    fn for_random_pages(count: usize, mut look: impl FnMut(&str)) {
-        with_random(|random, rounds| {
-            for _ in 0..count * rounds {
-                let pieces = 1 + random(30);
-                let page: String = (0..pieces).map(|_| PIECES[random(PIECES.len())]).collect();
-                look(&page);
-            }
-        });
-    }
-
-    /// Names of elements that most pages have, nearly all of which are closed where they are opened.
-    const NAMES: [&str; 36] = [
-        "p", "div", "span", "a", "b", "i", "em", "font", "ul", "ol", "li", "dl", "dt", "dd", "h1", "h2", "table", "tbody", "thead", "tr", "td", "th", "caption", "section", "address",
-        "blockquote", "label", "button", "form", "pre", "object", "x-y", "nobr", "option", "select", "br",
-    ];
-
-    /// Parts of tables, in which others are.
-    const TABLE: [(&str, &str); 8] = [
-        ("<table><tbody><tr><td>", "</td></tr></tbody></table>"), ("<table><tr><th>", "</th></tr></table>"), ("<table>\n<td>", "</table>"), ("<td>", "</td>"),
-        ("</td><td>", ""), ("</td> </tr>\n<tr><td>", ""), ("</td></tr></tbody><tfoot>\n<td>", ""), ("<table><caption>", "</caption></table>"),
-    ];
-
-    /// What changes how html5ever takes what follows, where other parts of the page are well-formed.
-    const RARE: [&str; 6] = ["a</body><!-- c -->b", "</body>\n<p>", "<p><b><b><b><b>a</p><p>", "<i><i><i><i>", "</b></b></b>c", "</p></li></td>"];
-
-    /// Returns a page most of which is well-formed.
-    fn regular_page(random: &mut dyn FnMut(usize) -> usize) -> String {
-        let mut page = ["<html><body>text", "text", ""][random(3)].to_owned();
-        let mut ends = Vec::new();
-        for _ in 0..random(60) {
-            match random(20) {
-                0 if random(2) == 0 => page.push_str(RARE[random(RARE.len())]),
-                0 => page.push_str(PIECES[random(PIECES.len())]),
-                1 | 2 => {
-                    let (start, end) = TABLE[random(TABLE.len())];
-                    page.push_str(start);
-                    ends.push(end.to_owned());
-                }
-                3..=8 => {
-                    let name = NAMES[random(NAMES.len())];
-                    page.push_str(&["<", name, [">", ">", ">", " id=\"i\">", " class='c'>", " color=\"a&amp;b\">"][random(6)]].concat());
-                    ends.push(["</", name, ">"].concat());
-                }
-                9..=12 => page.push_str(["a", " ", "\n", "a&lt;b", "<!-- c -->", "\0", "<br>", "<hr>", "<img alt=\"i\">"][random(9)]),
-                _ => page.push_str(&ends.pop().unwrap_or_default()),
+    impl Way {
+        fn is_asked(self) -> fn(&LocalName) -> bool {
+            if self.is_adapted {
+                adapt::is_asked
+            } else {
+                record::is_asked
             }
         }
-        page
+
+        fn options(self) -> TreeBuilderOpts {
+            TreeBuilderOpts { drop_doctype: true, scripting_enabled: !self.is_adapted, ..TreeBuilderOpts::default() }
+        }
+
+        /// Returns the document of a page.
+        fn document(self, page: &str) -> String {
+            let wanted = Wanted { is_asked: self.is_asked(), css: true };
+            let mut reader = Reader::new(page, new_sink(wanted), wanted, self.options());
+            reader.page.window_length = self.window_length;
+            let Sink { tree, css, is_quirky, language, .. } = reader.read_all().unwrap();
+            let is_table = |node: &Id| matches!(tree.element(*node), Some(element) if element.name == local_name!("table"));
+            assert_eq!(tree.tables, tree.ids().filter(is_table).collect::<Vec<_>>(), "{page:?}");
+            let mut outline = Outline::new(is_quirky, language.as_deref(), &css);
+            write_children(&tree, DOCUMENT, &mut outline);
+            outline.finish()
+        }
+
+        /// Returns the document that html5ever alone builds of a page.
+        fn document_by_html5ever(self, page: &str) -> String {
+            html5ever_alone::document(page, self.is_asked(), self.options())
+        }
+
+        fn differs(self, page: &str) -> bool {
+            catch_unwind(|| self.document(page) != self.document_by_html5ever(page)).unwrap_or(true)
+        }
     }
 
-    #[test]
-    fn as_html5ever_reads_regular_pages() {
-        with_random(|random, rounds| {
-            for _ in 0..5_000 * rounds {
-                let page = regular_page(random);
-                assert_eq!(recorded(by_reader(&page)), recorded(by_html5ever(&page)), "{page:?}");
+    fn write_children(tree: &Tree, parent: Id, outline: &mut Outline) {
+        for child in tree.children(parent) {
+            match tree.data(child) {
+                Data::Root => {}
+                &Data::Text { start, length, continues } => {
+                    let text = &tree.text[start as usize..][..length as usize];
+                    outline.text(std::str::from_utf8(text).unwrap(), continues);
+                }
+                Data::Comment => outline.comment(),
+                Data::Element(element) => {
+                    let attributes = tree.attributes(element).iter().map(|attribute| (&attribute.name, &attribute.value));
+                    outline.open(&element.space, &element.name, attributes);
+                    if element.space == ns!(html) && element.name == local_name!("template") {
+                        outline.open_contents();
+                        write_children(tree, child + 1, outline);
+                        outline.close_contents();
+                    }
+                    write_children(tree, child, outline);
+                    outline.close();
+                }
             }
-        });
+        }
+    }
+
+    /// Compares the documents of random pages with those that html5ever alone builds. Prints the seed, and a page whose documents differ.
+    fn compare_random_pages(seed: u64, rounds: usize) {
+        println!("HTML_RENDER_SEED={seed}");
+        let mut random = Random::new(seed);
+        for _ in 0..rounds * PAGES {
+            let page = random.page();
+            let longest = 1 << random.below(17);
+            let way = Way { is_adapted: random.below(2) == 0, window_length: (5 + random.below(longest)).min(1 << 16) };
+            if way.differs(&page) {
+                let page = reduced(&page, |page| !depends_on_pieces(page) && way.differs(page));
+                println!("{way:?} {page:?}");
+                assert_eq!(way.document(&page), way.document_by_html5ever(&page));
+                unreachable!("a page that is read otherwise at another time: {page:?}");
+            }
+        }
+    }
+
+    /// Returns the number in a variable of the environment, if it is set.
+    fn variable(name: &str) -> Option<u64> {
+        let value = std::env::var(name).ok()?;
+        Some(value.parse().unwrap_or_else(|_| panic!("{name} is no number: {value}")))
     }
 
     #[test]
-    fn as_html5ever_reads() {
-        for_random_pages(5_000, |page| assert_eq!(recorded(by_reader(page)), recorded(by_html5ever(page)), "{page:?}"));
+    fn documents_of_a_seed() {
+        compare_random_pages(1, 2 * ROUNDS);
     }
 
     #[test]
-    fn white_space_of_a_table_is_held_back() {
-        for page in ["x<table> <!doctype>y", "x<table> <!doctype>\0 </p>y", "x<table><tr> <!DOCTYPE html>&amp;<td>z", "x<table> <!-- c -->y", "x<table> </p>y", "x<table> \0y"] {
-            assert_eq!(recorded(by_reader(page)), recorded(by_html5ever(page)), "{page:?}");
+    fn documents_of_a_new_seed() {
+        let since = SystemTime::now().duration_since(SystemTime::UNIX_EPOCH).unwrap();
+        let seed = variable("HTML_RENDER_SEED").unwrap_or(since.as_nanos() as u64);
+        compare_random_pages(seed, variable("HTML_RENDER_ROUNDS").map_or(ROUNDS, |rounds| rounds as usize));
+    }
+
+    #[test]
+    fn documents_of_pages() {
+        let pages = [
+            // white space of a table is held back until it is known whether text follows
+            "x<table> <!doctype>y",
+            "x<table> <!doctype>\0 </p>y",
+            "x<table><tr> <!DOCTYPE html>&amp;<td>z",
+            "x<table> <!-- c -->y",
+            "x<table> </p>y",
+            "x<table> \0y",
+        ];
+        for (page, is_adapted) in pages.into_iter().flat_map(|page| [(page, false), (page, true)]) {
+            let way = Way { is_adapted, window_length: WINDOW };
+            assert_eq!(way.document(page), way.document_by_html5ever(page), "{page:?}");
         }
     }
 
     #[test]
     fn as_the_library_moves_nodes() {
-        for_random_pages(2_000, |page| {
-            let moves = Moves::read(page.strip_prefix('\u{feff}').unwrap_or(page));
+        let mut random = Random::new(1);
+        for page in (0..2_000).map(|_| random.page()) {
+            let moves = Moves::read(page.strip_prefix('\u{feff}').unwrap_or(&page));
             for width in [9, 80] {
                 let ours = plain().keep_controls().string_from_read(page.as_bytes(), width);
                 let theirs = plain().with_settings(|settings| moves.render(settings, width));
                 assert_eq!(format!("{ours:?}"), format!("{theirs:?}"), "{page:?}");
             }
-        });
+        }
     }
 
     #[test]
@@ -553,7 +583,7 @@ mod tests {
         for (before, name) in [("", "p"), ("</>", "p"), ("&amp; < ", "p"), ("<svg><![CDATA[>]]>", "p"), ("<title>", "/title"), ("<script>", "/script"), ("", "/p")] {
             let page = format!("{before}<{name}{attributes}>x");
             let mut most = 0;
-            let mut reader = Reader::new(&page, new_sink(), WANTED, TreeBuilderOpts::default());
+            let mut reader = Reader::new(&page, new_sink(WANTED), WANTED, TreeBuilderOpts::default());
             let mut at = 0;
             while at < page.len() {
                 at = if reader.is_in_data { reader.read_in_data(at) } else { reader.feed_raw(at) };
@@ -565,7 +595,7 @@ mod tests {
 
     #[test]
     fn nodes_are_limited() {
-        let read = |page: &str| Reader::read(page, new_sink(), WANTED, TreeBuilderOpts::default()).map(|sink| sink.tree.node_count());
+        let read = |page: &str| Reader::read(page, new_sink(WANTED), WANTED, TreeBuilderOpts::default()).map(|sink| sink.tree.node_count());
         assert!(read(&"<br>".repeat(limits::MAX_NODES / 2)).is_ok());
         assert_eq!(read(&"<br>".repeat(limits::MAX_NODES)), Err(Refusal::TooLarge));
         let fonts: String = (0..500).map(|size| format!("<font size={size}>")).collect();
@@ -585,6 +615,6 @@ mod tests {
         let attributes = "<p id=\"a\" class=\"b\" title=\"c\" name=\"d\">".repeat(1_000);
         assert_eq!(depth(&(attributes + &"<div>".repeat(2_000))), depth(&"<div>".repeat(2_000)));
         let scripts = "<div>".repeat(600) + "<script>x</script><br>y";
-        assert!(recorded(by_reader(&scripts)).1.starts_with("yhtml"));
+        assert_eq!(by_reader(&scripts).tree.text, b"y");
     }
 }
