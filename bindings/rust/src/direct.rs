@@ -120,6 +120,9 @@ impl Direct {
             Class::Row => outer == Class::Section,
             Class::Cell => outer == Class::Row,
             Class::Caption => outer == Class::Table,
+            // the tree builder would close the outer one too, where it's told of another one
+            Class::Item => !outer.is_table_part() && !scope.has_item(),
+            Class::Term => !outer.is_table_part() && !scope.has_term(),
             _ => !outer.is_table_part(),
         };
         self.open.push(Open { node, class, scope: scope.inside(class), start: 0 });

@@ -557,6 +557,9 @@ mod tests {
             "x<table> <!-- c -->y",
             "x<table> </p>y",
             "x<table> \0y",
+            // the end of a form leaves a term or an item directly in another
+            "x<dt><form><dt/><m></form><dt>\x0c<!><dt><m><dt>",
+            "x<li><form><li></form><li>y<!><li><b><li></li></b>z",
         ];
         for (page, is_adapted) in pages.into_iter().flat_map(|page| [(page, false), (page, true)]) {
             let way = Way { is_adapted, window_length: WINDOW };
