@@ -560,6 +560,8 @@ mod tests {
             // the end of a form leaves a term or an item directly in another
             "x<dt><form><dt/><m></form><dt>\x0c<!><dt><m><dt>",
             "x<li><form><li></form><li>y<!><li><b><li></li></b>z",
+            // more attributes than usual
+            "x<svg><a a b c d e f g h i j k l m n o p q xlink:href=r>s",
         ];
         for (page, is_adapted) in pages.into_iter().flat_map(|page| [(page, false), (page, true)]) {
             let way = Way { is_adapted, window_length: WINDOW };

@@ -90,8 +90,10 @@ impl<'a> Watched<'a> {
             self.most_attributes = self.most_attributes.max(tag.attrs.len());
         }
         if tag.attrs.len() > FEW_ATTRIBUTES {
-            let is_asked = self.is_asked;
-            tag.attrs.retain(|attribute| is_asked(&attribute.name.local) || is_asked_by_builder(&attribute.name.local));
+            let is_asked = |name: &LocalName| (self.is_asked)(name) || is_asked_by_builder(name);
+            // in foreign elements html5ever takes `xlink:href` for `href` in a namespace
+            let is_asked_by_part = |name: &LocalName| name.split_once(':').map_or(false, |(_, part)| is_asked(&part.into()));
+            tag.attrs.retain(|attribute| is_asked(&attribute.name.local) || is_asked_by_part(&attribute.name.local));
         }
     }
 
