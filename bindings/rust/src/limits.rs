@@ -18,8 +18,11 @@ const MAX_OPEN: usize = 512;
 /// Maximum number of a page's nodes, and of its attributes.
 pub(crate) const MAX_NODES: usize = if cfg!(test) { 200_000 } else { 5_000_000 };
 
-/// Number of nodes and of attributes for which there is room before each token. A token reopens at most `MAX_OPEN` elements.
-const ROOM: (usize, usize) = (4 * MAX_OPEN, 4 * MAX_OPEN * FEW_ATTRIBUTES);
+/// Maximum number of nodes that a token makes beside those that it reopens: an end tag copies up to 4 elements in each of 8 rounds.
+const MAX_OWN: usize = 64;
+
+/// Number of nodes, and of attributes, for which there is room at first.
+const FIRST: usize = 32;
 
 /// Number of attributes above which a tag keeps those alone that are asked for. html5ever clones and sorts them to compare elements.
 pub(crate) const FEW_ATTRIBUTES: usize = 16;
@@ -33,11 +36,19 @@ pub(crate) enum Refusal {
     OutOfMemory,
 }
 
-/// Numbers of nodes and attributes of a tree that are below what it has memory for by more than a token makes.
+/// Returns the maximum numbers of nodes and of attributes that a token makes in a tree that has at most so many. It reopens open elements
+/// at most twice, and copies an element with its attributes.
+fn most_made(nodes: usize, attributes: usize) -> (usize, usize) {
+    (2 * MAX_OPEN.min(nodes) + MAX_OWN, FEW_ATTRIBUTES * (4 * MAX_OPEN).min(attributes + FIRST))
+}
+
+/// Numbers of nodes and attributes below which a tree has room for what a token makes.
 #[derive(Default)]
 pub(crate) struct Room {
     nodes: usize,
     attributes: usize,
+    /// Numbers of nodes and attributes that there is room for.
+    most: (usize, usize),
 }
 
 impl Room {
@@ -47,18 +58,21 @@ impl Room {
         tree.node_count() < self.nodes && tree.attribute_count() < self.attributes && !tree.is_out_of_memory
     }
 
-    /// Makes room in a tree for what another token makes. Fails where it may not grow, or memory is out.
+    /// Makes room in a tree for what tokens make until it is twice as large. Fails where it may not grow, or memory is out.
     #[cold]
     pub fn make(&mut self, tree: &mut Tree) -> Result<(), Refusal> {
-        if tree.node_count().max(tree.attribute_count()) > MAX_NODES {
+        let (nodes, attributes) = (tree.node_count(), tree.attribute_count());
+        debug_assert!(self.nodes == 0 || nodes <= self.most.0 && attributes <= self.most.1);
+        if nodes.max(attributes) > MAX_NODES {
             return Err(Refusal::TooLarge);
         }
-        if tree.is_out_of_memory || !tree.make_room(ROOM.0, ROOM.1) {
+        let next = (2 * nodes + FIRST, 2 * attributes + FIRST);
+        let made = most_made(next.0, next.1);
+        self.most = (next.0 + made.0, next.1 + made.1);
+        if tree.is_out_of_memory || !tree.make_room(self.most.0 - nodes, self.most.1 - attributes) {
             return Err(Refusal::OutOfMemory);
         }
-        let (nodes, attributes) = tree.capacity();
-        self.nodes = (nodes - ROOM.0).min(MAX_NODES) + 1;
-        self.attributes = (attributes - ROOM.1).min(MAX_NODES) + 1;
+        (self.nodes, self.attributes) = (next.0.min(MAX_NODES + 1), next.1.min(MAX_NODES + 1));
         Ok(())
     }
 }

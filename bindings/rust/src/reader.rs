@@ -608,6 +608,18 @@ mod tests {
     }
 
     #[test]
+    fn each_token_has_room() {
+        let attributes = "id=a class=b name=c href=d src=e alt=f start=g rowspan=h colspan=i";
+        for count in [1, 7, 30, 200] {
+            let fonts: String = (0..count).map(|size| format!("<font {attributes} size={size}>")).collect();
+            for rest in ["<p>x", "<p>x</font>y", "<table><td>x<tr>y", "<a><div><a>", "<nobr><p><nobr>", "<div></font></div>"] {
+                let read = by_reader(&["<p>", &fonts, &rest.repeat(3), "<b>"].concat());
+                assert!(read.tree.node_count() > count, "{count} {rest}");
+            }
+        }
+    }
+
+    #[test]
     fn start_tags_past_the_limit_are_dropped() {
         // the depth of the node that was made last
         let depth = |page: &str| {

@@ -7,6 +7,7 @@
 use crate::characters::Filter;
 use crate::classes::Class;
 use html5ever::{namespace_url, ns, Attribute, LocalName, Namespace, QualName};
+use std::mem::size_of;
 use tendril::StrTendril;
 
 /// Number of a node.
@@ -78,6 +79,23 @@ struct Node {
     data: Data,
 }
 
+/// Number of bytes from which on memory is resized in place, and not copied with what of it isn't used yet.
+const LARGE: usize = 1 << 17;
+
+/// Makes room in a vector for so many more values. Returns whether there is memory for them.
+fn make_room<T>(values: &mut Vec<T>, more: usize) -> bool {
+    if values.capacity() * size_of::<T>() >= LARGE {
+        return values.try_reserve(more).is_ok();
+    }
+    let mut moved = Vec::new();
+    let has_room = moved.try_reserve_exact(values.len() + more).is_ok();
+    if has_room {
+        moved.append(values);
+        *values = moved;
+    }
+    has_room
+}
+
 /// A range of the text: where it starts, and its length.
 pub(crate) type Piece = (u32, u32);
 
@@ -117,14 +135,9 @@ impl Tree {
         self.nodes.len() as Id - 1
     }
 
-    /// Returns the numbers of nodes and attributes that memory is allocated for.
-    pub fn capacity(&self) -> (usize, usize) {
-        (self.nodes.capacity(), self.attributes.capacity())
-    }
-
     /// Makes room for so many nodes and attributes. Returns whether there is memory for them.
     pub fn make_room(&mut self, nodes: usize, attributes: usize) -> bool {
-        self.nodes.try_reserve(nodes).is_ok() && self.attributes.try_reserve(attributes).is_ok()
+        make_room(&mut self.nodes, nodes) && make_room(&mut self.attributes, attributes)
     }
 
     /// Adds a node that has no parent.
@@ -383,7 +396,7 @@ impl Tree {
 
     /// Makes room for so many bytes of text. Returns whether there is memory for them.
     #[cold]
-    fn make_room_for_text(&mut self, length: usize) -> bool {
+    pub fn make_room_for_text(&mut self, length: usize) -> bool {
         self.text.try_reserve(length).is_ok()
     }
 
