@@ -2,11 +2,19 @@
 
 use crate::classes::{class_of, Class};
 use html5ever::{local_name, LocalName};
+use std::cell::Cell;
 
 /// Cache of recent names, with a slot for each key. The key of a name is a number of its last 8 bytes.
 pub(crate) struct Names {
     slots: [Known; 1 << SLOT_BITS],
     is_asked: fn(&LocalName) -> bool,
+    /// Whether a name is longer than those that are kept from page to page.
+    has_long: bool,
+}
+
+thread_local! {
+    /// The cache of the last page that this thread read: most names are those of each page.
+    static LAST: Cell<Option<Box<Names>>> = const { Cell::new(None) };
 }
 
 /// A name, and properties of the elements and attributes of that name.
@@ -25,6 +33,9 @@ pub(crate) struct Known {
 }
 
 const SLOT_BITS: u32 = 9;
+
+/// Maximum length of a name that is kept from page to page.
+const MAX_KEPT: usize = 64;
 
 /// Maximum length of a name whose key has all of its bytes.
 const MAX_LENGTH: usize = 8;
@@ -83,7 +94,21 @@ impl Names {
     pub fn new(is_asked: fn(&LocalName) -> bool) -> Names {
         // the empty name has the key 0
         let empty = Known { key: 0, name: local_name!(""), is_asked: false, is_formatting: false, is_raw: false, class: Class::Other };
-        Names { slots: [(); 1 << SLOT_BITS].map(|()| empty.clone()), is_asked }
+        Names { slots: [(); 1 << SLOT_BITS].map(|()| empty.clone()), is_asked, has_long: false }
+    }
+
+    /// Returns the cache of the last page of this thread, if that asked for the same attributes, or else an empty one.
+    pub fn of_thread(is_asked: fn(&LocalName) -> bool) -> Box<Names> {
+        let last = LAST.try_with(Cell::take).ok().flatten();
+        last.filter(|names| names.is_asked as usize == is_asked as usize).unwrap_or_else(|| Box::new(Names::new(is_asked)))
+    }
+
+    /// Keeps the cache for the next page of this thread, unless a name is long.
+    pub fn keep(self: Box<Names>) {
+        if !self.has_long {
+            // at the end of a thread it is dropped
+            let _ = LAST.try_with(|last| last.set(Some(self)));
+        }
     }
 
     /// Returns the name of a tag that begins at an offset, of small letters, and digits after the first, and where it ends; `None`
@@ -113,7 +138,8 @@ impl Names {
     }
 
     #[cold]
-    fn read(&self, key: u64, name: &str) -> Known {
+    fn read(&mut self, key: u64, name: &str) -> Known {
+        self.has_long |= name.len() > MAX_KEPT;
         let name = LocalName::from(name);
         Known { key, is_asked: (self.is_asked)(&name) || is_asked_by_builder(&name), is_formatting: is_formatting(&name), is_raw: is_raw(&name), class: class_of(&name), name }
     }
@@ -166,6 +192,25 @@ mod tests {
             }
         }
         assert!(names.attribute_name("", 0).is_none() && names.attribute_name("a", 2).is_none());
+    }
+
+    #[test]
+    fn names_are_kept_for_the_next_page() {
+        let asks_alt: fn(&LocalName) -> bool = |name| *name == local_name!("alt");
+        let asks_all: fn(&LocalName) -> bool = |_| true;
+        let is_known = |names: &Names, name: &str| names.slots.iter().any(|slot| *slot.name == *name);
+        let read = move |is_asked, name: &str| {
+            let mut names = Names::of_thread(is_asked);
+            let was_known = is_known(&names, name);
+            let is_asked = names.attribute_name(name, 0).unwrap().0.is_asked;
+            names.keep();
+            (was_known, is_asked)
+        };
+        assert_eq!([read(asks_alt, "src"), read(asks_alt, "src")], [(false, false), (true, false)]);
+        assert_eq!(std::thread::spawn(move || read(asks_alt, "src")).join().unwrap(), (false, false));
+        assert_eq!([read(asks_all, "src"), read(asks_all, "src"), read(asks_alt, "src")], [(false, true), (true, true), (false, false)]);
+        let long = "a".repeat(MAX_KEPT + 1);
+        assert_eq!([read(asks_alt, &long), read(asks_alt, &long), read(asks_alt, "src")], [(false, false); 3]);
     }
 
     #[test]

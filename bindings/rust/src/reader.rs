@@ -101,7 +101,7 @@ pub(crate) struct Reader<'a> {
     tokenizer: Tokenizer<Watched<'a>>,
     queue: BufferQueue,
     page: Page<'a>,
-    names: Names,
+    names: Box<Names>,
     /// The attributes of the tag that is read, whose memory the next one takes.
     attributes: Vec<Attribute>,
     /// Whether the tokenizer is in the data state, with nothing that it still waits for.
@@ -174,6 +174,7 @@ impl<'a> Reader<'a> {
             at = if self.is_in_data { self.read_in_data(at) } else { self.feed_raw(at) };
         }
         self.tokenizer.end();
+        self.names.keep();
         match self.tokenizer.sink.refusal {
             Some(refusal) => Err(refusal),
             None => Ok(self.tokenizer.sink.builder.sink),
@@ -188,7 +189,7 @@ impl<'a> Reader<'a> {
             tokenizer: Tokenizer::new(watched, options),
             queue: BufferQueue::new(),
             page: Page::new(page),
-            names: Names::new(wanted.is_asked),
+            names: Names::of_thread(wanted.is_asked),
             attributes: Vec::new(),
             is_in_data: true,
         }
