@@ -65,7 +65,11 @@ impl Parsed {
         let filter = Filter { keeps_controls: reading.keeps_controls, drops_soft_hyphens: is_adapted, drops_marks: is_adapted }.for_page(&page);
         let wanted = Wanted { is_asked: if is_adapted { adapt::is_asked } else { record::is_asked }, css: beside.css };
         let options = TreeBuilderOpts { drop_doctype: true, scripting_enabled: !is_adapted, ..TreeBuilderOpts::default() };
-        let sink = Reader::read(&page, Sink::new(Tree::new(filter), wanted), wanted, options).map_err(|refusal| match refusal {
+        let mut tree = Tree::new(filter);
+        if !tree.make_room_for_text(page.len()) {
+            return Err(Error::OutOfMemory);
+        }
+        let sink = Reader::read(&page, Sink::new(tree, wanted), wanted, options).map_err(|refusal| match refusal {
             Refusal::TooLarge => Error::TooLarge,
             Refusal::OutOfMemory => Error::OutOfMemory,
         })?;
@@ -97,11 +101,12 @@ impl Parsed {
 
 /// Reads all bytes, in memory that may be refused.
 fn bytes(mut input: impl Read) -> Result<Vec<u8>, Error> {
-    const BLOCK: usize = 1 << 16;
+    const FIRST: usize = 1 << 13;
     let mut bytes = Vec::new();
     loop {
-        bytes.try_reserve(BLOCK).map_err(|_| Error::OutOfMemory)?;
-        if input.by_ref().take(BLOCK as u64).read_to_end(&mut bytes)? == 0 {
+        bytes.try_reserve(FIRST.max(bytes.len())).map_err(|_| Error::OutOfMemory)?;
+        let room = bytes.capacity() - bytes.len();
+        if input.by_ref().take(room as u64).read_to_end(&mut bytes)? < room {
             return Ok(bytes);
         }
     }
@@ -162,5 +167,31 @@ pub struct RenderTree {
 impl fmt::Debug for RenderTree {
     fn fmt(&self, f: &mut fmt::Formatter<'_>) -> fmt::Result {
         f.debug_struct("RenderTree").field("nodes", &self.page.tree.node_count()).finish_non_exhaustive()
+    }
+}
+
+#[cfg(test)]
+mod tests {
+    use super::*;
+    use std::io;
+
+    /// Bytes of which each call reads a few.
+    struct Few<'a>(&'a [u8], usize);
+
+    impl Read for Few<'_> {
+        fn read(&mut self, to: &mut [u8]) -> io::Result<usize> {
+            let most = self.1.min(to.len());
+            self.0.read(&mut to[..most])
+        }
+    }
+
+    #[test]
+    fn all_bytes_are_read() {
+        let page: Vec<u8> = (0..100_000).map(|number| number as u8).collect();
+        for length in [0, 1, 8_191, 8_192, 8_193, 16_384, 100_000] {
+            for few in [1, 4_096, 100_000] {
+                assert!(bytes(Few(&page[..length], few)).unwrap() == page[..length], "{length} bytes, {few} at once");
+            }
+        }
     }
 }

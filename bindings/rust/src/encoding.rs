@@ -5,6 +5,7 @@
 
 use crate::error::Error;
 use encoding_rs::{Encoding, UTF_16BE, UTF_16LE, UTF_8, WINDOWS_1252, X_USER_DEFINED};
+use memchr::memchr_iter;
 
 /// Number of bytes in which a declaration is looked for.
 const PRESCAN: usize = 1_024;
@@ -68,7 +69,8 @@ fn declared(bytes: &[u8]) -> Option<&'static Encoding> {
     if bytes.starts_with(b"\0<\0?\0x") {
         return Some(UTF_16BE);
     }
-    Scanner { bytes, at: 0 }.meta().or_else(|| xml_declaration(bytes))
+    let has_meta = memchr_iter(b'<', bytes).any(|at| is_meta(&bytes[at..]));
+    has_meta.then(|| Scanner { bytes, at: 0 }.meta()).flatten().or_else(|| xml_declaration(bytes))
 }
 
 /// Returns the encoding that a declaration in ASCII can mean.
