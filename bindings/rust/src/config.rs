@@ -19,7 +19,6 @@ use crate::records::Setting;
 use crate::records::Step;
 use crate::render::{PlainDecorator, RichDecorator, TextDecorator};
 use crate::sheets::{keep, Sheets};
-use crate::tree::Piece;
 use std::io::Read;
 use std::marker::PhantomData;
 use std::mem;
@@ -291,7 +290,9 @@ impl<D: TextDecorator> Config<D> {
         let options = page.reading.options.as_ref();
         let adaptation = options.map(|options| self.adaptation(page, options, &mut sheets, width));
         let filter = Filter { drops_soft_hyphens: false, ..page.tree.filter };
-        let (mut recorder, adapted) = pass::record(&page.tree, Recorder::new(text, filter), adaptation);
+        let mut recorder = Recorder::new(text, filter);
+        recorder.make_room(page.tree.node_count());
+        let (mut recorder, adapted) = pass::record(&page.tree, recorder, adaptation);
         let settings = self.settings_of(&mut recorder, sheets, &adapted, options.is_some());
         if recorder.is_out_of_memory {
             return Err(Error::OutOfMemory);
@@ -314,11 +315,15 @@ impl<D: TextDecorator> Config<D> {
     /// Returns the settings of a recorded page: rules, those that its adaptation needs, and all others. Their texts are kept.
     fn settings_of(&self, recorder: &mut Recorder, sheets: Sheets, adapted: &Adapted, is_adapted: bool) -> Vec<Setting> {
         let (start, _) = recorder.keep(&sheets.text);
-        let mut settings = Vec::with_capacity(sheets.settings.len() + self.settings.len());
+        let mut settings = Vec::with_capacity(sheets.settings.len() + MAX_OWN_RULES + self.settings.len());
         for setting in sheets.settings {
-            settings.push(setting.moved(start));
-            if setting.kind == call::DO_DECORATE && is_adapted {
-                push_rules_without_signs(adapted.drops_signs, &mut settings, |text| recorder.keep(text));
+            if setting.kind != call::DO_DECORATE {
+                settings.push(setting.moved(start));
+            } else if recorder.has_signed {
+                settings.push(setting);
+                if is_adapted {
+                    push_rules_without_signs(recorder, adapted.drops_signs, &mut settings);
+                }
             }
         }
         adapted.rules.push_settings(sheets.most_classes, &mut settings, |text| recorder.keep(text));
@@ -520,12 +525,16 @@ fn coloured(lines: &[TaggedLine<Vec<RichAnnotation>>], colour_map: impl Fn(&[Ric
     text
 }
 
-/// Adds the rules by which terms have no signs, nor the elements of the class of those without, if there are any. Texts are kept by a
-/// function.
-fn push_rules_without_signs(has_class: bool, settings: &mut Vec<Setting>, mut keep: impl FnMut(&str) -> Piece) {
-    settings.extend(css::without_signs(Unsigned::Element(keep("dt"))));
+/// Maximum number of the rules that `push_rules_without_signs` adds.
+const MAX_OWN_RULES: usize = 4;
+
+/// Adds the rules by which terms have no signs, nor the elements of the class of those without, if there are any.
+fn push_rules_without_signs(recorder: &mut Recorder, has_class: bool, settings: &mut Vec<Setting>) {
+    if recorder.has_terms {
+        settings.extend(css::without_signs(Unsigned::Element(recorder.keep("dt"))));
+    }
     if has_class {
-        settings.extend(css::without_signs(Unsigned::Class(keep(UNSIGNED_CLASS))));
+        settings.extend(css::without_signs(Unsigned::Class(recorder.keep(UNSIGNED_CLASS))));
     }
 }
 

@@ -50,8 +50,15 @@ pub(crate) fn is_asked(name: &LocalName) -> bool {
     )
 }
 
+/// Reports whether plain text has signs around the contents of an element of this name.
+fn is_signed(name: &LocalName) -> bool {
+    matches!(*name, local_name!("b") | local_name!("code") | local_name!("dt") | local_name!("em") | local_name!("strong"))
+}
+
 /// Number of names whose place in the text is remembered.
 const NAMES: usize = 128;
+
+const NO_NAME: Option<(LocalName, Piece)> = None;
 
 /// The character that a horizontal line is of.
 const RULE: &str = "\u{2500}";
@@ -65,8 +72,12 @@ pub(crate) struct Recorder {
     pub text: Vec<u8>,
     /// Whether there is more than numbers of 32 bits can name, or memory is out.
     pub is_out_of_memory: bool,
+    /// Whether an element is recorded around whose contents plain text has signs.
+    pub has_signed: bool,
+    /// Whether a `dt` is recorded, which is one of these.
+    pub has_terms: bool,
     filter: Filter,
-    names: Box<[(LocalName, Piece); NAMES]>,
+    names: Box<[Option<(LocalName, Piece)>; NAMES]>,
     /// The longest horizontal line so far.
     rule: Piece,
     node_count: u32,
@@ -81,8 +92,10 @@ impl Recorder {
             steps: Vec::new(),
             text,
             is_out_of_memory: false,
+            has_signed: false,
+            has_terms: false,
             filter,
-            names: Box::new([(); NAMES].map(|()| (local_name!(""), (0, 0)))),
+            names: Box::new([NO_NAME; NAMES]),
             rule: (0, 0),
             node_count: 0,
             placeholder: None,
@@ -128,7 +141,7 @@ impl Recorder {
     fn keep_name(&mut self, name: &LocalName) -> Piece {
         let slot = name.get_hash() as usize % NAMES;
         match &self.names[slot] {
-            (kept, piece) if kept == name => *piece,
+            Some((kept, piece)) if kept == name => *piece,
             _ => self.keep_another_name(name, slot),
         }
     }
@@ -136,21 +149,23 @@ impl Recorder {
     #[cold]
     fn keep_another_name(&mut self, name: &LocalName, slot: usize) -> Piece {
         let piece = self.keep_by(name, |name, to| Filter::default().append(name, to));
-        self.names[slot] = (name.clone(), piece);
+        self.has_signed |= is_signed(name);
+        self.has_terms |= *name == local_name!("dt");
+        self.names[slot] = Some((name.clone(), piece));
         piece
     }
 
     #[inline]
     fn push(&mut self, step: Step) {
-        if self.steps.len() < self.steps.capacity() || self.make_room() {
+        if self.steps.len() < self.steps.capacity() || self.make_room(1) {
             self.steps.push(step);
         }
     }
 
-    /// Makes room for another step. Returns whether there is memory for it.
+    /// Makes room for so many more steps. Returns whether there is memory for them.
     #[cold]
-    fn make_room(&mut self) -> bool {
-        let has_room = self.steps.try_reserve(1).is_ok();
+    pub fn make_room(&mut self, more: usize) -> bool {
+        let has_room = self.steps.try_reserve(more).is_ok();
         self.is_out_of_memory |= !has_room;
         has_room
     }
