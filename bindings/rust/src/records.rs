@@ -113,6 +113,16 @@ impl Given {
         // SAFETY: where a call answers 0, these are the start and the length of what it gave, which nothing else refers to
         unsafe { std::slice::from_raw_parts(self.start, self.length) }
     }
+
+    /// Returns the bytes as a text.
+    ///
+    /// # Safety
+    ///
+    /// The bytes are UTF-8.
+    unsafe fn text(&self) -> &str {
+        debug_assert!(std::str::from_utf8(self.bytes()).is_ok(), "the library gave a text that isn't UTF-8");
+        std::str::from_utf8_unchecked(self.bytes())
+    }
 }
 
 impl Drop for Given {
@@ -166,11 +176,33 @@ pub fn give_back_large_blocks() {
 pub(crate) fn text<T>(page: Page<'_>, read: impl FnOnce(&str) -> T) -> Result<T, Error> {
     let given = rendered(html_render_text, page)?;
     // SAFETY: they are the bytes of a text, as the library's contract says
-    Ok(read(unsafe { std::str::from_utf8_unchecked(given.bytes()) }))
+    Ok(read(unsafe { given.text() }))
 }
 
 /// The lines of a page, as records, which a function reads.
 pub(crate) fn lines<T>(page: Page<'_>, read: impl FnOnce(&[u8]) -> T) -> Result<T, Error> {
     let given = rendered(html_render_lines, page)?;
     Ok(read(given.bytes()))
+}
+
+#[cfg(test)]
+mod tests {
+    use super::*;
+    use crate::characters::Filter;
+    use crate::record::{Recorder, HTML};
+    use html5ever::local_name;
+
+    #[test]
+    #[should_panic(expected = "the library gave a text that isn't UTF-8")]
+    fn texts_of_the_library_are_checked_in_tests() {
+        let mut recorder = Recorder::new(Vec::new(), Filter::default());
+        let block = recorder.element(0, HTML, &local_name!("p"));
+        let piece = recorder.keep("\u{e9}");
+        recorder.text(block, piece);
+        let page = Page { steps: &recorder.steps, text: &recorder.text, settings: &[], decorator: 0, width: 80 };
+        let mut given = rendered(html_render_text, page).unwrap();
+        given.length = 1;
+        // SAFETY: the assertion panics before the text is made
+        unsafe { given.text() };
+    }
 }
