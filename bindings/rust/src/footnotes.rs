@@ -1,9 +1,9 @@
 //! The targets of links after a text.
 
+use crate::columns;
 use crate::error::Error;
 use crate::lines::TaggedLine;
 use std::rc::Rc;
-use unicode_width::UnicodeWidthChar;
 
 /// The targets of a page's links, as lines after its text.
 #[derive(Debug, Default)]
@@ -100,7 +100,7 @@ fn cut(line: &str, columns: usize) -> Vec<String> {
     let mut pieces = vec![String::new()];
     let mut used = 0;
     for c in line.chars() {
-        let width = c.width().unwrap_or(0);
+        let width = columns::of_char(c);
         if used + width > columns && used > 0 {
             pieces.push(String::new());
             used = 0;

@@ -16,6 +16,7 @@
 mod adapt;
 mod characters;
 mod classes;
+mod columns;
 pub mod config;
 mod css;
 mod direct;

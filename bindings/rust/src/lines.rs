@@ -1,7 +1,7 @@
 //! Lines of tagged strings, under html2text's names.
 
+use crate::columns;
 use std::fmt;
-use unicode_width::UnicodeWidthStr;
 
 /// A colour of red, green and blue parts. It is displayed as CSS writes it.
 ///
@@ -70,7 +70,7 @@ impl<T> TaggedString<T> {
     /// assert_eq!(lines[0].tagged_strings().next().map(|string| string.width()), Some(3));
     /// ```
     pub fn width(&self) -> usize {
-        self.s.width()
+        columns::of_text(&self.s)
     }
 }
 

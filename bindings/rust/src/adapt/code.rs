@@ -5,10 +5,10 @@
 
 use super::contents::{text_of, Contents, Shown};
 use crate::characters::mark;
+use crate::columns;
 use crate::record::{Handle, Recorder};
 use crate::tree::{Data, Id, Piece, NONE};
 use html5ever::local_name;
-use unicode_width::UnicodeWidthChar;
 
 /// Columns of the indentation, where they are left.
 const INDENT: u32 = 4;
@@ -23,7 +23,7 @@ const SPACES: &str = "        ";
 fn after(column: u32, c: char) -> u32 {
     match c {
         '\t' => (column / TAB + 1) * TAB,
-        _ => column.saturating_add(c.width().unwrap_or(0) as u32),
+        _ => column.saturating_add(columns::of_char(c) as u32),
     }
 }
 

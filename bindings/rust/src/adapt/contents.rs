@@ -3,11 +3,11 @@
 use super::elements::{change_in, Change, Field, Part};
 use super::flow::bytes;
 use super::{drawings, embedded, forms, is_drawing, is_dropped, names_contents, said_by, targets, Adaptation, InlineStyle};
+use crate::columns;
 use crate::options::LinkMode;
 use crate::tree::{Attr, Data, Element, Id, Piece, Tree, NONE};
 use html5ever::{local_name, namespace_url, ns};
 use std::borrow::Cow;
-use unicode_width::{UnicodeWidthChar, UnicodeWidthStr};
 
 /// Maximum number of columns of a link's number, if a page has fewer than 1,000.
 const NUMBER: u32 = 5;
@@ -76,7 +76,7 @@ pub(super) struct Contents<'a> {
 
 /// Reports whether a text has a character that isn't white space and takes a column.
 fn is_visible(text: &str) -> bool {
-    text.bytes().any(|byte| byte.is_ascii_graphic()) || text.chars().any(|c| !c.is_whitespace() && c.width().map_or(false, |columns| columns > 0))
+    text.bytes().any(|byte| byte.is_ascii_graphic()) || text.chars().any(|c| !c.is_whitespace() && columns::of_char(c) > 0)
 }
 
 /// Returns a piece of a text.
@@ -117,7 +117,7 @@ impl Measure {
                 self.gap = self.gap.saturating_add(u32::from(!self.is_after_space));
                 self.is_after_space = true;
             } else {
-                self.add(c.width().unwrap_or(0) as u32);
+                self.add(columns::of_char(c) as u32);
             }
         }
     }
@@ -498,7 +498,7 @@ impl<'a> Contents<'a> {
     /// Returns the columns of an image or a drawing of a name.
     fn columns_of_image(self, name: &str) -> u32 {
         let signs = if self.adaptation.has_colours { 0 } else { IMAGE_SIGNS };
-        (name.trim().width() as u32).saturating_add(signs)
+        (columns::of_text(name.trim()) as u32).saturating_add(signs)
     }
 
     /// Returns the columns of an element that is shown by a text of its own.
@@ -508,11 +508,11 @@ impl<'a> Contents<'a> {
             local_name!("input") => forms::input(self.tree, node).unwrap_or_default().into(),
             local_name!("select") => forms::select(self.tree, self.text, node).into(),
             _ => match embedded::link(self.tree, node, &element.name) {
-                Some(link) => return (link.name.width() as u32).saturating_add(self.link_signs(&link.target)),
+                Some(link) => return (columns::of_text(&link.name) as u32).saturating_add(self.link_signs(&link.target)),
                 None => return 0,
             },
         };
-        text.width() as u32
+        columns::of_text(&text) as u32
     }
 
     /// Returns the columns of the signs around what is in an element, and of a drawing's title.
@@ -546,7 +546,7 @@ impl<'a> Contents<'a> {
         match self.adaptation.links {
             _ if !targets::leads_out(&written) => 0,
             Some(LinkMode::Notes) => NUMBER,
-            Some(LinkMode::Inline) => (written.width() as u32).saturating_add(TARGET_SIGNS),
+            Some(LinkMode::Inline) => (columns::of_text(&written) as u32).saturating_add(TARGET_SIGNS),
             Some(LinkMode::List | LinkMode::None) | None => 0,
         }
     }
