@@ -8,7 +8,8 @@ use html_render::{Error, Options};
 use std::env;
 use std::fs;
 use std::process::ExitCode;
-use unicode_width::UnicodeWidthStr;
+
+mod lines;
 
 const WIDTHS: [usize; 3] = [80, 40, 20];
 
@@ -28,7 +29,7 @@ fn look(page: &[u8], width: usize) -> Result<bool, String> {
     if let Some(c) = text.chars().find(|&c| is_control(c)) {
         return Err(format!("a control character: {c:?}"));
     }
-    match text.lines().find(|line| line.width() > width) {
+    match lines::first_beyond(&text, width) {
         Some(line) if is_within => Err(format!("a line passes the width: {line:?}")),
         _ => Ok(is_within),
     }
