@@ -52,6 +52,7 @@ mod sheets;
 mod sink;
 mod tree;
 mod watched;
+mod written;
 
 pub use document::{RcDom, RenderTree};
 pub use error::Error;

@@ -1,10 +1,11 @@
 //! Cache of the names of tags and attributes: html5ever's atoms, for which each name would be hashed.
 
 use crate::classes::{class_of, Class};
+use crate::written::part;
 use html5ever::{local_name, LocalName};
 use std::cell::Cell;
 
-/// Cache of recent names, with a slot for each key. The key of a name is a number of its last 8 bytes.
+/// Cache of recent names, with a slot for each key. The key of a name is a number of its last 8 bytes, as it is written.
 pub(crate) struct Names {
     slots: [Known; 1 << SLOT_BITS],
     is_asked: fn(&LocalName) -> bool,
@@ -111,17 +112,17 @@ impl Names {
         }
     }
 
-    /// Returns the name of a tag that begins at an offset, of small letters, and digits after the first, and where it ends; `None`
-    /// where there is no such name, or raw text follows the tag.
+    /// Returns the name of a tag that begins at an offset, of letters, and digits after the first, and where it ends; `None` where there
+    /// is no such name, or raw text follows the tag.
     pub fn tag_name(&mut self, text: &str, start: usize) -> Option<(&Known, usize)> {
-        let written = Written::new(text, start, |at, byte| byte.is_ascii_lowercase() || byte.is_ascii_digit() && at > start)?;
+        let written = Written::new(text, start, part::OF_TAG).filter(|_| !text.as_bytes()[start].is_ascii_digit())?;
         let known = self.known(&written);
         (!known.is_raw).then(|| (known, written.end))
     }
 
-    /// Returns the name of an attribute that begins at an offset, of small letters and hyphens, and where it ends.
+    /// Returns the name of an attribute that begins at an offset, of letters and hyphens, and where it ends.
     pub fn attribute_name(&mut self, text: &str, start: usize) -> Option<(&Known, usize)> {
-        let written = Written::new(text, start, |_, byte| byte.is_ascii_lowercase() || byte == b'-')?;
+        let written = Written::new(text, start, part::OF_ATTRIBUTE)?;
         Some((self.known(&written), written.end))
     }
 
@@ -130,11 +131,19 @@ impl Names {
         let is_longer = written.length() > MAX_LENGTH;
         let key = if is_longer { written.key | IS_LONGER } else { written.key };
         let place = (key.wrapping_mul(0x9e37_79b9_7f4a_7c15) >> (u64::BITS - SLOT_BITS)) as usize;
-        let slot = &self.slots[place];
-        if slot.key != key || is_longer && *slot.name != *written.name() {
-            self.slots[place] = self.read(key, written.name());
+        if self.slots[place].key != key || is_longer {
+            self.make_known(place, key, written.name());
         }
         &self.slots[place]
+    }
+
+    /// Puts a name into a slot, unless it's there.
+    #[cold]
+    fn make_known(&mut self, place: usize, key: u64, name: &str) {
+        let slot = &self.slots[place];
+        if slot.key != key || *slot.name != *name && !str::eq_ignore_ascii_case(&slot.name, name) {
+            self.slots[place] = self.read(key, &name.to_ascii_lowercase());
+        }
     }
 
     #[cold]
@@ -155,12 +164,12 @@ struct Written<'a> {
 }
 
 impl<'a> Written<'a> {
-    /// Returns the name that begins at an offset, as far as `is_part` accepts offsets and their bytes; `None` if it is empty.
+    /// Returns the name that begins at an offset, of bytes of a kind; `None` if it is empty.
     #[inline(always)]
-    fn new(text: &'a str, start: usize, is_part: impl Fn(usize, u8) -> bool) -> Option<Written<'a>> {
+    fn new(text: &'a str, start: usize, kind: u8) -> Option<Written<'a>> {
         let (mut key, mut end) = (0, start);
         for &byte in text.as_bytes().get(start..)? {
-            if !is_part(end, byte) {
+            if !part::is(kind, byte) {
                 break;
             }
             key = key << 8 | u64::from(byte);
@@ -190,6 +199,9 @@ mod tests {
                 let (known, end) = names.attribute_name(name, 0).unwrap();
                 assert_eq!((&known.name, known.is_asked, end), (&LocalName::from(name), name == "alt", name.len()));
             }
+        }
+        for name in ["Alt", "ALT", "BlockQuote", "BLOCKQUOTE", "blockquote"] {
+            assert_eq!(*names.attribute_name(name, 0).unwrap().0.name, *name.to_ascii_lowercase());
         }
         assert!(names.attribute_name("", 0).is_none() && names.attribute_name("a", 2).is_none());
     }
@@ -221,7 +233,7 @@ mod tests {
         assert_eq!(found("<b>"), Some(("b".to_owned(), true, 2)));
         assert_eq!(found("<blockquote "), Some(("blockquote".to_owned(), false, 11)));
         assert_eq!(found("<1>"), None);
-        assert_eq!(found("<P>"), None);
-        assert_eq!(found("<style>"), None);
+        assert_eq!(found("<B>"), Some(("b".to_owned(), true, 2)));
+        assert_eq!((found("<style>"), found("<STYLE>")), (None, None));
     }
 }

@@ -1,29 +1,23 @@
-//! Reads HTML into a tree builder: html5ever's tokenizer, but for texts and tags that are written in the plainest way.
+//! Reads HTML into a tree builder: html5ever's tokenizer, but for texts and tags that are plainly written.
 //!
-//! html5ever's tokenizer goes over the name of a tag character by character, at some 300 instructions each. Most of a page is
-//! text, usual character references, tags as `<td>`, `</td>` and `<a href="x">`, and comments. These become the same tokens
-//! here, comments without their contents. All else goes through html5ever's tokenizer, up to the end of a tag, a comment or a
-//! doctype that doesn't begin raw text: there it is back in the state in which texts and tags are read, which HTML calls the
-//! data state.
+//! html5ever's tokenizer goes over the name of a tag character by character, at some 300 instructions each. Most of a page is text,
+//! comments, and what `written` reads: character references and tags. These become the same tokens here, comments without their contents.
+//! All else goes through html5ever's tokenizer, up to the end of a tag, a comment or a doctype that doesn't begin raw text: there it is
+//! back in the state in which texts and tags are read, which HTML calls the data state.
 
 use crate::limits::{self, Refusal, FEW_ATTRIBUTES};
 use crate::names::Names;
 use crate::sink::{Sink, Wanted};
 use crate::watched::{TagName, Watched};
+use crate::written::{self, Next, Reference, Value};
 use html5ever::tokenizer::{BufferQueue, Token, TokenSink, Tokenizer, TokenizerOpts, TokenizerResult};
 use html5ever::tree_builder::TreeBuilderOpts;
 use html5ever::{namespace_url, ns, Attribute, QualName};
-use memchr::{memchr, memchr2, memchr_iter, memmem};
+use memchr::{memchr, memchr2, memchr3, memchr_iter, memmem};
 use tendril::StrTendril;
 
 /// Usual length of a window: number of bytes of a page that its tendrils share, and the most that one token or call has.
 const WINDOW: usize = if cfg!(test) { 24 } else { 1 << 16 };
-
-/// The reference to an ampersand, the most usual one in attributes.
-const AMPERSAND: &str = "&amp;";
-
-/// Maximum number of bytes of a usual reference.
-const LONGEST_REFERENCE: usize = 8;
 
 /// Maximum number of bytes that a tendril stores inline.
 const INLINE: usize = 8;
@@ -37,11 +31,14 @@ struct Page<'a> {
     window_length: usize,
     /// Whether some text has a carriage return or a zero byte.
     is_odd: bool,
+    has_zeros: bool,
 }
 
 impl<'a> Page<'a> {
     fn new(text: &'a str) -> Page<'a> {
-        Page { text, start: 0, window: StrTendril::new(), window_length: WINDOW, is_odd: memchr2(b'\r', 0, text.as_bytes()).is_some() }
+        let odd = memchr2(b'\r', 0, text.as_bytes());
+        let has_zeros = odd.map_or(false, |first| memchr(0, &text.as_bytes()[first..]).is_some());
+        Page { text, start: 0, window: StrTendril::new(), window_length: WINDOW, is_odd: odd.is_some(), has_zeros }
     }
 
     /// Returns where a part that begins at an offset ends, if it is to end at another and to fit a window.
@@ -56,30 +53,30 @@ impl<'a> Page<'a> {
     /// Returns the number of bytes of the text at an offset, up to a tag or a byte that the tokenizer changes.
     fn text_length(&self, start: usize) -> usize {
         let rest = &self.text.as_bytes()[start..];
-        self.find(b'<', rest).unwrap_or(rest.len())
+        let end = if self.is_odd { self.find_special(rest) } else { memchr2(b'<', b'&', rest) };
+        end.unwrap_or(rest.len())
     }
 
-    /// Returns where the quoted value at an offset ends, and whether it has `&amp;`; `None` if it is longer than a window, or the tokenizer
-    /// changes something else of it.
-    fn value_end(&self, start: usize) -> Option<(usize, bool)> {
-        let bytes = self.text.as_bytes();
-        let mut end = start + self.find(b'"', &bytes[start..])?;
-        let has_references = bytes[end] == b'&';
-        while bytes[end..].starts_with(AMPERSAND.as_bytes()) {
-            end += AMPERSAND.len();
-            end += self.find(b'"', &bytes[end..])?;
+    /// Returns the position of the first byte that begins a tag, or that the tokenizer changes.
+    #[cold]
+    fn find_special(&self, rest: &[u8]) -> Option<usize> {
+        if self.has_zeros {
+            return rest.iter().position(|byte| matches!(byte, b'<' | b'&' | b'\r' | 0));
         }
-        (bytes[end] == b'"' && end - start <= self.window_length).then(|| (end, has_references))
+        memchr3(b'<', b'&', b'\r', rest)
     }
 
-    /// Returns the position of the first byte that is `end`, or that the tokenizer changes.
+    /// Returns the value of an attribute; `None` if it is longer than a window, or html5ever has to read it.
     #[inline]
-    fn find(&self, end: u8, rest: &[u8]) -> Option<usize> {
-        if self.is_odd {
-            rest.iter().position(|&byte| byte == end || is_special(byte))
-        } else {
-            memchr2(end, b'&', rest)
+    fn value(&self, written: &Value) -> Option<StrTendril> {
+        let text = &self.text[written.range.clone()];
+        if text.len() > self.window_length || self.is_odd && memchr2(b'\r', 0, text.as_bytes()).is_some() {
+            return None;
         }
+        if written.may_refer {
+            return written::referred(text);
+        }
+        Some(text.into())
     }
 
     /// Returns a piece that fits a window.
@@ -106,39 +103,6 @@ pub(crate) struct Reader<'a> {
     attributes: Vec<Attribute>,
     /// Whether the tokenizer is in the data state, with nothing that it still waits for.
     is_in_data: bool,
-}
-
-/// Reports whether the tokenizer changes a byte of a text or value: it begins a character reference, or is a carriage return or zero.
-fn is_special(byte: u8) -> bool {
-    matches!(byte, b'&' | b'\r' | 0)
-}
-
-/// Returns a value whose only references are `&amp;`.
-pub(crate) fn without_references(value: &str) -> StrTendril {
-    value.replace(AMPERSAND, "&").into()
-}
-
-/// Returns the character of the reference that a text begins with, and its number of bytes, if it is a usual one and has a semicolon.
-/// html5ever drops a carriage return after some.
-fn usual_reference(text: &[u8]) -> Option<(char, usize)> {
-    let length = text.iter().take(LONGEST_REFERENCE).position(|&byte| byte == b';')?;
-    let referred = match &text[1..length] {
-        b"amp" => '&',
-        b"lt" => '<',
-        b"gt" => '>',
-        b"quot" => '"',
-        b"nbsp" => '\u{a0}',
-        [b'#', digits @ ..] => numbered(digits)?,
-        _ => return None,
-    };
-    (text.get(length + 1) != Some(&b'\r')).then(|| (referred, length + 1))
-}
-
-/// Returns the character of a decimal number, if HTML says nothing else of it.
-fn numbered(digits: &[u8]) -> Option<char> {
-    let digit = |number: u32, &digit: &u8| digit.is_ascii_digit().then(|| number * 10 + u32::from(digit - b'0'));
-    let number = digits.iter().try_fold(0, digit)?;
-    char::from_u32(number).filter(|referred| ('\u{a0}'..='\u{d7ff}').contains(referred))
 }
 
 /// Returns the number of bytes of a comment's content and its end, which may be that of the page.
@@ -320,7 +284,7 @@ impl<'a> Reader<'a> {
             _ => {
                 let end = start + self.page.text_length(start);
                 if end == start {
-                    return self.feed_in_data(start);
+                    return self.give_newline(start).unwrap_or_else(|| self.feed_in_data(start));
                 }
                 self.give_text(start, end);
                 end
@@ -328,11 +292,23 @@ impl<'a> Reader<'a> {
         }
     }
 
-    /// Gives the tree builder the character of the reference that begins here, if it is a usual one. Returns its end.
+    /// Gives the tree builder the characters of the reference, or the ampersand, that begins here. Returns its end.
     fn give_reference(&mut self, start: usize) -> Option<usize> {
-        let (referred, length) = usual_reference(&self.page.text.as_bytes()[start..])?;
-        self.tokenizer.sink.take_char(referred);
+        let text = &self.page.text[start..];
+        let Reference { character, second, length } = written::reference(text).or_else(|| written::ampersand(text.as_bytes()))?;
+        self.tokenizer.sink.take_char(character);
+        if let Some(second) = second {
+            self.tokenizer.sink.take_char(second);
+        }
         Some(start + length)
+    }
+
+    /// Gives the tree builder a newline for the carriage return that begins here. Returns its end.
+    #[cold]
+    fn give_newline(&mut self, start: usize) -> Option<usize> {
+        let rest = self.page.text.as_bytes()[start..].strip_prefix(b"\r")?;
+        self.tokenizer.sink.take_char('\n');
+        Some(start + 1 + usize::from(rest.first() == Some(&b'\n')))
     }
 
     /// Gives the tree builder a text.
@@ -349,68 +325,55 @@ impl<'a> Reader<'a> {
         }
     }
 
-    /// Reads the attribute ` name="value"` that begins here into a tag's, if it is asked for. Returns where it ends; `None` where it is
-    /// written in another way, or the tag has one of that name.
+    /// Reads the attribute that begins here into a tag's, if it is asked for. Returns where it ends; `None` where it isn't plainly written, or
+    /// the tag has one of that name.
     fn plain_attribute(&mut self, start: usize, is_formatting: bool) -> Option<usize> {
-        let text = self.page.text.as_bytes();
-        let (known, name_end) = self.names.attribute_name(self.page.text, start + 1)?;
-        if text.get(name_end..name_end + 2)? != b"=\"" {
-            return None;
-        }
-        let value = name_end + 2;
-        let (end, has_references) = self.page.value_end(value)?;
+        let (known, name_end) = self.names.attribute_name(self.page.text, start)?;
+        let written = written::value(self.page.text.as_bytes(), name_end)?;
         if known.is_asked || is_formatting {
             if self.attributes.iter().any(|other| other.name.local == known.name) {
                 return None;
             }
             let name = QualName::new(None, ns!(), known.name.clone());
-            let value = &self.page.text[value..end];
-            let value = if has_references { without_references(value) } else { value.into() };
+            let value = self.page.value(&written)?;
             self.attributes.push(Attribute { name, value });
         }
-        Some(end + 1)
+        Some(written.end)
     }
 
-    /// Gives the tree builder the end tag that begins here, where it is written in the plainest way. Returns its end.
+    /// Gives the tree builder the end tag that begins here, where it is plainly written. Returns its end.
     fn give_plain_end_tag(&mut self, start: usize) -> Option<usize> {
-        let (known, end) = self.names.tag_name(self.page.text, start + "</".len())?;
-        if *self.page.text.as_bytes().get(end)? != b'>' {
-            return None;
-        }
+        let (known, name_end) = self.names.tag_name(self.page.text, start + "</".len())?;
+        let end = match written::next_in_tag(self.page.text.as_bytes(), name_end)? {
+            Next::End { end, .. } => end,
+            Next::Attribute(_) => return None,
+        };
         let watched = &mut self.tokenizer.sink;
         watched.learn();
         let _ = watched.take_end_tag(&known.name, known.class);
-        Some(end + 1)
+        Some(end)
     }
 
-    /// Gives the tree builder the start tag that begins here, where it is written in the plainest way and no raw text follows. Returns its
-    /// end. The tag has the attributes that are asked for; the tree builder compares formatting elements, and they have all.
+    /// Gives the tree builder the start tag that begins here, where it is plainly written and no raw text follows. Returns its end. The tag
+    /// has the attributes that are asked for; the tree builder compares formatting elements, and they have all.
     fn give_plain_start_tag(&mut self, start: usize) -> Option<usize> {
         let text = self.page.text.as_bytes();
-        let (known, mut end) = self.names.tag_name(self.page.text, start + 1)?;
+        let (known, mut at) = self.names.tag_name(self.page.text, start + 1)?;
         let (tag, is_formatting) = (TagName { name: known.name.clone(), class: known.class }, known.is_formatting);
         self.attributes.clear();
         let mut count = 0;
-        while *text.get(end)? == b' ' {
-            if text.get(end + 1) == Some(&b'/') {
-                end += 1;
-                break;
+        let (end, self_closing) = loop {
+            match written::next_in_tag(text, at)? {
+                Next::End { end, self_closing } => break (end, self_closing),
+                Next::Attribute(_) if count == FEW_ATTRIBUTES => return None,
+                Next::Attribute(attribute) => at = self.plain_attribute(attribute, is_formatting)?,
             }
-            if count == FEW_ATTRIBUTES {
-                return None;
-            }
-            end = self.plain_attribute(end, is_formatting)?;
             count += 1;
-        }
-        let self_closing = text[end] == b'/';
-        end += usize::from(self_closing);
-        if *text.get(end)? != b'>' {
-            return None;
-        }
+        };
         let watched = &mut self.tokenizer.sink;
         watched.learn();
         let _ = watched.take_start_tag(tag, &mut self.attributes, self_closing, Some(start));
-        Some(end + 1)
+        Some(end)
     }
 }
 
@@ -426,6 +389,7 @@ mod tests {
     use crate::record;
     use crate::tree::{Data, Id, Tree, DOCUMENT, MAX_ATTRIBUTES};
     use html5ever::{local_name, LocalName};
+    use markup5ever::data::NAMED_ENTITIES;
     use std::panic::catch_unwind;
     use std::time::SystemTime;
 
@@ -567,6 +531,20 @@ mod tests {
         for (page, is_adapted) in pages.into_iter().flat_map(|page| [(page, false), (page, true)]) {
             let way = Way { is_adapted, window_length: WINDOW };
             assert_eq!(way.document(page), way.document_by_html5ever(page), "{page:?}");
+        }
+    }
+
+    #[test]
+    fn documents_of_references() {
+        let names = NAMED_ENTITIES.keys().map(|name| format!("&{name}"));
+        let numbers = (0..0x300).chain([0xd7ff, 0xd800, 0xdfff, 0xe000, 0xfdd0, 0xffff, 0x1_0000, 0x10_ffff, 0x11_0000, u32::MAX]);
+        let references: Vec<String> = names.chain(numbers.flat_map(|number| [format!("&#{number}"), format!("&#x{number:x}")])).collect();
+        let way = Way { is_adapted: true, window_length: WINDOW };
+        for some in references.chunks(100) {
+            for end in [";", "", ";\r", "=", "x"] {
+                let page: String = some.iter().map(|reference| format!("<p title=\"{reference}{end}\">{reference}{end}")).collect();
+                assert_eq!(way.document(&page), way.document_by_html5ever(&page), "{page:?}");
+            }
         }
     }
 

@@ -4,12 +4,12 @@ use crate::classes::{class_of, Class};
 use crate::direct::{Direct, Opening};
 use crate::limits::{self, OpenElements, Refusal, Room, FEW_ATTRIBUTES};
 use crate::names::is_asked_by_builder;
-use crate::reader::without_references;
 use crate::sink::{Sink, Wanted};
 use crate::tree::Id;
+use crate::written;
 use html5ever::tokenizer::{Tag, TagKind, Token, TokenSink, TokenSinkResult};
 use html5ever::tree_builder::{TreeBuilder, TreeBuilderOpts};
-use html5ever::{local_name, namespace_url, ns, Attribute, LocalName, QualName};
+use html5ever::{local_name, Attribute, LocalName};
 use tendril::StrTendril;
 
 /// Number of held handles that are looked up for each node that is put into the tree without html5ever's tree builder, or else for each
@@ -124,7 +124,7 @@ impl<'a> Watched<'a> {
         }
     }
 
-    /// Takes a start tag, which begins at an offset of the page if it is written in the plainest form.
+    /// Takes a start tag, which begins at an offset of the page if it is plainly written.
     #[inline]
     pub fn take_start_tag(&mut self, tag: TagName, attributes: &mut Vec<Attribute>, self_closing: bool, start: Option<usize>) -> TokenSinkResult<Id> {
         if !self.has_room(&tag.name) {
@@ -198,14 +198,14 @@ impl<'a> Watched<'a> {
         false
     }
 
-    /// Takes a character that isn't white space.
-    pub fn take_char(&mut self, referred: char) {
+    /// Takes a character of a text.
+    pub fn take_char(&mut self, c: char) {
         self.learn();
         if self.is_in_flow() {
-            self.put_text(referred.encode_utf8(&mut [0; 4]));
+            self.put_text(c.encode_utf8(&mut [0; 4]));
         } else {
-            self.has_text = true;
-            let _ = self.give(Token::CharacterTokens(StrTendril::from_char(referred)));
+            self.has_text |= !c.is_ascii_whitespace();
+            let _ = self.give(Token::CharacterTokens(StrTendril::from_char(c)));
         }
     }
 
@@ -331,7 +331,7 @@ impl<'a> Watched<'a> {
         while let Some(open) = self.direct.tell() {
             // other elements aren't compared by their attributes
             let is_formatting = matches!(open.class, Class::Formatting | Class::Anchor);
-            let attrs = if is_formatting { plain_attributes(&self.page[open.start..]) } else { Vec::new() };
+            let attrs = if is_formatting { written::attributes(&self.page[open.start..]) } else { Vec::new() };
             let sink = &mut self.builder.sink;
             if let Some(element) = sink.tree.element(open.node) {
                 let name = element.name.clone();
@@ -397,24 +397,6 @@ fn is_end_of_body(token: &Token) -> bool {
 /// Reports whether a text is white space alone.
 fn is_blank(text: &str) -> bool {
     text.bytes().all(|byte| byte.is_ascii_whitespace())
-}
-
-/// Returns the attributes of a tag that is written in the plainest form, as in `<a href="x">`.
-fn plain_attributes(tag: &str) -> Vec<Attribute> {
-    let mut rest = tag[1..].trim_start_matches(|c: char| c.is_ascii_lowercase() || c.is_ascii_digit());
-    let mut attributes = Vec::new();
-    while let Some((name, value, end)) = rest.strip_prefix(' ').filter(|rest| !rest.starts_with('/')).and_then(plain_attribute) {
-        attributes.push(Attribute { name: QualName::new(None, ns!(), name.into()), value: without_references(value) });
-        rest = end;
-    }
-    attributes
-}
-
-/// Returns the name and the value of the attribute that a text begins with, and what follows it.
-fn plain_attribute(text: &str) -> Option<(&str, &str, &str)> {
-    let (name, rest) = text.split_once("=\"")?;
-    let (value, rest) = rest.split_once('"')?;
-    Some((name, value, rest))
 }
 
 /// Returns an end tag.
