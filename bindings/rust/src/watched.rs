@@ -44,6 +44,8 @@ pub(crate) struct Watched<'a> {
     is_over: bool,
     /// Whether the last token that html5ever's tree builder took has no effect on the next one but by what is open.
     is_settled: bool,
+    /// Whether it is a text, which the tree builder holds back directly in a table or a part of it.
+    is_text: bool,
     /// Number of tokens that html5ever's tree builder takes before its handles are looked up again.
     wait: usize,
     /// Number of nodes that the tree has to have, where html5ever's tree builder is needed again, for the last look-up to have paid.
@@ -69,6 +71,7 @@ impl<'a> Watched<'a> {
             has_text: false,
             is_over: false,
             is_settled: false,
+            is_text: false,
             wait: 0,
             paid_at: 0,
             #[cfg(test)]
@@ -302,6 +305,7 @@ impl<'a> Watched<'a> {
         }
         self.wait = self.wait.saturating_sub(1);
         self.is_settled = is_settled_by(&token);
+        self.is_text = matches!(token, Token::CharacterTokens(_));
         self.is_over |= is_end_of_body(&token);
         let result = self.builder.process_token(token, 1);
         self.look_at_size();
@@ -355,6 +359,9 @@ impl<'a> Watched<'a> {
     fn look_up(&mut self) {
         let held = limits::held_by(&self.builder);
         self.direct.learn(&held, &self.builder.sink.tree);
+        if self.is_text && !self.is_in_flow() {
+            self.direct.forget();
+        }
         self.wait = held.len() / LOOKED_UP;
         self.paid_at = self.builder.sink.tree.node_count() + self.wait;
     }
@@ -378,8 +385,7 @@ fn is_settled_by(token: &Token) -> bool {
     match token {
         // a newline that follows is dropped
         Token::TagToken(Tag { kind: TagKind::StartTag, name: local_name!("pre") | local_name!("listing"), .. }) => false,
-        Token::TagToken(_) | Token::CommentToken(_) => true,
-        // in a table it is held until it is known whether it is blank
+        Token::TagToken(_) | Token::CommentToken(_) | Token::CharacterTokens(_) => true,
         _ => false,
     }
 }
