@@ -162,7 +162,7 @@ mod tests {
         recorder.text(block, piece);
         plain().pad_block_width().with_settings(|settings| {
             let page = Page { steps: &recorder.steps, text: &recorder.text, settings, decorator: 0, width: WIDTH };
-            records::text(page, str::to_owned).unwrap()
+            records::text(page).unwrap().as_str().to_owned()
         })
     }
 

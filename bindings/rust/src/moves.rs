@@ -46,7 +46,7 @@ impl Moves {
 
     /// Returns the text of the document.
     pub fn render(&self, settings: &[Setting], width: usize) -> Result<String, Error> {
-        records::text(Page { steps: &self.steps, text: &self.text, settings, decorator: 0, width }, str::to_owned)
+        records::text(Page { steps: &self.steps, text: &self.text, settings, decorator: 0, width }).map(|given| given.as_str().to_owned())
     }
 
     fn keep(&mut self, text: &str) -> (u32, u32) {

@@ -19,34 +19,41 @@ pub(crate) struct Recorded {
 }
 
 impl Recorded {
-    fn page(&self) -> Page<'_> {
-        let Recorder { steps, text, .. } = &self.recorder;
-        Page { steps, text, settings: &self.settings, decorator: self.decorator, width: self.width }
-    }
-
-    /// Renders the page to a text.
+    /// Renders the page to a text. What is recorded is dropped as soon as it is rendered.
     ///
     /// # Errors
     ///
     /// `TooNarrow`, `Fail` or `OutOfMemory`, as the library says.
     pub fn text(self) -> Result<String, Error> {
-        let mut text = records::text(self.page(), |text| self.edits.text(text))??;
+        let given = records::text(self.page())?;
+        drop(self.recorder);
+        let mut text = self.edits.text(given.as_str())?;
+        drop(given);
         self.footnotes.append_to(&mut text)?;
         Ok(text)
     }
 
-    /// Renders the page to lines.
+    /// Renders the page to lines. What is recorded is dropped as soon as it is rendered.
     ///
     /// # Errors
     ///
     /// `TooNarrow`, `Fail` or `OutOfMemory`, as the library says.
     pub fn lines(self) -> Result<Vec<TaggedLine<Vec<RichAnnotation>>>, Error> {
-        let mut lines = self.edits.lines(records::lines(self.page(), lines::read)?.ok_or(Error::Fail)?);
+        let given = records::lines(self.page())?;
+        drop(self.recorder);
+        let lines = lines::read(given.bytes()).ok_or(Error::Fail)?;
+        drop(given);
+        let mut lines = self.edits.lines(lines);
         if !self.edits.is_padded {
             lines.iter_mut().for_each(|line| line.trim_end(|tag| !tag.iter().any(shows_spaces)));
         }
         self.footnotes.append_to_lines(&mut lines);
         Ok(lines)
+    }
+
+    fn page(&self) -> Page<'_> {
+        let Recorder { steps, text, .. } = &self.recorder;
+        Page { steps, text, settings: &self.settings, decorator: self.decorator, width: self.width }
     }
 }
 

@@ -103,13 +103,14 @@ extern "C" {
 }
 
 /// Bytes that the library gave.
-struct Given {
+pub(crate) struct Given {
     start: *mut u8,
     length: usize,
 }
 
 impl Given {
-    fn bytes(&self) -> &[u8] {
+    /// Returns the bytes.
+    pub fn bytes(&self) -> &[u8] {
         // SAFETY: where a call answers 0, these are the start and the length of what it gave, which nothing else refers to
         unsafe { std::slice::from_raw_parts(self.start, self.length) }
     }
@@ -122,6 +123,17 @@ impl Given {
     unsafe fn text(&self) -> &str {
         debug_assert!(std::str::from_utf8(self.bytes()).is_ok(), "the library gave a text that isn't UTF-8");
         std::str::from_utf8_unchecked(self.bytes())
+    }
+}
+
+/// A text that the library gave.
+pub(crate) struct GivenText(Given);
+
+impl GivenText {
+    /// Returns the text.
+    pub fn as_str(&self) -> &str {
+        // SAFETY: they are the bytes of a text, as the library's contract says
+        unsafe { self.0.text() }
     }
 }
 
@@ -172,17 +184,14 @@ pub fn give_back_large_blocks() {
     }
 }
 
-/// The text of a page, which a function reads.
-pub(crate) fn text<T>(page: Page<'_>, read: impl FnOnce(&str) -> T) -> Result<T, Error> {
-    let given = rendered(html_render_text, page)?;
-    // SAFETY: they are the bytes of a text, as the library's contract says
-    Ok(read(unsafe { given.text() }))
+/// Renders a page to a text.
+pub(crate) fn text(page: Page<'_>) -> Result<GivenText, Error> {
+    rendered(html_render_text, page).map(GivenText)
 }
 
-/// The lines of a page, as records, which a function reads.
-pub(crate) fn lines<T>(page: Page<'_>, read: impl FnOnce(&[u8]) -> T) -> Result<T, Error> {
-    let given = rendered(html_render_lines, page)?;
-    Ok(read(given.bytes()))
+/// Renders a page to records of its lines.
+pub(crate) fn lines(page: Page<'_>) -> Result<Given, Error> {
+    rendered(html_render_lines, page)
 }
 
 #[cfg(test)]
