@@ -1,5 +1,6 @@
 """HTML as wrapped plain text, or as lines of annotated strings, as a browser shows the page.
 
+    >>> from html_render import Options, render, render_lines
     >>> print(render("<p>Hello <em>wide</em> world</p>", width=11), end="")
     Hello
     *wide*
@@ -15,10 +16,25 @@ HTML_RENDER_LIB of the environment names, from the package's own folder, or else
 Python's global lock free, so that threads render in parallel.
 """
 
-from ._errors import BadBase, BadCharset, BadStyleSheet, CannotRender, Error, InternalFault, NoLibrary, TooLarge, TooNarrow
-from ._lines import Annotation, Fragment, Kind, Line, Text
-from ._options import Options
-from ._render import render, render_lines
+TYPE_CHECKING = False
+if TYPE_CHECKING:
+    from ._errors import BadBase, BadCharset, BadStyleSheet, CannotRender, Error, InternalFault, NoLibrary, TooLarge, TooNarrow
+    from ._lines import Annotation, Fragment, Kind, Line, Text
+    from ._options import Options
+    from ._render import render, render_lines
+else:
+    # the last two import typing and dataclasses, which take longer than Python takes to start
+    _MODULES = ("_render", "_errors", "_lines", "_options")
+
+    def __getattr__(name):
+        """Returns a name of the package that is read the first time, of the first module that has it."""
+        for module in _MODULES if name in __all__ else ():
+            __import__(f"{__name__}.{module}")
+            names = vars(globals()[module])
+            if name in names:
+                return globals().setdefault(name, names[name])
+        raise AttributeError(f"module {__name__!r} has no attribute {name!r}")
+
 
 __version__ = "0.1.0"
 
@@ -41,3 +57,7 @@ __all__ = [
     "render",
     "render_lines",
 ]
+
+
+def __dir__() -> list[str]:
+    return sorted({*globals(), *__all__})

@@ -1,36 +1,16 @@
-"""Options of a page, and how the library is told them."""
+"""Options of a page."""
 
 from __future__ import annotations
 
-import ctypes
 from dataclasses import dataclass
 from typing import Literal
+
+from ._numbers import IMAGES, LINKS, STYLES, TABLES
 
 Style = Literal["plain", "rich", "bare"]
 Links = Literal["notes", "inline", "list", "none"]
 Tables = Literal["data", "all", "none"]
 Images = Literal["none", "always", "name"]
-
-# the numbers of html_render.h
-_STYLES = {"plain": 0, "rich": 1, "bare": 2}
-_LINKS = {None: 0, "notes": 1, "inline": 2, "list": 3, "none": 4}
-_TABLES = {"data": 0, "all": 1, "none": 2}
-_IMAGES = {"none": 0, "always": 1, "name": 3}
-_IMAGE_REPLACE = 2
-_FLAGS = {
-    "title": 1,
-    "page_css": 2,
-    "keep_controls": 4,
-    "wrap_links": 8,
-    "wrap_code": 16,
-    "row_rules": 32,
-    "raw_tables": 64,
-    "cut_words": 128,
-    "no_borders": 256,
-    "fence_tables": 512,
-    "pad": 1024,
-    "narrow": 2048,
-}
 
 
 @dataclass(frozen=True)
@@ -86,52 +66,9 @@ class Options:
     """Keeps control characters, with which a page can control a terminal."""
 
     def __post_init__(self) -> None:
-        for name, numbers in (("style", {None: 0, **_STYLES}), ("links", _LINKS), ("tables", _TABLES), ("images", _IMAGES)):
+        for name, numbers in (("style", {None: 0, **STYLES}), ("links", LINKS), ("tables", TABLES), ("images", IMAGES)):
             if getattr(self, name) not in numbers:
                 known = ", ".join(it for it in numbers if it is not None)
                 raise ValueError(f"{name} is one of {known}, and not {getattr(self, name)!r}")
         if self.max_width is not None and not 0 < self.max_width < 1 << 64:
             raise ValueError(f"max_width is from 1 to 2^64 - 1, and not {self.max_width}")
-
-
-class Record(ctypes.Structure):
-    """`struct html_render_options` of html_render.h."""
-
-    _fields_ = [
-        ("size", ctypes.c_size_t),
-        ("max_width", ctypes.c_size_t),
-        ("charset", ctypes.c_char_p),
-        ("base", ctypes.c_char_p),
-        ("css", ctypes.c_char_p),
-        ("image_title", ctypes.c_char_p),
-        ("style", ctypes.c_uint32),
-        ("links", ctypes.c_uint32),
-        ("tables", ctypes.c_uint32),
-        ("images", ctypes.c_uint32),
-        ("flags", ctypes.c_uint64),
-    ]
-
-
-def record_of(options: Options, style: Style, charset: str | None) -> Record:
-    """Returns what the library is told: options, the style of those that name none, and the charset of a page."""
-    is_replaced = options.image_title is not None
-    return Record(
-        size=ctypes.sizeof(Record),
-        max_width=options.max_width or 0,
-        charset=_text(charset),
-        base=_text(options.base),
-        css=_text(options.css),
-        image_title=_text(options.image_title),
-        style=_STYLES[options.style or style],
-        links=_LINKS[options.links],
-        tables=_TABLES[options.tables],
-        images=_IMAGE_REPLACE if is_replaced else _IMAGES[options.images],
-        flags=sum(flag for name, flag in _FLAGS.items() if getattr(options, name)),
-    )
-
-
-def _text(text: str | None) -> bytes | None:
-    """Returns a text as the library takes it, which ends at a zero byte."""
-    if text is not None and "\0" in text:
-        raise ValueError("a text of an option has no U+0000")
-    return None if text is None else text.encode("utf-8")

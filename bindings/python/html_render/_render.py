@@ -3,18 +3,16 @@
 from __future__ import annotations
 
 import operator
-from typing import Union
 
-from . import _lines
-from ._library import rendered
-from ._lines import Line
-from ._options import Options, record_of
+TYPE_CHECKING = False
+if TYPE_CHECKING:
+    from ._lines import Line
+    from ._options import Options, Style
 
-_Page = Union[str, bytes, bytearray, memoryview]
-_DEFAULTS = Options()
+_Page = str | bytes | bytearray | memoryview
 
 
-def render(html: _Page, width: int = 80, *, charset: str | None = None, options: Options = _DEFAULTS) -> str:
+def render(html: _Page, width: int = 80, *, charset: str | None = None, options: Options | None = None) -> str:
     """Returns the text of a page of HTML, wrapped to `width` columns.
 
     `charset` names the encoding of bytes, as HTTP or a mail does. Without it the encoding is that of a byte order mark, what the
@@ -23,15 +21,23 @@ def render(html: _Page, width: int = 80, *, charset: str | None = None, options:
     Raises ValueError for a width out of range and for faulty options (`BadCharset`, `BadBase`, `BadStyleSheet`), `TooNarrow`,
     `TooLarge` or another `Error` for a page that can't be rendered, and MemoryError.
     """
-    page, charset = _bytes(html, charset)
-    return rendered("html_render_html", page, _columns(width), record_of(options, "plain", charset)).decode("utf-8")
+    return _rendered("html_render_html", html, width, charset, options, "plain").decode("utf-8")
 
 
-def render_lines(html: _Page, width: int = 80, *, charset: str | None = None, options: Options = _DEFAULTS) -> list[Line]:
+def render_lines(html: _Page, width: int = 80, *, charset: str | None = None, options: Options | None = None) -> list[Line]:
     """Returns the lines of a page of HTML, wrapped to `width` columns: lists of annotated strings (`Text`), and of marks
     (`Fragment`) at the places to which links within the page lead. Otherwise like `render`."""
+    from ._lines import read
+
+    return read(_rendered("html_render_html_lines", html, width, charset, options, "rich"))
+
+
+def _rendered(call: str, html: _Page, width: int, charset: str | None, options: Options | None, style: Style) -> bytes:
+    """Returns what a call of the library gives for a page. The first call loads the library."""
+    from ._library import rendered
+
     page, charset = _bytes(html, charset)
-    return _lines.read(rendered("html_render_html_lines", page, _columns(width), record_of(options, "rich", charset)))
+    return rendered(call, page, _columns(width), options, style, charset)
 
 
 def _columns(width: int) -> int:

@@ -78,7 +78,7 @@ def test_options(page, options, text):
 
 def test_each_option_is_told():
     names = {it.name for it in dataclasses.fields(Options)}
-    flags = set(html_render._options._FLAGS)
+    flags = set(html_render._numbers.FLAGS)
     assert flags < names
     assert names - flags == {"style", "links", "base", "tables", "max_width", "images", "image_title", "css"}
 
