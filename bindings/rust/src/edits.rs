@@ -27,6 +27,9 @@ pub(crate) struct Edits {
 /// The character of a table's borders that lies between two columns and between two rows.
 const CROSS: &[u8] = "\u{253c}".as_bytes();
 
+/// The stroke that the library writes after each visible character that is struck out, and after each mark.
+const STROKE: &str = "\u{336}";
+
 type Line = TaggedLine<Vec<RichAnnotation>>;
 
 /// Reports whether a text has a character that parts columns in a table's border.
@@ -163,12 +166,21 @@ fn made(length: usize, append: impl FnOnce(&mut String)) -> Result<String, Error
     Ok(text)
 }
 
+/// Returns where the stroke of a mark ends whose character ends at a place, or that place if the mark has no stroke.
+fn stroke_end(text: &str, end: usize) -> usize {
+    if text[end..].starts_with(STROKE) {
+        end + STROKE.len()
+    } else {
+        end
+    }
+}
+
 /// Appends a text without a mark.
 fn push_unmarked(text: &str, mark: &memmem::Finder<'_>, to: &mut String) {
     let mut kept = 0;
     for at in mark.find_iter(text.as_bytes()) {
         to.push_str(&text[kept..at]);
-        kept = at + mark.needle().len();
+        kept = stroke_end(text, at + mark.needle().len());
     }
     to.push_str(&text[kept..]);
 }
@@ -237,7 +249,7 @@ impl<'a> Ruled<'a> {
             let mark = self.marks_left[0];
             padding::push(&self.text[self.rest..mark], is_padded, &self.ends, self.to);
             self.marks_left = &self.marks_left[1..];
-            self.rest = mark + mark::APART.len();
+            self.rest = stroke_end(self.text, mark + mark::APART.len());
         }
     }
 
@@ -347,13 +359,13 @@ fn push_joined(text: &str, to: &mut String) {
     let (start, end) = (memmem::Finder::new(mark::LONG), memmem::Finder::new(mark::LONG_END));
     let mut rest = text;
     while let Some(at) = start.find(rest.as_bytes()) {
-        let (before, after) = (&rest[..at], &rest[at + mark::LONG.len()..]);
+        let (before, after) = (&rest[..at], &rest[stroke_end(rest, at + mark::LONG.len())..]);
         to.push_str(before);
         let prefix = &before[line_start(before.as_bytes(), before.len())..];
         rest = match end.find(after.as_bytes()).filter(|&length| start.find(after[..length].as_bytes()).is_none()) {
             Some(length) => {
                 push_line(&after[..length], prefix, to);
-                &after[length + mark::LONG_END.len()..]
+                &after[stroke_end(after, length + mark::LONG_END.len())..]
             }
             None => after,
         };
@@ -408,7 +420,7 @@ impl Edits {
             lines = without_rules(lines);
         }
         if self.row_marks > 0 {
-            lines.iter_mut().for_each(|line| line.remove(mark::APART));
+            lines.iter_mut().for_each(|line| line.remove(mark::APART, STROKE));
         }
         lines
     }
@@ -466,8 +478,8 @@ fn joined(lines: Vec<Line>) -> Vec<Line> {
     let mut prefix: Option<String> = None;
     for (mut line, is_long) in lines.into_iter().zip(closed) {
         let text = line.text();
-        line.remove(mark::LONG);
-        line.remove(mark::LONG_END);
+        line.remove(mark::LONG, STROKE);
+        line.remove(mark::LONG_END, STROKE);
         if is_long {
             prefix = text.split_once(mark::LONG).map(|(before, _)| before.to_owned());
             kept.push(line);
@@ -531,6 +543,17 @@ mod tests {
         assert_eq!(Edits { is_padded: true, ..EDITS }.text(&page).unwrap(), padded);
         let ruled = page.replace(" \n", "\n").replace(" \n", "\n").replace('\u{206a}', "");
         assert_eq!(Edits { drops_rules: false, ..EDITS }.text(&page).unwrap(), ruled);
+    }
+
+    #[test]
+    fn marks_are_dropped_with_their_strokes() {
+        let table = "─┬─\n\u{206a}\u{336}a\u{336}│b\n─┼─\nc│d\n─┴─\n";
+        assert_eq!(without_rules_in(table), "─┬─\na\u{336}│b\n─┼─\nc│d\n─┴─\n");
+        let edits = Edits { joins_lines: true, drops_rules: false, ..EDITS };
+        let code = "\u{206b}\u{336}a\u{336}\nb\u{336}\u{206c}\u{336}\n\u{206a}\u{336}c\u{336}";
+        assert_eq!(edits.text(code).unwrap(), "a\u{336}b\u{336}\nc\u{336}");
+        let lines: Vec<String> = edits.lines(code.split('\n').map(|line| Line::of_text(line.to_owned())).collect()).iter().map(Line::text).collect();
+        assert_eq!(lines, ["a\u{336}b\u{336}", "c\u{336}"]);
     }
 
     #[test]

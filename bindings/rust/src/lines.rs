@@ -115,11 +115,11 @@ impl<T> TaggedLine<T> {
         self.tagged_strings().map(|string| string.s.as_str()).collect()
     }
 
-    /// Removes each place of a text in its strings.
-    pub(crate) fn remove(&mut self, text: &str) {
+    /// Removes each place of a text in its strings, with a suffix where that follows.
+    pub(crate) fn remove(&mut self, text: &str, suffix: &str) {
         self.elements.retain_mut(|element| match element {
             TaggedLineElement::Str(string) if string.s.contains(text) => {
-                string.s = string.s.replace(text, "");
+                string.s = string.s.replace(&[text, suffix].concat(), "").replace(text, "");
                 !string.s.is_empty()
             }
             _ => true,

@@ -217,14 +217,26 @@ impl<'a> Pass<'a> {
             self.recorder.part_texts(parent);
         }
         if context.changes_texts() {
-            piece = self.adapter.changed_text(&mut self.recorder, &context, piece);
-            if piece.1 == 0 {
-                return;
-            }
+            self.record_changed_text(parent, &context, piece);
+            return;
         }
         let piece = self.adapter.add_text(&mut self.recorder, piece);
         if piece.1 > 0 {
             self.recorder.text(parent, piece);
+        }
+    }
+
+    /// Records a text that isn't recorded as it is, or that may have the mark of a row.
+    #[inline(never)]
+    fn record_changed_text(&mut self, parent: Handle, context: &Context, piece: Piece) {
+        let changed = self.adapter.changed_text(&mut self.recorder, context, piece);
+        if changed.1 == 0 {
+            return;
+        }
+        let rest = self.adapter.add_text(&mut self.recorder, changed);
+        if rest.1 > 0 {
+            let marked = self.adapter.marked_text(&mut self.recorder, context, rest);
+            self.recorder.text(parent, marked);
         }
     }
 

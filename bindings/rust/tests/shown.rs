@@ -210,3 +210,40 @@ fn titles() {
     assert_eq!(text("<title> </title><p>a"), "a\n");
     assert_eq!(text("<svg><title>b</title></svg><p>a"), "[b]\n\na\n");
 }
+
+/// Checks that a page with one table is shown with a line under its heads, and its texts as with lines between all rows.
+fn check_heads(page: &str) {
+    let lines = |options: Options| -> Vec<String> {
+        let text = plain().as_shown(options).whole_words().string_from_read(page.as_bytes(), 20).unwrap();
+        text.lines().map(str::to_owned).collect()
+    };
+    let is_border = |line: &String| line.chars().all(|c| matches!(c, '\u{2500}' | '\u{252c}' | '\u{2534}' | '\u{253c}' | ' '));
+    let (shown, ruled) = (lines(Options::new()), lines(Options::new().row_rules()));
+    assert_eq!(shown.iter().filter(|line| line.contains('\u{253c}')).count(), 1, "{page}\n{shown:?}");
+    assert!(shown.iter().filter(|line| !is_border(line)).eq(ruled.iter().filter(|line| !is_border(line))), "{page}\n{shown:?}\n{ruled:?}");
+}
+
+#[test]
+fn marks_of_rows_change_no_text() {
+    let heads = [
+        "<sup>1</sup>", "<sup>[1]</sup>", "<sup>a</sup>", "<sup><b>1</b></sup>", "<sup>1<!-- a --></sup>", "<sup>1<b></b><img src=i></sup>",
+        "<sup> 1</sup>", "<sup> [a]</sup>", "<a href='#n'>[1]</a>", "<sup><a href='#n'>[1]</a></sup>", "<s><sup>1</sup></s>", "[1]",
+        "<s>a</s>", "<del><p>a</p></del>", "<b><p>a</p></b>", "<b> *a</b>", "<code>a</code>", "<q>a</q>", "a<b>b</b>", " a", "<p> a</p>",
+        "<a href='https://x/'>https://x/</a>", "<a href='https://x/'><b>https:</b>//x/</a>", "<a href='https://x/'><sup>1</sup></a>",
+        "<a href=y><b>z</b></a>", "<a href=y><img src=i> a</a>", "<img src=i alt=a>1", "<img src=i alt=' a'>", "<input value=v>a",
+        "<button>a</button>", "<svg><text> a</text></svg>", "<ul><li>a</ul>", "<blockquote>a</blockquote>", "<pre> a\n b</pre>",
+        "a word of eighteen characters", "e\u{301}", "a<b>\u{336}b</b>", "&shy;a", "&nbsp;", "<br>a",
+    ];
+    for head in heads {
+        for (start, end) in [("", ""), ("<b>", "</b>"), ("<s>", "</s>"), ("<a href=z>", "</a>")] {
+            check_heads(&format!("{start}<table border=1><tr><th>{head}<th>b<tr><td>c<td>d<tr><td>e<td>f</table>{end}"));
+        }
+    }
+}
+
+#[test]
+fn heads_without_texts_have_a_line() {
+    for head in ["<sup>1</sup>", "<img src=i alt=a>", "<input>", "<select><option>a</select>", "<q></q>", "<iframe src=y></iframe>", "<svg><title>a</title></svg>"] {
+        check_heads(&format!("<table border=1><tr><th>{head}<th>{head}<tr><td>c<td>d<tr><td>e<td>f</table>"));
+    }
+}

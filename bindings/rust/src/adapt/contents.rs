@@ -79,6 +79,11 @@ fn is_visible(text: &str) -> bool {
     text.bytes().any(|byte| byte.is_ascii_graphic()) || text.chars().any(|c| !c.is_whitespace() && columns::of_char(c) > 0)
 }
 
+/// Reports whether a text is a number: digits of ASCII alone.
+fn is_number(text: &str) -> bool {
+    !text.is_empty() && text.bytes().all(|byte| byte.is_ascii_digit())
+}
+
 /// Returns a piece of a text.
 pub(super) fn text_of(text: &[u8], (start, length): Piece) -> &str {
     std::str::from_utf8(&text[start as usize..][..length as usize]).unwrap_or_default()
@@ -325,33 +330,54 @@ impl<'a> Contents<'a> {
         false
     }
 
+    /// Reports whether an element begins with signs or a text of its own: neither with a text of the tree nor with white space.
+    pub fn begins_with_own_text(self, node: Id, element: &Element) -> bool {
+        let is_after_space = match element.name {
+            local_name!("img") => self.tree.attribute(node, &local_name!("alt")).map_or(false, |alt| alt.starts_with(char::is_whitespace)),
+            _ if is_drawing(element) => self.title_of(node).starts_with(char::is_whitespace),
+            _ => false,
+        };
+        !is_after_space && matches!(self.shown(node, element), Shown::Signs | Shown::Text)
+    }
+
+    /// Reports whether an element shows digits alone, which the library raises in a `sup`.
+    pub fn is_number(self, top: Id) -> bool {
+        self.number_in(top).map_or(false, |found| is_number(found.trim()))
+    }
+
     /// Reports whether an element shows a number in brackets alone, as that of a citation.
     pub fn is_citation(self, top: Id) -> bool {
+        let found = self.number_in(top).unwrap_or_default();
+        found.trim().strip_prefix('[').and_then(|found| found.strip_suffix(']')).map_or(false, is_number)
+    }
+
+    /// Returns the text that an element shows, if it is of digits, brackets and white space in few nodes.
+    fn number_in(self, top: Id) -> Option<String> {
         let mut found = String::new();
         let mut node = self.tree.first_child(top);
         for _ in 0..NODES_BEFORE_TEXT {
             if node == NONE {
-                let digits = found.trim().strip_prefix('[').and_then(|found| found.strip_suffix(']')).unwrap_or_default();
-                return !digits.is_empty() && digits.bytes().all(|byte| byte.is_ascii_digit());
+                return Some(found);
             }
             let is_entered = match self.tree.data(node) {
                 &Data::Text { start, length, .. } => {
-                    found.push_str(text_of(self.text, (start, length)));
-                    if !found.trim_start().is_empty() && !found.trim_start().starts_with('[') {
-                        return false;
+                    let text = text_of(self.text, (start, length));
+                    if !text.chars().all(|c| c.is_ascii_digit() || c.is_whitespace() || matches!(c, '[' | ']')) {
+                        return None;
                     }
+                    found.push_str(text);
                     false
                 }
                 Data::Element(element) => match self.shown(node, element) {
                     Shown::Contents | Shown::Link => true,
-                    Shown::Nothing => false,
-                    _ => return false,
+                    Shown::Image | Shown::Nothing => false,
+                    Shown::Block | Shown::Signs | Shown::Table | Shown::Text => return None,
                 },
                 Data::Comment | Data::Root => false,
             };
             node = self.next(node, is_entered, top);
         }
-        false
+        None
     }
 
     /// Returns what a cell has to show on a line of at most so many columns.

@@ -348,7 +348,7 @@ mod tests {
             ("<h2><b>a</b> <code>b</code></h2><b>c</b>", "<h2><!b>a</> <!code>b</></><b>c</>"),
             ("<sup><b>a</b></sup>", "<sup><!b>a</></>"),
             ("<table><tr><th><b>a</b><td>b</table>", "<table><tbody><tr><th><!b>a</></><td>b</></></></>"),
-            ("<table border=1><tr><td><p><b>a</b></p><td><b>b</b><tr><td><b>c</b><td>d</table>", "<table><tbody><tr><td><p>\u{206a}<!b>a</></></><td><!b>b</></></><tr><td><b>c</></><td>d</></></></>"),
+            ("<table border=1><tr><td><p><b>a</b></p><td><b>b</b><tr><td><b>c</b><td>d</table>", "<table><tbody><tr><td><p><!b>\u{206a}a</></></><td><!b>b</></></><tr><td><b>c</></><td>d</></></></>"),
         ] {
             assert_eq!(recorded(page).replace("<span></>", ""), wanted, "{page}");
         }

@@ -62,8 +62,6 @@ enum Texts {
     Code,
     /// The raised digits of a citation.
     Citation,
-    /// The texts of a row that lines part from its neighbours, with one mark.
-    Marked,
 }
 
 /// Properties of a place, or of the texts there, by the elements around it: bits of a number.
@@ -87,6 +85,8 @@ impl Flags {
     const TABLE: Flags = Flags(32);
     /// Emphasis has no signs: in a heading, a `dt`, a `th`, a row that is set apart, or a `sup`.
     const UNSIGNED: Flags = Flags(64);
+    /// A row of a table is around that needs a mark.
+    const MARKED: Flags = Flags(128);
 
     /// Reports whether one of some flags is set.
     #[inline(always)]
@@ -150,7 +150,7 @@ impl Context {
     /// Reports whether texts may not be recorded as they are.
     #[inline(always)]
     pub fn changes_texts(&self) -> bool {
-        self.texts != Texts::Own
+        self.texts != Texts::Own || self.flags.has(Flags::MARKED)
     }
 
     /// Reports whether elements are recorded as in most places: outside of preformatted blocks, of rows that are one line, and of a `dl`
@@ -383,22 +383,47 @@ impl<'a> Adapter<'a> {
                 let raised: String = contents::text_of(&recorder.text, piece).chars().filter_map(raised).collect();
                 recorder.keep(&raised)
             }
-            Texts::Marked if self.is_mark_missing => self.marked(recorder, piece),
-            Texts::Own | Texts::Marked => piece,
+            Texts::Own => piece,
         }
     }
 
-    /// Returns a text with the mark of its row before the first visible character, if it has one.
-    fn marked(&mut self, recorder: &mut Recorder, piece: Piece) -> Piece {
+    /// Returns a text with the mark of the row around it before the first visible character, if it has one and the row needs a mark.
+    pub fn marked_text(&mut self, recorder: &mut Recorder, context: &Context, piece: Piece) -> Piece {
         let text = contents::text_of(&recorder.text, piece);
-        let (blank, rest) = text.split_at(flow::blank_start(text.as_bytes()));
-        if rest.is_empty() {
+        let (blank, shown) = text.split_at(flow::blank_start(text.as_bytes()));
+        if shown.is_empty() || !self.needs_mark(context) {
             return piece;
         }
-        let marked = [blank, mark::APART, rest].concat();
+        let marked = [blank, mark::APART, shown].concat();
+        self.add_mark();
+        recorder.keep(&marked)
+    }
+
+    /// Reports whether texts are in a row that needs a mark and has none yet.
+    #[inline]
+    fn needs_mark(&self, context: &Context) -> bool {
+        self.is_mark_missing && context.flags.has(Flags::MARKED) && !context.hides_texts()
+    }
+
+    /// Notes that the row has its mark.
+    fn add_mark(&mut self) {
         self.is_mark_missing = false;
         self.row_marks += 1;
-        recorder.keep(&marked)
+    }
+
+    /// Records the mark of a row before an element in which no text takes it: one that begins with a text of its own, and digits of a `sup`.
+    #[inline(never)]
+    fn mark_before(&mut self, recorder: &mut Recorder, opened: &Opened<'_>, change: Change) {
+        let contents = self.adaptation.contents(self.tree, &recorder.text);
+        let is_marked = match change {
+            Change::Superscript => contents.is_number(opened.node),
+            _ => contents.begins_with_own_text(opened.node, opened.element),
+        };
+        if is_marked {
+            self.add_mark();
+            let piece = recorder.keep(mark::APART);
+            recorder.text(opened.parent, piece);
+        }
     }
 
     /// Notes a text of the tree before it is recorded. Returns what of it is recorded.
@@ -579,6 +604,9 @@ impl<'a> Adapter<'a> {
         let is_in_code = context.texts == Texts::Code;
         if is_in_code {
             self.begin_in_code(recorder, &opened, change, run);
+        }
+        if self.needs_mark(&context) {
+            self.mark_before(recorder, &opened, change);
         }
         let mut entered = self.open_changed(recorder, &mut opened, change, around, context);
         if let (Some(Entered { end: end @ End::Inline, .. }), true) = (&mut entered, run != Run::Inline) {
@@ -1036,8 +1064,8 @@ impl<'a> Adapter<'a> {
             context.flags.set(Flags::UNSIGNED, true);
         }
         self.is_mark_missing = is_apart && self.adaptation.drops_rules;
-        if self.is_mark_missing && context.texts == Texts::Own {
-            context.texts = Texts::Marked;
+        if self.is_mark_missing {
+            context.flags.set(Flags::MARKED, true);
         }
     }
 
