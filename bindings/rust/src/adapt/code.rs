@@ -73,7 +73,7 @@ pub(super) struct Code {
     line: u32,
     column: u32,
     /// Whether nothing of the line is recorded.
-    is_at_start: bool,
+    pub is_at_start: bool,
     /// Whether the line began with a mark.
     is_long: bool,
     /// Whether a line of the page began with one.

@@ -336,7 +336,7 @@ mod tests {
             ("a<sup><a href='#b'><span>[</span>12]</a></sup><sup>[3]</sup> <sup> [4] </sup>", "a<span><a><span></>\u{b9}\u{b2}</></> <span>\u{b3}</> <span>\u{2074}</>"),
             ("<sup><a href=b:c>[1]</a></sup>", "<span><a>\u{b9}[1]</></>"),
             ("<sup>[a]</sup><sup>[]</sup><sup>[1</sup><sup>[1]2</sup>", "<span>[a]</><span>[]</><span>[1</><span>[1]2</>"),
-            ("<sup>[1<img src=a alt=b>]</sup><pre><sup>[1]</sup></pre>", "<span>[1<img b></>]</><pre><span>    [1]</></>"),
+            ("<sup>[1<img src=a alt=b>]</sup><pre><sup>[1]</sup></pre>", "<span>[1<img b></>]</><pre>    <span>[1]</></>"),
         ] {
             assert_eq!(recorded(page), wanted, "{page}");
         }

@@ -37,6 +37,7 @@ use crate::pass::{End, Entered, Last, Place};
 use crate::record::{self, Handle, Recorder};
 use crate::tree::{Attr, Element, Id, Piece, Tree, DOCUMENT};
 use code::Code;
+use contents::Shown;
 use elements::{change_in, Change, Field, Inner, List, Part};
 use emphasis::{Signed, UNSIGNED_SUFFIX};
 use html5ever::{local_name, namespace_url, ns, LocalName};
@@ -845,8 +846,26 @@ impl<'a> Adapter<'a> {
             Run::Break => self.code.end_line(recorder, opened.parent),
             // a terminal underlines the indentation in a link
             Run::Inline if change == Change::Link && self.adaptation.has_colours => self.code.indent(recorder, opened.parent),
+            Run::Inline | Run::Apart if self.begins_line(recorder, opened, change) => self.code.indent(recorder, opened.parent),
             Run::Inline | Run::Apart => {}
             _ => self.code.begin_line(),
+        }
+    }
+
+    /// Reports whether an element is the first to show something on a line of a `pre`, and shows more than texts in it, which are indented.
+    fn begins_line(&self, recorder: &Recorder, opened: &Opened<'_>, change: Change) -> bool {
+        if !self.code.is_at_start {
+            return false;
+        }
+        let contents = self.adaptation.contents(self.tree, &recorder.text);
+        match contents.shown(opened.node, opened.element) {
+            Shown::Signs | Shown::Text => true,
+            Shown::Image => self.inline.links.is_open(),
+            Shown::Contents => {
+                let is_label = change == Change::Drawing && drawings::is_label(opened.element);
+                (is_label || change == Change::Superscript) && contents.has_any(opened.node)
+            }
+            _ => false,
         }
     }
 
