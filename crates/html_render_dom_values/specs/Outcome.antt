@@ -1,5 +1,5 @@
 -- Errors: their messages and numbers, and their relation to a definition that may refuse, an `Option`.
-use Rattle.std.specs.Prelude.{◌≡◌, ℕ, List, Option, None, Result, IfErr, codes, option_and_then}
+use Rattle.std.specs.Prelude.{◌≡◌, ℕ, List, Option, Some, None, Result, IfErr, OnOk, codes, option_and_then}
 use Rattle.html_render_dom_values.specs.declared.errors.Error.{Error}
 use Rattle.html_render_dom_values.specs.declared.errors.Error.TheVariants.{TooNarrow, Fail, OutOfMemory}
 
@@ -20,6 +20,11 @@ abbrev pub Refuses : {X : Type 0} → Error → Option X → Type 0
 Refuses TooNarrow wanted = wanted ≡ None
 Refuses Fail wanted = ⊥
 Refuses OutOfMemory wanted = Unit {0}
+
+-- outcome of a call that leaves `new`: the value of the definition `wanted`, or an error that refuses as `wanted` does
+pub record Gives {X S : Type 0} (result : Result X Error) (wanted : Option S) (new : S) : Type 0 where
+  pub ok : OnOk result (wanted ≡ Some new)
+  pub err : IfErr result (λ e. Refuses e wanted)
 
 -- whether a result has no error but `OutOfMemory`
 abbrev pub OnlyOutOfMemory : {A : Type 0} → Result A Error → Type 0

@@ -1,13 +1,10 @@
 -- Texts of closing lines: footnote by footnote, and as characters.
 use Rattle.std.proofs.Common.{◌≡◌, ℕ, ◌+◌, Bool, List, [], ◌∷◌, ◌++◌, map, Option, Some, None, refl, sym, ap, ◌∙◌, append_assoc}
-use Rattle.std.proofs.Common.{option_and_then, option_map, OnOk, IfErr, Result, Ok, Err}
+use Rattle.std.proofs.Common.{option_and_then, option_map}
 use Rattle.std.proofs.lemmas.Simd.{map-map}
 use Rattle.std.specs.Fmt.{decimal}
 use Rattle.std.specs.Prelude.{codes}
 use Rattle.std.specs.Str.{chars}
-use Rattle.html_render_dom_values.specs.declared.errors.Error.{Error}
-use Rattle.html_render_dom_values.specs.declared.errors.Error.TheVariants.{TooNarrow, Fail, OutOfMemory}
-use Rattle.html_render_dom_values.specs.Outcome.{Refuses}
 use Rattle.html_render_parts.specs.Decoration.{Decoration}
 use Rattle.html_render_layout_blocks.specs.Ends.{DocumentEnd, ended_by}
 use Rattle.html_render_layout.specs.declared.state.LayoutState.{LayoutState}
@@ -36,15 +33,3 @@ ended-by d end link_footnotes wrap_links tag s b f texts finished same =
     ap (λ o. with_new s (option_and_then (λ b. end.add_closing_lines b wrap_links tag
     (map chars (closing_texts d link_footnotes s.decorator s.targets))) o)) finished
     ∙ ap (λ ts. with_new s (end.add_closing_lines b wrap_links tag ts)) (ap (map chars) (sym same) ∙ map-map chars f texts)
-
-pub new-ok : {S K T B X : Type 0} (r : Result X Error) (o : Option B) (new : B) (s : LayoutState S K T B) → OnOk r (o ≡ Some new) →
-    OnOk r (with_new s o ≡ Some (record s { block = new }))
-new-ok (Ok x) o new s h = ap (with_new s) h
-new-ok (Err e) o new s h = tt
-
-pub new-err : {S K T B X : Type 0} (r : Result X Error) (o : Option B) (s : LayoutState S K T B) → IfErr r (λ e. Refuses e o) →
-    IfErr r (λ e. Refuses e (with_new s o))
-new-err (Ok x) o s h = tt
-new-err (Err TooNarrow) o s h = ap (with_new s) h
-new-err (Err OutOfMemory) o s h = h
-new-err (Err Fail) o s h = h

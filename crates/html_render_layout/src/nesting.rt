@@ -3,7 +3,7 @@
 
 ghost use Rattle.std.specs.Prelude.{◌≡◌, Some, OnOk, IfOk, IfErr, string_bytes};
 ghost use Rattle.std.specs.Str.{chars};
-ghost use Rattle.html_render_dom_values.specs.Outcome.{Refuses};
+ghost use Rattle.html_render_dom_values.specs.Outcome.{Gives, Refuses};
 ghost use Rattle.html_render_layout_blocks.specs.Machine as machine;
 ghost use Rattle.html_render_layout.specs.Layout.{Prefixed, Indented, nested, spaces};
 ghost use Rattle.html_render_layout.specs.Opening.{interrupted, indent_closed, quote_closed, block_begun, block_kept};
@@ -94,8 +94,7 @@ fn append_behind<T: Tag>(
     block: &mut CurrentBlock<T, usize>,
     sub: Prefixing<BoxedBlock<T, usize>, T>,
 ) -> Result<(), Error>
-    ensures ok { OnOk result (machine.operations.append block.old sub.block sub.tag (chars sub.prefix) (spaces sub.columns) ≡ Some block.new) }
-    ensures err { IfErr result (λ e. Refuses e (machine.operations.append block.old sub.block sub.tag (chars sub.prefix) (spaces sub.columns))) }
+    ensures { Gives result (machine.operations.append block.old sub.block sub.tag (chars sub.prefix) (spaces sub.columns)) block.new }
 {
     if sub.columns <= CHUNK {
         let later = Prefix::of_spaces(few_spaces(sub.columns), sub.columns, sub.tag);
@@ -117,8 +116,7 @@ pub fn close_indent<D: TextDecorator, G: Tagging<D::Annotation>>(
     outer: OuterBlock<D, G>,
     state: &mut State<D, G>,
 ) -> Result<(), Error>
-    ensures ok { OnOk result (indent_closed (by_tags D.decoration G.annotated) outer state.old ≡ Some state.new) }
-    ensures err { IfErr result (λ e. Refuses e (indent_closed (by_tags D.decoration G.annotated) outer state.old)) }
+    ensures { Gives result (indent_closed (by_tags D.decoration G.annotated) outer state.old) state.new }
 {
     let sub = state.block.resume(outer.block);
     append_behind(alloc, &mut state.block, sub)?;
@@ -136,8 +134,7 @@ pub fn close_quote<D: TextDecorator, G: Tagging<D::Annotation>>(
     outer: OuterBlock<D, G>,
     state: &mut State<D, G>,
 ) -> Result<(), Error>
-    ensures ok { OnOk result (quote_closed (by_tags D.decoration G.annotated) outer state.old ≡ Some state.new) }
-    ensures err { IfErr result (λ e. Refuses e (quote_closed (by_tags D.decoration G.annotated) outer state.old)) }
+    ensures { Gives result (quote_closed (by_tags D.decoration G.annotated) outer state.old) state.new }
 {
     let sub = state.block.resume(outer.block);
     let prefix = sub.prefix;

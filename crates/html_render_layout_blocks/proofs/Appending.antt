@@ -5,7 +5,6 @@ use Rattle.std.proofs.Common.{sym, ap, ◌∙◌, arith, append_assoc}
 use Rattle.std.specs.List.{list_all}
 use Rattle.std.proofs.lemmas.List.{nil_from_length}
 use Rattle.html_render_dom_values.specs.declared.errors.Error.{Error}
-use Rattle.html_render_dom_values.specs.declared.errors.Error.TheVariants.{TooNarrow, Fail, OutOfMemory}
 use Rattle.html_render_dom_values.specs.Outcome.{Refuses}
 use Rattle.html_render_dom_values.specs.laws.Outcome.{Refuses-then}
 use Rattle.html_render_layout_lines.specs.Line.{Line, columns, marks_line, is_empty}
@@ -22,12 +21,6 @@ use Rattle.html_render_layout_blocks.specs.Machine.{machine, MachineBlock}
 pub append_unflushed : {T M : Type 0} (e : Error) (b c : MachineBlock T M) (tag : T) (first later : List ℕ) →
     Refuses e (flush machine b) → Refuses e (append machine b c tag first later)
 append_unflushed e b c tag first later h = Refuses-then e (flush machine b) _ h
-
--- A mapped result refuses if the result does.
-pub refused-mapped : {X Y : Type 0} (e : Error) (f : X → Y) (o : Option X) (p : Option Y) → p ≡ option_map f o → Refuses e o → Refuses e p
-refused-mapped TooNarrow f o p same h = same ∙ ap (option_map f) h
-refused-mapped Fail f o p same h = h
-refused-mapped OutOfMemory f o p same h = tt
 
 -- A list that isn't empty by a test has an element.
 pub some_lines : {X : Type 0} (ls : List X) (b : Bool) → b ≡ is_empty ls → b ≡ false → 0 < length ls

@@ -4,10 +4,10 @@
 //! lines `a` and `b` once the block is flushed.
 
 ghost use Rattle.std.specs.Prelude.{◌≡◌, ◌==◌, ◌<◌, cond, not, length, [], ◌∷◌, Some, None, min, option_map, unwrap_or};
-ghost use Rattle.std.specs.Prelude.{OnOk, IfOk, IfErr, IsTrue};
+ghost use Rattle.std.specs.Prelude.{OnOk, IfOk, IfErr};
 ghost use Rattle.std.specs.List.{list_all};
 ghost use Rattle.std.specs.Str.{chars};
-ghost use Rattle.html_render_dom_values.specs.Outcome.{OnlyOutOfMemory, Refuses};
+ghost use Rattle.html_render_dom_values.specs.Outcome.{Gives, OnlyOutOfMemory, Refuses};
 ghost use Rattle.html_render_layout_lines.specs.Character.{is_collapsible};
 ghost use Rattle.html_render_layout_paragraphs.specs.Stream.{after, styled};
 ghost use Rattle.html_render_layout_lines.specs.TaggedText.{under};
@@ -289,8 +289,7 @@ impl<T: Tag, M: Copy> Block<T, M> {
     /// - `OutOfMemory`.
     /// - `TooNarrow`, with overflow off, if a character of the paragraph is wider than a line.
     pub fn flush(&mut self) -> Result<(), Error>
-        ensures ok { OnOk result (block.flush machine self.old ≡ Some self.new) }
-        ensures err { IfErr result (λ e. Refuses e (block.flush machine self.old)) }
+        ensures { Gives result (block.flush machine self.old) self.new }
     {
         self.flush_paragraph()?;
         Ok(())
@@ -348,8 +347,7 @@ impl<T: Tag, M: Copy> Block<T, M> {
     /// - `TooNarrow`, as in [`flush`](Block::flush).
     #[tactic(auto, using(html_render_dom_values::specs::laws::Outcome::refusals), unfolding(crate::specs::Machine::operations))]
     pub fn start_block(&mut self) -> Result<(), Error>
-        ensures ok { OnOk result (machine.operations.start_block self.old ≡ Some self.new) }
-        ensures err { IfErr result (λ e. Refuses e (machine.operations.start_block self.old)) }
+        ensures { Gives result (machine.operations.start_block self.old) self.new }
     {
         self.flush()?;
         self.separate()?;
@@ -374,8 +372,7 @@ impl<T: Tag, M: Copy> Block<T, M> {
     /// - `TooNarrow`, as in [`flush`](Block::flush).
     #[tactic(auto, unfolding(crate::specs::Machine::operations))]
     pub fn new_line(&mut self) -> Result<(), Error>
-        ensures ok { OnOk result (machine.operations.new_line self.old ≡ Some self.new) }
-        ensures err { IfErr result (λ e. Refuses e (machine.operations.new_line self.old)) }
+        ensures { Gives result (machine.operations.new_line self.old) self.new }
     {
         self.flush()
     }
@@ -389,8 +386,7 @@ impl<T: Tag, M: Copy> Block<T, M> {
     /// - `TooNarrow`, as in [`flush`](Block::flush).
     #[tactic(auto, using(html_render_dom_values::specs::laws::Outcome::refusals), unfolding(crate::specs::Machine::operations))]
     pub fn new_line_hard(&mut self) -> Result<(), Error>
-        ensures ok { OnOk result (machine.operations.new_line_hard self.old ≡ Some self.new) }
-        ensures err { IfErr result (λ e. Refuses e (machine.operations.new_line_hard self.old)) }
+        ensures { Gives result (machine.operations.new_line_hard self.old) self.new }
     {
         if self.flush_paragraph()? {
             self.add_empty_line()?;
@@ -410,8 +406,7 @@ impl<T: Tag, M: Copy> Block<T, M> {
     /// - `TooNarrow`, as in [`flush`](Block::flush), if the text starts a block.
     #[tactic(auto, using(html_render_dom_values::specs::laws::Outcome::refusals), unfolding(crate::specs::Machine::operations))]
     pub fn add_inline_text(&mut self, text: &str, style: TextStyle<T>) -> Result<(), Error>
-        ensures ok { OnOk result (machine.operations.add_inline_text self.old style (chars text.now) ≡ Some self.new) }
-        ensures err { IfErr result (λ e. Refuses e (machine.operations.add_inline_text self.old style (chars text.now))) }
+        ensures { Gives result (machine.operations.add_inline_text self.old style (chars text.now)) self.new }
     {
         if has_no_character(text) {
             return Ok(());
@@ -466,10 +461,8 @@ impl<T: Tag, M: Copy> Block<T, M> {
         later: &Prefix<'_, T>,
     ) -> Result<(), Error>
         requires { 0 < length lines.old }
-        ensures ok { OnOk result (option_map (λ all. record self.old { lines = all }) (moved self.old.setting.width self.old.setting.overflow waiting.now
-            (under first.now.tag (chars first.now.text.now)) (under later.now.tag (chars later.now.text.now)) self.old.lines lines.old) ≡ Some self.new) }
-        ensures err { IfErr result (λ e. Refuses e (moved self.old.setting.width self.old.setting.overflow waiting.now
-            (under first.now.tag (chars first.now.text.now)) (under later.now.tag (chars later.now.text.now)) self.old.lines lines.old)) }
+        ensures { Gives result (option_map (λ all. record self.old { lines = all }) (moved self.old.setting.width self.old.setting.overflow waiting.now
+            (under first.now.tag (chars first.now.text.now)) (under later.now.tag (chars later.now.text.now)) self.old.lines lines.old)) self.new }
     {
         let width = self.setting.width;
         if !self.setting.overflow && !lines.fits_after(first.columns, later.columns, width) {
@@ -489,11 +482,8 @@ impl<T: Tag, M: Copy> Block<T, M> {
         first: &str,
         later: &Prefix<'_, T>,
     ) -> Result<(), Error>
-        ensures ok { OnOk result (option_map (λ all. block.put_lines machine self.old all end.now) (fitting self.old.setting.width self.old.setting.overflow
-            (prefixed (under later.now.tag (chars first.now)) (under later.now.tag (chars later.now.text.now)) lines.old)) ≡ Some self.new) }
-        ensures err { IfErr result (λ e. Refuses e (option_map (λ all. block.put_lines machine self.old all end.now)
-            (fitting self.old.setting.width self.old.setting.overflow
-            (prefixed (under later.now.tag (chars first.now)) (under later.now.tag (chars later.now.text.now)) lines.old)))) }
+        ensures { Gives result (option_map (λ all. block.put_lines machine self.old all end.now) (fitting self.old.setting.width self.old.setting.overflow
+            (prefixed (under later.now.tag (chars first.now)) (under later.now.tag (chars later.now.text.now)) lines.old))) self.new }
     {
         if lines.is_empty() {
             return self.add_marks(end);
@@ -527,8 +517,7 @@ impl<T: Tag, M: Copy> Block<T, M> {
         first: &str,
         later: &Prefix<'_, T>,
     ) -> Result<(), Error>
-        ensures ok { OnOk result (machine.operations.append self.old sub.old later.now.tag (chars first.now) (chars later.now.text.now) ≡ Some self.new) }
-        ensures err { IfErr result (λ e. Refuses e (machine.operations.append self.old sub.old later.now.tag (chars first.now) (chars later.now.text.now))) }
+        ensures { Gives result (machine.operations.append self.old sub.old later.now.tag (chars first.now) (chars later.now.text.now)) self.new }
     {
         self.flush()?;
         sub.flush_whole()?;

@@ -7,7 +7,7 @@
 ghost use Rattle.std.specs.Prelude.{◌≡◌, Some, OnOk, IfOk, IfErr, map, option_and_then, string_bytes};
 ghost use Rattle.std.specs.Borrow.{sem};
 ghost use Rattle.std.specs.Str.{chars};
-ghost use Rattle.html_render_dom_values.specs.Outcome.{OnlyOutOfMemory, Refuses};
+ghost use Rattle.html_render_dom_values.specs.Outcome.{Gives, OnlyOutOfMemory, Refuses};
 ghost use Rattle.html_render_layout_blocks.specs.Block as block;
 ghost use Rattle.html_render_layout_blocks.specs.Lending.{lends_block};
 ghost use Rattle.html_render_layout_blocks.specs.Machine as machine;
@@ -252,8 +252,7 @@ impl<T: Tag, M: Copy> CurrentBlock<T, M> {
     /// - `TooNarrow`, as in [`sub_block`](CurrentBlock::sub_block) and [`Block::flush`].
     #[tactic(auto, using(html_render_dom_values::specs::laws::Outcome::refusals), unfolding(crate::specs::Machine::operations))]
     pub fn skip_sub_block(&mut self, prefix: usize, inner: usize) -> Result<(), Error>
-        ensures ok { OnOk result (option_and_then (λ _. machine.operations.new_line self.old) (machine.operations.sub_block self.old prefix inner) ≡ Some self.new) }
-        ensures err { IfErr result (λ e. Refuses e (option_and_then (λ _. machine.operations.new_line self.old) (machine.operations.sub_block self.old prefix inner))) }
+        ensures { Gives result (option_and_then (λ _. machine.operations.new_line self.old) (machine.operations.sub_block self.old prefix inner)) self.new }
     {
         match self.held.block.width_behind(prefix, inner) {
             Some(_) => self.held.block.new_line(),
@@ -288,8 +287,7 @@ impl<T: Tag, M: Copy> CurrentBlock<T, M> {
     /// As for [`Block::add_cell`].
     #[tactic(auto, using(html_render_dom_values::specs::laws::Outcome::refusals))]
     pub fn add_cell(&mut self, cell: BoxedBlock<T, M>) -> Result<(), Error>
-        ensures ok { OnOk result (machine.operations.add_cell self.old cell ≡ Some self.new) }
-        ensures err { IfErr result (λ e. Refuses e (machine.operations.add_cell self.old cell)) }
+        ensures { Gives result (machine.operations.add_cell self.old cell) self.new }
     {
         let mut inner = cell.held;
         self.held.block.add_cell(&mut inner.block)?;
@@ -309,9 +307,7 @@ impl<T: Tag, M: Copy> CurrentBlock<T, M> {
         text: &str,
         style: TextStyle<T>,
     ) -> Result<(), Error>
-        ensures ok { OnOk result (option_and_then (λ c. machine.operations.add_cell self.old c) (machine.operations.add_inline_text cell style (chars text.now)) ≡ Some self.new) }
-        ensures err { IfErr result (λ e. Refuses e
-            (option_and_then (λ c. machine.operations.add_cell self.old c) (machine.operations.add_inline_text cell style (chars text.now)))) }
+        ensures { Gives result (option_and_then (λ c. machine.operations.add_cell self.old c) (machine.operations.add_inline_text cell style (chars text.now))) self.new }
     {
         let mut inner = cell.held;
         inner.block.add_inline_text(text, style)?;
@@ -332,8 +328,7 @@ impl<T: Tag, M: Copy> CurrentBlock<T, M> {
         first: &str,
         later: &Prefix<'_, T>,
     ) -> Result<(), Error>
-        ensures ok { OnOk result (machine.operations.append self.old sub later.now.tag (chars first.now) (chars later.now.text.now) ≡ Some self.new) }
-        ensures err { IfErr result (λ e. Refuses e (machine.operations.append self.old sub later.now.tag (chars first.now) (chars later.now.text.now))) }
+        ensures { Gives result (machine.operations.append self.old sub later.now.tag (chars first.now) (chars later.now.text.now)) self.new }
     {
         let mut inner = sub.held;
         self.held.block.append(&mut inner.block, first, later)?;
@@ -347,8 +342,7 @@ impl<T: Tag, M: Copy> CurrentBlock<T, M> {
     ///
     /// As for [`Block::finish`].
     pub fn finish(&mut self) -> Result<(), Error>
-        ensures ok { OnOk result (machine.ending.finish self.old ≡ Some self.new) }
-        ensures err { IfErr result (λ e. Refuses e (machine.ending.finish self.old)) }
+        ensures { Gives result (machine.ending.finish self.old) self.new }
     {
         self.held.block.finish()
     }
@@ -359,8 +353,7 @@ impl<T: Tag, M: Copy> CurrentBlock<T, M> {
     ///
     /// As for [`Block::add_closing_lines`].
     pub fn add_closing_lines(&mut self, texts: &[String], tag: T, cut: bool) -> Result<(), Error>
-        ensures ok { OnOk result (machine.ending.add_closing_lines self.old cut tag (map (λ t. chars (string_bytes t)) texts.now) ≡ Some self.new) }
-        ensures err { IfErr result (λ e. Refuses e (machine.ending.add_closing_lines self.old cut tag (map (λ t. chars (string_bytes t)) texts.now))) }
+        ensures { Gives result (machine.ending.add_closing_lines self.old cut tag (map (λ t. chars (string_bytes t)) texts.now)) self.new }
     {
         self.held.block.add_closing_lines(texts, tag, cut)
     }

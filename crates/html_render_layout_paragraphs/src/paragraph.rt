@@ -6,7 +6,7 @@
 ghost use Rattle.std.specs.Prelude.{◌≡◌, [], ◌==◌, Some, None, OnOk, IfOk, IfErr, length, not, option_map};
 ghost use Rattle.std.specs.Bool.{OnTrue};
 ghost use Rattle.std.specs.Str.{chars};
-ghost use Rattle.html_render_dom_values.specs.Outcome.{OnlyOutOfMemory, Refuses};
+ghost use Rattle.html_render_dom_values.specs.Outcome.{Gives, OnlyOutOfMemory, Refuses};
 ghost use Rattle.html_render_layout_paragraphs.specs.Paragraph.{all_lines};
 ghost use Rattle.html_render_layout_paragraphs.specs.Stream.{start, step, after, styled, finished, flushed_to};
 
@@ -140,8 +140,7 @@ impl<T: Tag, M: Copy> Paragraph<T, M> {
     ///
     /// The contents of the paragraph are then unspecified.
     pub fn add_text(&mut self, text: &str, style: TextStyle<T>) -> Result<(), Error>
-        ensures ok { OnOk result (after self.old (styled style (chars text.now)) ≡ Some self.new) }
-        ensures err { IfErr result (λ e. Refuses e (after self.old (styled style (chars text.now)))) }
+        ensures { Gives result (after self.old (styled style (chars text.now))) self.new }
     {
         self.feed(text, style)
     }

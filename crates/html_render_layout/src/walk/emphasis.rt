@@ -1,9 +1,9 @@
 //! Decorated parts of a text: emphasis, struck-out parts and superscripts; and [`begin`], which links and images use too.
 #![tactic(auto, using(html_render_dom_values::specs::laws::Outcome::refusals))]
 
-ghost use Rattle.std.specs.Prelude.{◌≡◌, Some, OnOk, IfOk, IfErr, string_bytes};
+ghost use Rattle.std.specs.Prelude.{◌≡◌, Some, IfOk, string_bytes};
 ghost use Rattle.std.specs.Str.{chars};
-ghost use Rattle.html_render_dom_values.specs.Outcome.{OnlyOutOfMemory, Refuses};
+ghost use Rattle.html_render_dom_values.specs.Outcome.{Gives, OnlyOutOfMemory};
 ghost use Rattle.html_render_layout.specs.Layout.{emphasis_decoration, start, annotated, write, perform_all};
 ghost use Rattle.html_render_layout.specs.Working.{by_tags};
 
@@ -62,10 +62,8 @@ pub fn begin<D: TextDecorator, G: Tagging<D::Annotation>>(
     start: (String, D::Annotation),
     state: &mut State<D, G>,
 ) -> Result<(), Error>
-    ensures ok { OnOk result (write (by_tags D.decoration G.annotated) (chars (string_bytes start.0))
-        (annotated (by_tags D.decoration G.annotated) (Some start.1) state.old) ≡ Some state.new) }
-    ensures err { IfErr result (λ e. Refuses e (write (by_tags D.decoration G.annotated) (chars (string_bytes start.0))
-        (annotated (by_tags D.decoration G.annotated) (Some start.1) state.old))) }
+    ensures { Gives result (write (by_tags D.decoration G.annotated) (chars (string_bytes start.0))
+        (annotated (by_tags D.decoration G.annotated) (Some start.1) state.old)) state.new }
 {
     let (text, annotation) = start;
     state.text.tag = state.stacks.annotate(state.text.tag, annotation)?;
@@ -82,8 +80,7 @@ pub fn begin_emphasis<D: TextDecorator, G: Tagging<D::Annotation>>(
     emphasis: Emphasis,
     state: &mut State<D, G>,
 ) -> Result<(), Error>
-    ensures ok { OnOk result (perform_all (by_tags D.decoration G.annotated) state.old (start D.decoration (emphasis_decoration D.decoration emphasis)) state.old ≡ Some state.new) }
-    ensures err { IfErr result (λ e. Refuses e (perform_all (by_tags D.decoration G.annotated) state.old (start D.decoration (emphasis_decoration D.decoration emphasis)) state.old)) }
+    ensures { Gives result (perform_all (by_tags D.decoration G.annotated) state.old (start D.decoration (emphasis_decoration D.decoration emphasis)) state.old) state.new }
 {
     let start = start_of(alloc, &state.decorator, emphasis)?;
     begin(alloc, start, state)
@@ -98,8 +95,7 @@ pub fn begin_strikeout<D: TextDecorator, G: Tagging<D::Annotation>>(
     alloc: Global,
     state: &mut State<D, G>,
 ) -> Result<(), Error>
-    ensures ok { OnOk result (perform_all (by_tags D.decoration G.annotated) state.old (start D.decoration D.decoration.strikeout) state.old ≡ Some state.new) }
-    ensures err { IfErr result (λ e. Refuses e (perform_all (by_tags D.decoration G.annotated) state.old (start D.decoration D.decoration.strikeout) state.old)) }
+    ensures { Gives result (perform_all (by_tags D.decoration G.annotated) state.old (start D.decoration D.decoration.strikeout) state.old) state.new }
 {
     let start = state.decorator.decorate_strikeout_start(alloc)?;
     begin(alloc, start, state)
@@ -114,8 +110,7 @@ pub fn begin_superscript<D: TextDecorator, G: Tagging<D::Annotation>>(
     alloc: Global,
     state: &mut State<D, G>,
 ) -> Result<(), Error>
-    ensures ok { OnOk result (perform_all (by_tags D.decoration G.annotated) state.old (start D.decoration D.decoration.superscript) state.old ≡ Some state.new) }
-    ensures err { IfErr result (λ e. Refuses e (perform_all (by_tags D.decoration G.annotated) state.old (start D.decoration D.decoration.superscript) state.old)) }
+    ensures { Gives result (perform_all (by_tags D.decoration G.annotated) state.old (start D.decoration D.decoration.superscript) state.old) state.new }
 {
     let start = state.decorator.decorate_superscript_start(alloc)?;
     begin(alloc, start, state)

@@ -1,10 +1,10 @@
 //! The closing lines of a document.
 
-ghost use Rattle.std.specs.Prelude.{◌≡◌, ◌++◌, [], Some, codes, map, string_bytes, if◌then◌else◌};
+ghost use Rattle.std.specs.Prelude.{◌≡◌, ◌++◌, [], codes, map, string_bytes, if◌then◌else◌};
 ghost use Rattle.std.specs.Fmt.{decimal};
 ghost use Rattle.std.specs.Str.{chars};
-ghost use Rattle.std.specs.Prelude.{OnOk, IfOk, IfErr};
-ghost use Rattle.html_render_dom_values.specs.Outcome.{OnlyOutOfMemory, Refuses};
+ghost use Rattle.std.specs.Prelude.{IfOk};
+ghost use Rattle.html_render_dom_values.specs.Outcome.{Gives, OnlyOutOfMemory};
 ghost use Rattle.html_render_layout_blocks.specs.Ends.{ended_by};
 ghost use Rattle.html_render_layout_blocks.specs.Machine as machine;
 ghost use Rattle.html_render_layout.specs.Ending.{footnotes, closing_texts};
@@ -89,10 +89,8 @@ pub fn end<D: TextDecorator, G: Tagging<D::Annotation>>(
     tag: G::Tag,
     state: &mut State<D, G>,
 ) -> Result<(), Error>
-    ensures ok { OnOk result (on_block (λ b. ended_by machine.ending b wrap_links tag
-        (map chars (closing_texts D.decoration link_footnotes state.old.decorator state.old.targets))) state.old ≡ Some state.new) }
-    ensures err { IfErr result (λ e. Refuses e (on_block (λ b. ended_by machine.ending b wrap_links tag
-        (map chars (closing_texts D.decoration link_footnotes state.old.decorator state.old.targets))) state.old)) }
+    ensures { Gives result (on_block (λ b. ended_by machine.ending b wrap_links tag
+        (map chars (closing_texts D.decoration link_footnotes state.old.decorator state.old.targets))) state.old) state.new }
 {
     state.block.finish()?;
     let texts = closing_texts(

@@ -1,8 +1,8 @@
 //! Images and drawings, and the title that each is shown with.
 
-ghost use Rattle.std.specs.Prelude.{◌≡◌, ◌==◌, Some, OnOk, IfErr, option_map};
+ghost use Rattle.std.specs.Prelude.{◌≡◌, ◌==◌, Some, option_map};
 ghost use Rattle.std.specs.List.{after_last};
-ghost use Rattle.html_render_dom_values.specs.Outcome.{Refuses};
+ghost use Rattle.html_render_dom_values.specs.Outcome.{Gives};
 ghost use Rattle.html_render_layout.specs.Images.{shown_title};
 ghost use Rattle.html_render_layout.specs.Layout.{image, perform_all};
 ghost use Rattle.html_render_layout.specs.Working.{by_tags};
@@ -60,10 +60,8 @@ pub fn add_image<D: TextDecorator, G: Tagging<D::Annotation>>(
     title: &str,
     state: &mut State<D, G>,
 ) -> Result<(), Error>
-    ensures ok { OnOk result (perform_all (by_tags D.decoration G.annotated) state.old
-        (image D.decoration source.now (shown_title state.old.settings.empty_images source.now title.now)) state.old ≡ Some state.new) }
-    ensures err { IfErr result (λ e. Refuses e (perform_all (by_tags D.decoration G.annotated) state.old
-        (image D.decoration source.now (shown_title state.old.settings.empty_images source.now title.now)) state.old)) }
+    ensures { Gives result (perform_all (by_tags D.decoration G.annotated) state.old
+        (image D.decoration source.now (shown_title state.old.settings.empty_images source.now title.now)) state.old) state.new }
 {
     let Some(title) = shown_title(&state.settings.empty_images, source, title) else {
         return Ok(());

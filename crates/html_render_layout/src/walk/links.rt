@@ -2,8 +2,8 @@
 #![tactic(auto, using(html_render_dom_values::specs::laws::Outcome::refusals))]
 
 ghost use Rattle.std.specs.Fmt.{decimal};
-ghost use Rattle.std.specs.Prelude.{◌≡◌, ◌∷◌, ◌++◌, Some, codes, IfOk, OnOk, IfErr};
-ghost use Rattle.html_render_dom_values.specs.Outcome.{OnlyOutOfMemory, Refuses};
+ghost use Rattle.std.specs.Prelude.{◌≡◌, ◌∷◌, ◌++◌, Some, codes, IfOk, OnOk};
+ghost use Rattle.html_render_dom_values.specs.Outcome.{Gives, OnlyOutOfMemory};
 ghost use Rattle.html_render_parts.specs.Decoration.{link};
 ghost use Rattle.html_render_layout.specs.Layout.{AddTarget, AddMark, start, perform, perform_all};
 ghost use Rattle.html_render_layout.specs.Opening.{kind_closed, write_number};
@@ -47,10 +47,8 @@ pub fn begin_link<D: TextDecorator, G: Tagging<D::Annotation>>(
     target: &str,
     state: &mut State<D, G>,
 ) -> Result<(), Error>
-    ensures ok { OnOk result (perform_all (by_tags D.decoration G.annotated) state.old
-        (AddTarget target.now ∷ start D.decoration (link D.decoration target.now)) state.old ≡ Some state.new) }
-    ensures err { IfErr result (λ e. Refuses e (perform_all (by_tags D.decoration G.annotated) state.old
-        (AddTarget target.now ∷ start D.decoration (link D.decoration target.now)) state.old)) }
+    ensures { Gives result (perform_all (by_tags D.decoration G.annotated) state.old
+        (AddTarget target.now ∷ start D.decoration (link D.decoration target.now)) state.old) state.new }
 {
     state.targets.push(target)?;
     let start = state.decorator.decorate_link_start(alloc, target)?;
@@ -72,8 +70,7 @@ fn add_number<D: TextDecorator, G: Tagging<D::Annotation>>(
     number: usize,
     state: &mut State<D, G>,
 ) -> Result<(), Error>
-    ensures ok { OnOk result (write_number (by_tags D.decoration G.annotated) number state.old ≡ Some state.new) }
-    ensures err { IfErr result (λ e. Refuses e (write_number (by_tags D.decoration G.annotated) number state.old)) }
+    ensures { Gives result (write_number (by_tags D.decoration G.annotated) number state.old) state.new }
 {
     if !state.settings.link_footnotes {
         return Ok(());
@@ -96,8 +93,7 @@ pub fn close_link<D: TextDecorator, G: Tagging<D::Annotation>>(
     number: usize,
     state: &mut State<D, G>,
 ) -> Result<(), Error>
-    ensures ok { OnOk result (kind_closed (by_tags D.decoration G.annotated) (CloseAction.EndLink text number) state.old ≡ Some state.new) }
-    ensures err { IfErr result (λ e. Refuses e (kind_closed (by_tags D.decoration G.annotated) (CloseAction.EndLink text number) state.old)) }
+    ensures { Gives result (kind_closed (by_tags D.decoration G.annotated) (CloseAction.EndLink text number) state.old) state.new }
 {
     let end = state.decorator.decorate_link_end(alloc)?;
     add_text(alloc, end.as_str(), state)?;

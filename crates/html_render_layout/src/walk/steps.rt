@@ -3,7 +3,7 @@
 
 ghost use Rattle.std.specs.Prelude.{◌≡◌, ◌+◌, ◌-◌, ◌++◌, ◌∷◌, [], length, true, Some, OnOk, IfOk, IfErr, MatchBool, option_copied};
 ghost use Rattle.std.specs.Option.{option_map_or};
-ghost use Rattle.html_render_dom_values.specs.Outcome.{OnlyOutOfMemory, Refuses};
+ghost use Rattle.html_render_dom_values.specs.Outcome.{Gives, OnlyOutOfMemory, Refuses};
 ghost use Rattle.html_render_layout_blocks.specs.Machine as machine;
 ghost use Rattle.html_render_layout_nodes.specs.Visits.{Past, way};
 ghost use Rattle.html_render_layout_nodes.specs.Preorder.{flatten, forest_of};
@@ -12,7 +12,7 @@ ghost use Rattle.html_render_layout_estimates.specs.Estimates.{number_columns};
 ghost use Rattle.html_render_layout.specs.Layout.{AddTarget, BeginTable, Fence, NewLine, StartBlock, Strike, block_of, perform_all};
 ghost use Rattle.html_render_layout.specs.Layout.{start};
 ghost use Rattle.html_render_layout.specs.Opening.{child_block, children_share, block_begun, block_kept, continued};
-ghost use Rattle.html_render_layout.specs.Opening.{kind_opened, kind_closed, opened_in, text_opened, cell_opened, block_opened, opened_below, keeping};
+ghost use Rattle.html_render_layout.specs.Opening.{kind_opened, kind_closed, opened_in, text_opened, cell_opened, block_opened, keeping};
 ghost use Rattle.html_render_layout.specs.Opening.{opened, closed};
 ghost use Rattle.html_render_layout.specs.Working.{by_tags};
 
@@ -88,8 +88,7 @@ fn begin_term<D: TextDecorator, G: Tagging<D::Annotation>>(
     alloc: Global,
     state: &mut State<D, G>,
 ) -> Result<(), Error>
-    ensures ok { OnOk result (perform_all (by_tags D.decoration G.annotated) state.old (NewLine ∷ start D.decoration D.decoration.em) state.old ≡ Some state.new) }
-    ensures err { IfErr result (λ e. Refuses e (perform_all (by_tags D.decoration G.annotated) state.old (NewLine ∷ start D.decoration D.decoration.em) state.old)) }
+    ensures { Gives result (perform_all (by_tags D.decoration G.annotated) state.old (NewLine ∷ start D.decoration D.decoration.em) state.old) state.new }
 {
     state.block.as_mut().new_line()?;
     begin_emphasis(alloc, Emphasis::Em, state)
@@ -100,10 +99,8 @@ fn strike<D: TextDecorator, G: Tagging<D::Annotation>>(
     alloc: Global,
     state: &mut State<D, G>,
 ) -> Result<(), Error>
-    ensures ok { OnOk result (perform_all (by_tags D.decoration G.annotated) state.old
-        (start D.decoration D.decoration.strikeout ++ Strike ∷ []) state.old ≡ Some state.new) }
-    ensures err { IfErr result (λ e. Refuses e (perform_all (by_tags D.decoration G.annotated) state.old
-        (start D.decoration D.decoration.strikeout ++ Strike ∷ []) state.old)) }
+    ensures { Gives result (perform_all (by_tags D.decoration G.annotated) state.old
+        (start D.decoration D.decoration.strikeout ++ Strike ∷ []) state.old) state.new }
 {
     begin_strikeout(alloc, state)?;
     state.text.struck_out = state.settings.unicode_strikeout;
@@ -330,8 +327,7 @@ fn resume_block<D: TextDecorator, G: Tagging<D::Annotation>>(
     interrupted: Interrupted<D, G>,
     state: &mut State<D, G>,
 ) -> Result<(), Error>
-    ensures ok { OnOk result (continued (by_tags D.decoration G.annotated) interrupted state.old ≡ Some state.new) }
-    ensures err { IfErr result (λ e. Refuses e (continued (by_tags D.decoration G.annotated) interrupted state.old)) }
+    ensures { Gives result (continued (by_tags D.decoration G.annotated) interrupted state.old) state.new }
 {
     match interrupted {
         Suspended::NoBlock => Ok(()),
@@ -348,8 +344,7 @@ fn resume_outer<D: TextDecorator, G: Tagging<D::Annotation>>(
     interrupted: Interrupted<D, G>,
     state: &mut State<D, G>,
 ) -> Result<(), Error>
-    ensures ok { OnOk result (continued (by_tags D.decoration G.annotated) interrupted state.old ≡ Some state.new) }
-    ensures err { IfErr result (λ e. Refuses e (continued (by_tags D.decoration G.annotated) interrupted state.old)) }
+    ensures { Gives result (continued (by_tags D.decoration G.annotated) interrupted state.old) state.new }
 {
     if let Suspended::NoBlock = interrupted {
         return Ok(());
@@ -363,8 +358,7 @@ fn close_kind<D: TextDecorator, G: Tagging<D::Annotation>>(
     closing: KindKept<D, G>,
     state: &mut State<D, G>,
 ) -> Result<(), Error>
-    ensures ok { OnOk result (kind_closed (by_tags D.decoration G.annotated) closing state.old ≡ Some state.new) }
-    ensures err { IfErr result (λ e. Refuses e (kind_closed (by_tags D.decoration G.annotated) closing state.old)) }
+    ensures { Gives result (kind_closed (by_tags D.decoration G.annotated) closing state.old) state.new }
 {
     match closing {
         CloseAction::Nothing(own) => resume_outer(alloc, own, state),
@@ -543,8 +537,7 @@ fn add_node_text<D: TextDecorator, G: Tagging<D::Annotation>>(
     style: &NodeStyle,
     state: &mut State<D, G>,
 ) -> Result<(), Error>
-    ensures ok { OnOk result (text_opened (by_tags D.decoration G.annotated) text.now style.now state.old ≡ Some (Past state.new)) }
-    ensures err { IfErr result (λ e. Refuses e (text_opened (by_tags D.decoration G.annotated) text.now style.now state.old)) }
+    ensures { Gives result (text_opened (by_tags D.decoration G.annotated) text.now style.now state.old) (Past state.new) }
 {
     let context = begin_style(alloc, style, state)?;
     add_text(alloc, text, state)?;
@@ -610,8 +603,7 @@ pub fn close<D: TextDecorator, G: Tagging<D::Annotation>>(
     closing: Kept<D, G>,
     state: &mut State<D, G>,
 ) -> Result<(), Error>
-    ensures ok { OnOk result (closed (by_tags D.decoration G.annotated) closing state.old ≡ Some state.new) }
-    ensures err { IfErr result (λ e. Refuses e (closed (by_tags D.decoration G.annotated) closing state.old)) }
+    ensures { Gives result (closed (by_tags D.decoration G.annotated) closing state.old) state.new }
 {
     close_kind(alloc, closing.kind, state)?;
     state.text = closing.text;

@@ -1,10 +1,10 @@
 //! Superscripts of digits, as Unicode's superscript characters.
 
-ghost use Rattle.std.specs.Prelude.{◌≡◌, Some, None, MatchOption, OnOk, IfOk, IfErr, map, option_map, string_bytes};
+ghost use Rattle.std.specs.Prelude.{◌≡◌, Some, None, MatchOption, IfOk, map, option_map, string_bytes};
 ghost use Rattle.std.specs.Char.{is_ascii_digit};
 ghost use Rattle.std.specs.List.{list_all};
 ghost use Rattle.std.specs.Str.{chars};
-ghost use Rattle.html_render_dom_values.specs.Outcome.{Refuses};
+ghost use Rattle.html_render_dom_values.specs.Outcome.{Gives};
 ghost use Rattle.html_render_layout_nodes.specs.Preorder.{flatten, forest_of};
 ghost use Rattle.html_render_layout.specs.Layout.{write, digits_of, raised};
 ghost use Rattle.html_render_layout.specs.Opening.{digits_of_kind};
@@ -92,8 +92,7 @@ pub fn write_superscript<D: TextDecorator, G: Tagging<D::Annotation>>(
     digits: &str,
     state: &mut State<D, G>,
 ) -> Result<(), Error>
-    ensures ok { OnOk result (write (by_tags D.decoration G.annotated) (map raised digits.now) state.old ≡ Some state.new) }
-    ensures err { IfErr result (λ e. Refuses e (write (by_tags D.decoration G.annotated) (map raised digits.now) state.old)) }
+    ensures { Gives result (write (by_tags D.decoration G.annotated) (map raised digits.now) state.old) state.new }
 {
     let text = raised_text(alloc, digits)?;
     add_text(alloc, text.as_str(), state)

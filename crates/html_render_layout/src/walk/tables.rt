@@ -1,9 +1,9 @@
 //! Tables: beginning and ending one, with its fences, and the blocks of its cells.
 #![tactic(auto, using(html_render_dom_values::specs::laws::Outcome::refusals))]
 
-ghost use Rattle.std.specs.Prelude.{◌≡◌, [], ◌∷◌, Some, OnOk, IfOk, IfErr, codes};
+ghost use Rattle.std.specs.Prelude.{◌≡◌, [], ◌∷◌, OnOk, IfOk, codes};
 ghost use Rattle.std.specs.Str.{chars};
-ghost use Rattle.html_render_dom_values.specs.Outcome.{OnlyOutOfMemory, Refuses};
+ghost use Rattle.html_render_dom_values.specs.Outcome.{Gives, OnlyOutOfMemory};
 ghost use Rattle.html_render_layout_blocks.specs.Machine as machine;
 ghost use Rattle.html_render_layout.specs.Layout.{StartBlock, Fence, BeginTable, fence, perform, perform_all, within};
 ghost use Rattle.html_render_layout.specs.Opening.{cell_closed, table_closed};
@@ -44,8 +44,7 @@ fn fence_style<T: Copy>(tag: T) -> TextStyle<T>
 fn write_fence<D: TextDecorator, G: Tagging<D::Annotation>>(
     state: &mut State<D, G>,
 ) -> Result<(), Error>
-    ensures ok { OnOk result (fence (by_tags D.decoration G.annotated) state.old ≡ Some state.new) }
-    ensures err { IfErr result (λ e. Refuses e (fence (by_tags D.decoration G.annotated) state.old)) }
+    ensures { Gives result (fence (by_tags D.decoration G.annotated) state.old) state.new }
 {
     let style = fence_style(state.blank);
     state.block.as_mut().add_inline_text(fence_text(), style)?;
@@ -57,8 +56,7 @@ fn write_fence<D: TextDecorator, G: Tagging<D::Annotation>>(
 fn add_fence<D: TextDecorator, G: Tagging<D::Annotation>>(
     state: &mut State<D, G>,
 ) -> Result<(), Error>
-    ensures ok { OnOk result (perform (by_tags D.decoration G.annotated) state.old Fence state.old ≡ Some state.new) }
-    ensures err { IfErr result (λ e. Refuses e (perform (by_tags D.decoration G.annotated) state.old Fence state.old)) }
+    ensures { Gives result (perform (by_tags D.decoration G.annotated) state.old Fence state.old) state.new }
 {
     if !state.settings.fence_tables {
         return Ok(());
@@ -78,10 +76,8 @@ pub fn begin_table<D: TextDecorator, G: Tagging<D::Annotation>>(
     grid: &Grid,
     state: &mut State<D, G>,
 ) -> Result<(), Error>
-    ensures ok { OnOk result (perform_all (by_tags D.decoration G.annotated) state.old
-        (StartBlock ∷ (Fence ∷ (BeginTable grid.now.cells grid.now.needs ∷ []))) state.old ≡ Some state.new) }
-    ensures err { IfErr result (λ e. Refuses e (perform_all (by_tags D.decoration G.annotated) state.old
-        (StartBlock ∷ (Fence ∷ (BeginTable grid.now.cells grid.now.needs ∷ []))) state.old)) }
+    ensures { Gives result (perform_all (by_tags D.decoration G.annotated) state.old
+        (StartBlock ∷ (Fence ∷ (BeginTable grid.now.cells grid.now.needs ∷ []))) state.old) state.new }
 {
     state.block.as_mut().start_block()?;
     add_fence(state)?;
@@ -105,8 +101,7 @@ pub fn end_table<D: TextDecorator, G: Tagging<D::Annotation>>(
     in_table: bool,
     state: &mut State<D, G>,
 ) -> Result<(), Error>
-    ensures ok { OnOk result (table_closed (by_tags D.decoration G.annotated) in_table state.old ≡ Some state.new) }
-    ensures err { IfErr result (λ e. Refuses e (table_closed (by_tags D.decoration G.annotated) in_table state.old)) }
+    ensures { Gives result (table_closed (by_tags D.decoration G.annotated) in_table state.old) state.new }
 {
     state.block.as_mut().end_table()?;
     state.in_table = in_table;
@@ -161,8 +156,7 @@ pub fn end_cell<D: TextDecorator, G: Tagging<D::Annotation>>(
     outer: Outer<D, BoxedBlock<G::Tag, usize>>,
     state: &mut State<D, G>,
 ) -> Result<(), Error>
-    ensures ok { OnOk result (cell_closed (by_tags D.decoration G.annotated) outer state.old ≡ Some state.new) }
-    ensures err { IfErr result (λ e. Refuses e (cell_closed (by_tags D.decoration G.annotated) outer state.old)) }
+    ensures { Gives result (cell_closed (by_tags D.decoration G.annotated) outer state.old) state.new }
 {
     let cell = state.block.replace(outer.block);
     state.block.add_cell(cell)?;

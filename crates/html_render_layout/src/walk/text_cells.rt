@@ -2,10 +2,10 @@
 //! current one.
 #![tactic(auto, using(html_render_dom_values::specs::laws::Outcome::refusals))]
 
-ghost use Rattle.std.specs.Prelude.{◌≡◌, Some, OnOk, IfOk, IfErr, IfSome, MatchBool, option_copied};
+ghost use Rattle.std.specs.Prelude.{◌≡◌, Some, IfOk, IfErr, IfSome, MatchBool, option_copied};
 ghost use Rattle.std.specs.Bool.{OnTrue};
 ghost use Rattle.html_render_dom_values.specs.Forest as forest;
-ghost use Rattle.html_render_dom_values.specs.Outcome.{Refuses};
+ghost use Rattle.html_render_dom_values.specs.Outcome.{Gives};
 ghost use Rattle.html_render_layout_nodes.specs.Preorder.{flatten, forest_of};
 ghost use Rattle.html_render_layout_nodes.specs.Visits.{pair_at, RefusesPair};
 ghost use Rattle.html_render_layout.specs.Opening.{opened, closed};
@@ -85,8 +85,7 @@ fn put_text_cell<D: TextDecorator, G: Tagging<D::Annotation>>(
     text: &str,
     state: &mut State<D, G>,
 ) -> Result<(), Error>
-    ensures ok { OnOk result (cell_put (by_tags D.decoration G.annotated) cell text.now state.old ≡ Some state.new) }
-    ensures err { IfErr result (λ e. Refuses e (cell_put (by_tags D.decoration G.annotated) cell text.now state.old)) }
+    ensures { Gives result (cell_put (by_tags D.decoration G.annotated) cell text.now state.old) state.new }
 {
     let style = TextStyle {
         mode: state.text.mode,

@@ -1,9 +1,9 @@
 //! Texts: preformatted and struck-out ones, and all others.
 #![tactic(auto, using(html_render_dom_values::specs::laws::Outcome::refusals))]
 
-ghost use Rattle.std.specs.Prelude.{◌≡◌, [], ◌∷◌, ◌++◌, true, Some, OnOk, IfOk, IfErr, string_bytes, if◌then◌else◌};
+ghost use Rattle.std.specs.Prelude.{◌≡◌, [], ◌∷◌, ◌++◌, true, OnOk, IfOk, string_bytes, if◌then◌else◌};
 ghost use Rattle.std.specs.Str.{chars, encode_utf8_all};
-ghost use Rattle.html_render_dom_values.specs.Outcome.{OnlyOutOfMemory, Refuses};
+ghost use Rattle.html_render_dom_values.specs.Outcome.{Gives, OnlyOutOfMemory};
 ghost use Rattle.html_render_layout_blocks.specs.Machine as machine;
 ghost use Rattle.html_render_layout.specs.Layout.{struck, on_block, text_style, write};
 ghost use Rattle.html_render_layout.specs.Opening.{add_styled};
@@ -51,8 +51,7 @@ fn add_struck<D: TextDecorator, G: Tagging<D::Annotation>>(
     style: TextStyle<G::Tag>,
     state: &mut State<D, G>,
 ) -> Result<(), Error>
-    ensures ok { OnOk result (on_block (λ b. machine.operations.add_inline_text b style (struck (chars text.now))) state.old ≡ Some state.new) }
-    ensures err { IfErr result (λ e. Refuses e (on_block (λ b. machine.operations.add_inline_text b style (struck (chars text.now))) state.old)) }
+    ensures { Gives result (on_block (λ b. machine.operations.add_inline_text b style (struck (chars text.now))) state.old) state.new }
 {
     let struck = struck(alloc, text)?;
     state.block.as_mut().add_inline_text(struck.as_str(), style)
@@ -66,10 +65,7 @@ fn add_styled<D: TextDecorator, G: Tagging<D::Annotation>>(
     style: TextStyle<G::Tag>,
     state: &mut State<D, G>,
 ) -> Result<(), Error>
-    ensures ok { OnOk result (on_block (λ b. machine.operations.add_inline_text b style (if state.old.text.struck_out then struck (chars text.now) else chars text.now)) state.old
-        ≡ Some state.new) }
-    ensures err { IfErr result (λ e. Refuses e
-        (on_block (λ b. machine.operations.add_inline_text b style (if state.old.text.struck_out then struck (chars text.now) else chars text.now)) state.old)) }
+    ensures { Gives result (on_block (λ b. machine.operations.add_inline_text b style (if state.old.text.struck_out then struck (chars text.now) else chars text.now)) state.old) state.new }
 {
     if state.text.struck_out {
         add_struck(alloc, text, style, state)
@@ -110,12 +106,9 @@ fn add_preformatted<D: TextDecorator, G: Tagging<D::Annotation>>(
     text: &str,
     state: &mut State<D, G>,
 ) -> Result<(), Error>
-    ensures ok { OnOk result (add_styled (by_tags D.decoration G.annotated)
+    ensures { Gives result (add_styled (by_tags D.decoration G.annotated)
         (text_style (by_tags D.decoration G.annotated) state.old.decorator state.old.stacks state.old.text true)
-        (chars text.now) state.old ≡ Some state.new) }
-    ensures err { IfErr result (λ e. Refuses e (add_styled (by_tags D.decoration G.annotated)
-        (text_style (by_tags D.decoration G.annotated) state.old.decorator state.old.stacks state.old.text true)
-        (chars text.now) state.old)) }
+        (chars text.now) state.old) state.new }
 {
     let style = preformatted_style(alloc, state)?;
     add_styled(alloc, text, style, state)
@@ -133,8 +126,7 @@ pub fn add_text<D: TextDecorator, G: Tagging<D::Annotation>>(
     text: &str,
     state: &mut State<D, G>,
 ) -> Result<(), Error>
-    ensures ok { OnOk result (write (by_tags D.decoration G.annotated) (chars text.now) state.old ≡ Some state.new) }
-    ensures err { IfErr result (λ e. Refuses e (write (by_tags D.decoration G.annotated) (chars text.now) state.old)) }
+    ensures { Gives result (write (by_tags D.decoration G.annotated) (chars text.now) state.old) state.new }
 {
     if state.text.preformatted {
         return add_preformatted(alloc, text, state);

@@ -2,7 +2,7 @@
 //! of one text, are laid out at once.
 
 ghost use Rattle.std.specs.Prelude.{◌≡◌, Some, MatchBool, OnOk, IfOk, IfErr, option_copied};
-ghost use Rattle.html_render_dom_values.specs.Outcome.{Refuses};
+ghost use Rattle.html_render_dom_values.specs.Outcome.{Gives, Refuses};
 ghost use Rattle.html_render_layout_nodes.specs.Counts.{CountsNodes};
 ghost use Rattle.html_render_layout_nodes.specs.Visits.{Past, run, way, pair_at, RefusesPair};
 ghost use Rattle.html_render_layout_nodes.specs.Preorder.{flatten, forest_of};
@@ -87,8 +87,7 @@ fn close<D: TextDecorator, G: Tagging<D::Annotation>>(
     kept: Kept<D, G>,
     state: &mut State<D, G>,
 ) -> Result<(), Error>
-    ensures ok { OnOk result (walk_closed (by_tags D.decoration G.annotated) kept state.old ≡ Some state.new) }
-    ensures err { IfErr result (λ e. Refuses e (walk_closed (by_tags D.decoration G.annotated) kept state.old)) }
+    ensures { Gives result (walk_closed (by_tags D.decoration G.annotated) kept state.old) state.new }
 {
     steps::close(alloc, kept, state)
 }

@@ -1,7 +1,7 @@
 //! Rows and cells of a block's open table.
 
-ghost use Rattle.std.specs.Prelude.{◌≡◌, ◌==◌, [], Some, OnOk, IfOk, IfErr, drop, not, option_map, slice_index_or};
-ghost use Rattle.html_render_dom_values.specs.Outcome.{OnlyOutOfMemory, Refuses};
+ghost use Rattle.std.specs.Prelude.{◌≡◌, [], Some, OnOk, IfOk, drop, not, option_map, slice_index_or};
+ghost use Rattle.html_render_dom_values.specs.Outcome.{Gives, OnlyOutOfMemory};
 ghost use Rattle.html_render_layout_lines.specs.Line.{is_empty};
 ghost use Rattle.html_render_layout_blocks.specs.OpenRows.{open_row};
 ghost use Rattle.html_render_layout_blocks.specs.Tables.{with_row_open, next_cell_width, skipped, with_next, with_row_over, cell_place};
@@ -339,8 +339,7 @@ impl<T: Tag, M: Copy> Block<T, M> {
     /// Flushes this block, and appends the lines of a flushed cell.
     #[tactic(auto, using(html_render_dom_values::specs::laws::Outcome::refusals))]
     fn flush_and_put_below(&mut self, cell: &mut Block<T, M>) -> Result<(), Error>
-        ensures ok { OnOk result (option_map (λ e. block.put_lines machine e cell.old.lines (machine.waiting cell.old.paragraph)) (block.flush machine self.old) ≡ Some self.new) }
-        ensures err { IfErr result (λ e. Refuses e (option_map (λ e. block.put_lines machine e cell.old.lines (machine.waiting cell.old.paragraph)) (block.flush machine self.old))) }
+        ensures { Gives result (option_map (λ e. block.put_lines machine e cell.old.lines (machine.waiting cell.old.paragraph)) (block.flush machine self.old)) self.new }
     {
         self.flush()?;
         self.put_below(cell)
@@ -355,10 +354,7 @@ impl<T: Tag, M: Copy> Block<T, M> {
         has_lines: bool,
         cell: &mut Block<T, M>,
     ) -> Result<(), Error>
-        ensures ok { OnOk result (option_map (λ e. block.put_stacked machine e border has_lines (not (is_empty cell.old.lines)) cell.old) (block.flush machine self.old)
-            ≡ Some self.new) }
-        ensures err { IfErr result (λ e. Refuses e (option_map (λ e. block.put_stacked machine e border has_lines (not (is_empty cell.old.lines)) cell.old)
-            (block.flush machine self.old))) }
+        ensures { Gives result (option_map (λ e. block.put_stacked machine e border has_lines (not (is_empty cell.old.lines)) cell.old) (block.flush machine self.old)) self.new }
     {
         self.flush()?;
         self.put_stacked(border, has_lines, cell)
@@ -368,8 +364,7 @@ impl<T: Tag, M: Copy> Block<T, M> {
     #[inline(always)]
     #[tactic(auto, using(html_render_dom_values::specs::laws::Outcome::refusals, crate::proofs::Cells::cells_added))]
     fn add_flushed(&mut self, cell: &mut Block<T, M>) -> Result<(), Error>
-        ensures ok { OnOk result (block.cell_added machine self.old self.old.table cell.old ≡ Some self.new) }
-        ensures err { IfErr result (λ e. Refuses e (block.cell_added machine self.old self.old.table cell.old)) }
+        ensures { Gives result (block.cell_added machine self.old self.old.table cell.old) self.new }
     {
         match self.table.cell_place() {
             CellPlace::InRow => {
@@ -396,8 +391,7 @@ impl<T: Tag, M: Copy> Block<T, M> {
     #[inline(always)]
     #[tactic(auto, using(html_render_dom_values::specs::laws::Outcome::refusals), unfolding(crate::specs::Machine::operations))]
     pub fn add_cell(&mut self, cell: &mut Block<T, M>) -> Result<(), Error>
-        ensures ok { OnOk result (machine.operations.add_cell self.old cell.old ≡ Some self.new) }
-        ensures err { IfErr result (λ e. Refuses e (machine.operations.add_cell self.old cell.old)) }
+        ensures { Gives result (machine.operations.add_cell self.old cell.old) self.new }
     {
         cell.flush_whole()?;
         self.add_flushed(cell)
@@ -406,8 +400,7 @@ impl<T: Tag, M: Copy> Block<T, M> {
     /// Flushes, and begins another row of a stacked table, below a border if borders are drawn.
     #[tactic(auto, using(html_render_dom_values::specs::laws::Outcome::refusals))]
     fn end_stacked_row(&mut self, border: Option<T>) -> Result<(), Error>
-        ensures ok { OnOk result (option_map (λ e. block.stacked_begun machine e border) (block.flush machine self.old) ≡ Some self.new) }
-        ensures err { IfErr result (λ e. Refuses e (option_map (λ e. block.stacked_begun machine e border) (block.flush machine self.old))) }
+        ensures { Gives result (option_map (λ e. block.stacked_begun machine e border) (block.flush machine self.old)) self.new }
     {
         self.flush()?;
         self.begin_stacked(border)?;
@@ -426,8 +419,7 @@ impl<T: Tag, M: Copy> Block<T, M> {
     /// - `TooNarrow`, as in [`flush`](Block::flush).
     #[tactic(auto, using(html_render_dom_values::specs::laws::Outcome::refusals, crate::proofs::Cells::rows_ended), unfolding(crate::specs::Machine::operations))]
     pub fn end_row(&mut self) -> Result<(), Error>
-        ensures ok { OnOk result (machine.operations.end_row self.old ≡ Some self.new) }
-        ensures err { IfErr result (λ e. Refuses e (machine.operations.end_row self.old)) }
+        ensures { Gives result (machine.operations.end_row self.old) self.new }
     {
         match self.table.cell_place() {
             CellPlace::InRow => self.table.end_row(self.alloc),

@@ -4,7 +4,7 @@ ghost use Rattle.std.specs.Prelude.{◌≡◌, ◌==◌, ◌++◌, Some, cond, m
 ghost use Rattle.std.specs.Prelude.{OnOk, IfOk, IfErr};
 ghost use Rattle.std.specs.Bool.{OnTrue};
 ghost use Rattle.std.specs.Str.{chars};
-ghost use Rattle.html_render_dom_values.specs.Outcome.{Refuses};
+ghost use Rattle.html_render_dom_values.specs.Outcome.{Gives, Refuses};
 ghost use Rattle.html_render_layout_paragraphs.specs.CutText.{text_lines};
 ghost use Rattle.html_render_layout_lines.specs.Line.{is_empty};
 ghost use Rattle.html_render_layout_lines.specs.TaggedText.{under};
@@ -54,8 +54,7 @@ impl<T: Tag, M: Copy> Block<T, M> {
     /// - `TooNarrow`, as in [`flush`](Block::flush).
     #[tactic(auto, using(html_render_dom_values::specs::laws::Outcome::refusals), unfolding(crate::specs::Machine::ending))]
     pub fn finish(&mut self) -> Result<(), Error>
-        ensures ok { OnOk result (machine.ending.finish self.old ≡ Some self.new) }
-        ensures err { IfErr result (λ e. Refuses e (machine.ending.finish self.old)) }
+        ensures { Gives result (machine.ending.finish self.old) self.new }
     {
         self.flush_whole()?;
         self.mark_end()?;
@@ -95,8 +94,7 @@ impl<T: Tag, M: Copy> Block<T, M> {
     ///   block.
     #[tactic(auto, using(html_render_dom_values::specs::laws::Outcome::refusals), unfolding(crate::specs::Machine::operations, crate::specs::Machine::ending))]
     pub fn add_closing_lines(&mut self, texts: &[String], tag: T, cut: bool) -> Result<(), Error>
-        ensures ok { OnOk result (machine.ending.add_closing_lines self.old cut tag (map (λ t. chars (string_bytes t)) texts.now) ≡ Some self.new) }
-        ensures err { IfErr result (λ e. Refuses e (machine.ending.add_closing_lines self.old cut tag (map (λ t. chars (string_bytes t)) texts.now))) }
+        ensures { Gives result (machine.ending.add_closing_lines self.old cut tag (map (λ t. chars (string_bytes t)) texts.now)) self.new }
     {
         if texts.is_empty() {
             return Ok(());

@@ -1,7 +1,7 @@
 //! The beginning of a table in a block: whether its cells are side by side, and the borders of a stacked table.
 
-ghost use Rattle.std.specs.Prelude.{◌≡◌, ◌==◌, ◌&&◌, not, cond, Some, None, OnOk, IfOk, IfErr, MatchBool};
-ghost use Rattle.html_render_dom_values.specs.Outcome.{OnlyOutOfMemory, Refuses};
+ghost use Rattle.std.specs.Prelude.{◌≡◌, ◌==◌, ◌&&◌, not, cond, Some, None, OnOk, IfOk};
+ghost use Rattle.html_render_dom_values.specs.Outcome.{Gives, OnlyOutOfMemory};
 ghost use Rattle.html_render_parts_widths.specs.Shares.{widths_across};
 ghost use Rattle.html_render_parts.specs.TableCells.{rows_on};
 ghost use Rattle.html_render_layout_blocks.specs.declared.block.tables.OpenTable.TheVariants.{Stacked};
@@ -9,7 +9,6 @@ ghost use Rattle.html_render_layout_blocks.specs.Tables.{frame_of};
 ghost use Rattle.html_render_layout_blocks.specs.Block as block;
 ghost use Rattle.html_render_layout_blocks.specs.Machine as machine;
 ghost use Rattle.html_render_layout_blocks.specs.Machine.{machine};
-ghost use Rattle.html_render_layout_buffer.specs.Padding.{repeated};
 ghost use Rattle.html_render_layout_pictures.specs.Fillers.{character_of};
 
 use super::Block;
@@ -173,8 +172,7 @@ impl<T: Tag, M: Copy> Block<T, M> {
         grid: &TableCells,
         needs: &[ColumnNeed],
     ) -> Result<(), Error>
-        ensures ok { OnOk result (machine.operations.begin_table self.old tag borders stacked grid.now needs.now ≡ Some self.new) }
-        ensures err { IfErr result (λ e. Refuses e (machine.operations.begin_table self.old tag borders stacked grid.now needs.now)) }
+        ensures { Gives result (machine.operations.begin_table self.old tag borders stacked grid.now needs.now) self.new }
     {
         self.flush_whole()?;
         let memory = self.table.take_widths(self.alloc);

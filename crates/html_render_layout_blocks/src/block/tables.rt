@@ -1,8 +1,7 @@
 //! The open table of a block.
 
-ghost use Rattle.std.specs.Prelude.{◌≡◌, Some, None, OnOk, IfOk, IfErr, MatchBool, option_map};
-ghost use Rattle.html_render_dom_values.specs.Outcome.{OnlyOutOfMemory, Refuses};
-ghost use Rattle.html_render_layout_pictures.specs.Picture.{TableRow};
+ghost use Rattle.std.specs.Prelude.{◌≡◌, Some, None, OnOk, IfOk, MatchBool, option_map};
+ghost use Rattle.html_render_dom_values.specs.Outcome.{Gives, OnlyOutOfMemory};
 ghost use Rattle.html_render_layout_pictures.specs.Drawing as drawing;
 ghost use Rattle.html_render_layout_blocks.specs.declared.block.tables.OpenTable.TheVariants.{Across, Stacked};
 ghost use Rattle.html_render_layout_blocks.specs.Tables.{with_open, with_ahead, with_table};
@@ -334,8 +333,7 @@ impl<T: Tag, M: Copy> Block<T, M> {
     /// - `TooNarrow`, as in [`flush`](Block::flush).
     #[tactic(auto, using(html_render_dom_values::specs::laws::Outcome::refusals), unfolding(crate::specs::Machine::operations))]
     pub fn flush_whole(&mut self) -> Result<(), Error>
-        ensures ok { OnOk result (block.flush machine (block.end_table machine self.old) ≡ Some self.new) }
-        ensures err { IfErr result (λ e. Refuses e (block.flush machine (block.end_table machine self.old))) }
+        ensures { Gives result (block.flush machine (block.end_table machine self.old)) self.new }
     {
         self.end_table()?;
         self.flush()

@@ -2,11 +2,11 @@
 //!
 //! A letter is a character of [`Kind::Letter`], a part of a word.
 
-ghost use Rattle.std.specs.Prelude.{IfErr, IfOk, IfSome, length, take, drop, ◌≡◌, ◌+◌, ◌≤◌, ◌<◌, [], Some, None, OnOk, true};
+ghost use Rattle.std.specs.Prelude.{IfErr, IfOk, IfSome, length, take, drop, ◌≡◌, ◌+◌, ◌≤◌, ◌<◌, [], Some, None, true};
 ghost use Rattle.std.specs.Bool.{OnTrue};
 ghost use Rattle.std.specs.List.{list_all, slice_index};
 ghost use Rattle.std.specs.Str.{chars, IsUtf8};
-ghost use Rattle.html_render_dom_values.specs.Outcome.{Refuses};
+ghost use Rattle.html_render_dom_values.specs.Outcome.{Gives, Refuses};
 ghost use Rattle.html_render_dom_values.specs.declared.white_space.WhiteSpace.TheVariants.{Normal};
 ghost use Rattle.html_render_layout_lines.specs.Character.{kind, width_of, is_plain, character_of};
 ghost use Rattle.html_render_layout_paragraphs.specs.Feeding.{AreLetters, IsFront, HasFreeColumns, placed_text_and_space, with_words};
@@ -52,8 +52,7 @@ impl<T: Tag, M: Copy> Paragraph<T, M> {
     #[tactic(auto, using(html_render_dom_values::specs::laws::Outcome::refusals))]
     fn add_single(&mut self, class: Class, character: Character<T>) -> Result<(), Error>
         requires { class.width ≡ width_of character.code }
-        ensures ok { OnOk result (then_single self.old class.kind character ≡ Some self.new) }
-        ensures err { IfErr result (λ e. Refuses e (then_single self.old class.kind character)) }
+        ensures { Gives result (then_single self.old class.kind character) self.new }
     {
         self.end_word()?;
         self.place_single(class, character)
@@ -76,8 +75,7 @@ impl<T: Tag, M: Copy> Paragraph<T, M> {
     #[tactic(auto, using(html_render_dom_values::specs::laws::Outcome::refusals))]
     fn add_letter(&mut self, c: char, width: usize, style: TextStyle<T>) -> Result<(), Error>
         requires { width ≡ width_of c }
-        ensures ok { OnOk result (letter_step self.old (character_of style c) ≡ Some self.new) }
-        ensures err { IfErr result (λ e. Refuses e (letter_step self.old (character_of style c))) }
+        ensures { Gives result (letter_step self.old (character_of style c)) self.new }
     {
         let preserved = style.mode.preserve_whitespace();
         if !self.joins(preserved) {
@@ -92,8 +90,7 @@ impl<T: Tag, M: Copy> Paragraph<T, M> {
     #[inline(never)]
     #[tactic(auto, using(html_render_dom_values::specs::laws::Outcome::refusals))]
     fn add_space(&mut self, character: Character<T>) -> Result<(), Error>
-        ensures ok { OnOk result (character_step Kind.Space self.old character ≡ Some self.new) }
-        ensures err { IfErr result (λ e. Refuses e (character_step Kind.Space self.old character)) }
+        ensures { Gives result (character_step Kind.Space self.old character) self.new }
     {
         self.end_word()?;
         self.note_space(character);
@@ -121,8 +118,7 @@ impl<T: Tag, M: Copy> Paragraph<T, M> {
     /// Feeds a character of a given class.
     fn add_classed(&mut self, class: Class, c: char, style: TextStyle<T>) -> Result<(), Error>
         requires { class.width ≡ width_of c }
-        ensures ok { OnOk result (character_step class.kind self.old (character_of style c) ≡ Some self.new) }
-        ensures err { IfErr result (λ e. Refuses e (character_step class.kind self.old (character_of style c))) }
+        ensures { Gives result (character_step class.kind self.old (character_of style c)) self.new }
     {
         match class.kind {
             Kind::Letter => self.add_letter(c, class.width, style),
@@ -136,8 +132,7 @@ impl<T: Tag, M: Copy> Paragraph<T, M> {
 
     /// Feeds a character in a style.
     fn add_character(&mut self, c: char, style: TextStyle<T>) -> Result<(), Error>
-        ensures ok { OnOk result (step self.old (Item.Character (character_of style c)) ≡ Some self.new) }
-        ensures err { IfErr result (λ e. Refuses e (step self.old (Item.Character (character_of style c)))) }
+        ensures { Gives result (step self.old (Item.Character (character_of style c))) self.new }
     {
         self.add_classed(class_of(style.mode, c), c, style)
     }
@@ -147,8 +142,7 @@ impl<T: Tag, M: Copy> Paragraph<T, M> {
     #[tactic(auto, using(html_render_dom_values::specs::laws::Outcome::refusals))]
     fn add_letters(&mut self, letters: &str, width: usize, style: TextStyle<T>) -> Result<(), Error>
         requires { width ≡ text_columns (chars letters.now) }
-        ensures ok { OnOk result (letters_step self.old style (chars letters.now) ≡ Some self.new) }
-        ensures err { IfErr result (λ e. Refuses e (letters_step self.old style (chars letters.now))) }
+        ensures { Gives result (letters_step self.old style (chars letters.now)) self.new }
     {
         let preserved = style.mode.preserve_whitespace();
         if !self.joins(preserved) {
@@ -181,8 +175,7 @@ impl<T: Tag, M: Copy> Paragraph<T, M> {
     ) -> Result<(), Error>
         requires width { width ≡ text_columns (chars word.now) }
         requires some { 0 < length word.now }
-        ensures ok { OnOk result (placed_text_and_space self.old style (chars word.now) space ≡ Some self.new) }
-        ensures err { IfErr result (λ e. Refuses e (placed_text_and_space self.old style (chars word.now) space)) }
+        ensures { Gives result (placed_text_and_space self.old style (chars word.now) space) self.new }
     {
         self.place_text(word, width, style)?;
         self.note_space(character_of(space, style));
@@ -372,8 +365,7 @@ impl<T: Tag, M: Copy> Paragraph<T, M> {
 
     /// Feeds the characters of a text.
     pub(super) fn feed(&mut self, text: &str, style: TextStyle<T>) -> Result<(), Error>
-        ensures ok { OnOk result (after self.old (styled style (chars text.now)) ≡ Some self.new) }
-        ensures err { IfErr result (λ e. Refuses e (after self.old (styled style (chars text.now)))) }
+        ensures { Gives result (after self.old (styled style (chars text.now))) self.new }
     {
         let mut rest = Rest {
             text,

@@ -1,7 +1,7 @@
 //! Placing on a line buffer: characters with the marks that wait for them, pending spaces, and ends of lines.
 
 ghost use Rattle.std.specs.Prelude.{IfErr, fold, map, replicate, ◌≡◌, ◌+◌, ◌-◌, ◌%◌, [], ◌∷◌, ◌++◌, Some, None, OnOk, if◌then◌else◌};
-ghost use Rattle.html_render_dom_values.specs.Outcome.{Refuses};
+ghost use Rattle.html_render_dom_values.specs.Outcome.{Gives, Refuses};
 ghost use Rattle.html_render_layout_lines.specs.Character.{width_of, tag_on};
 ghost use Rattle.html_render_layout_lines.specs.Line.{columns};
 ghost use Rattle.html_render_layout_paragraphs.specs.Paragraph.{fits, with_character, continued, put_character, put_items};
@@ -301,8 +301,7 @@ impl<T: Tag, M: Copy> Paragraph<T, M> {
         character: Character<T>,
     ) -> Result<(), Error>
         requires { class.width ≡ width_of character.code }
-        ensures ok { OnOk result (single_step self.old class.kind character ≡ Some self.new) }
-        ensures err { IfErr result (λ e. Refuses e (single_step self.old class.kind character)) }
+        ensures { Gives result (single_step self.old class.kind character) self.new }
     {
         self.settle_for(class.kind)?;
         self.put_single(class, character)

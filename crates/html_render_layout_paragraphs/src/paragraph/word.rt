@@ -3,7 +3,7 @@
 ghost use Rattle.std.specs.Prelude.{IfErr, IfOk, ◌≤◌, length, ◌≡◌, ◌+◌, ◌<◌, [], ◌++◌, Some, None, OnOk, IfSome, map, true, false};
 ghost use Rattle.std.specs.Bool.{OnTrue};
 ghost use Rattle.std.specs.Str.{chars, IsUtf8};
-ghost use Rattle.html_render_dom_values.specs.Outcome.{Refuses};
+ghost use Rattle.html_render_dom_values.specs.Outcome.{Gives, Refuses};
 ghost use Rattle.html_render_layout_lines.specs.Character.{width_of, character_of};
 ghost use Rattle.html_render_layout_lines.specs.Line.{columns, word_columns};
 ghost use Rattle.html_render_layout_paragraphs.specs.Paragraph.{fits, with_due_space, put_items};
@@ -248,8 +248,7 @@ impl<T: Tag, M: Copy> Paragraph<T, M> {
     #[inline(never)]
     #[tactic(auto, using(html_render_dom_values::specs::laws::Outcome::refusals))]
     fn place_word(&mut self) -> Result<(), Error>
-        ensures ok { OnOk result (placed_word self.old ≡ Some self.new) }
-        ensures err { IfErr result (λ e. Refuses e (placed_word self.old)) }
+        ensures { Gives result (placed_word self.old) self.new }
     {
         self.make_place(self.has_room())?;
         self.put_word()
@@ -258,8 +257,7 @@ impl<T: Tag, M: Copy> Paragraph<T, M> {
     /// Places the open word, if there is one. Most calls find none.
     #[inline(always)]
     pub(super) fn end_word(&mut self) -> Result<(), Error>
-        ensures ok { OnOk result (end_word self.old ≡ Some self.new) }
-        ensures err { IfErr result (λ e. Refuses e (end_word self.old)) }
+        ensures { Gives result (end_word self.old) self.new }
     {
         match self.open_word {
             OpenWord::Closed => Ok(()),
@@ -329,8 +327,7 @@ impl<T: Tag, M: Copy> Paragraph<T, M> {
     ) -> Result<(), Error>
         requires width { width ≡ text_columns (chars text.now) }
         requires some { 0 < length text.now }
-        ensures ok { OnOk result (placed_text self.old style (chars text.now) ≡ Some self.new) }
-        ensures err { IfErr result (λ e. Refuses e (placed_text self.old style (chars text.now))) }
+        ensures { Gives result (placed_text self.old style (chars text.now)) self.new }
     {
         self.make_place(self.fits_behind_gap(width))?;
         self.put_text(text, width, style)
