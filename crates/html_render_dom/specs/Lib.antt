@@ -11,6 +11,8 @@ pub mod Attributes
 pub mod ElementStyle
 pub mod Applying
 pub mod RuleIndex
+-- faults of single calls
+pub mod Faults
 -- scripts and the documents that they build
 pub mod script
 -- definitions for private functions

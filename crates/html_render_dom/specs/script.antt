@@ -4,5 +4,3 @@ pub mod Commands
 pub mod Scripts
 -- bytes that a text lacks, and joined texts
 pub mod Plain
--- commands of the code's calls
-pub mod Calls

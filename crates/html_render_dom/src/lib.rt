@@ -3,6 +3,7 @@
 #![tactic(auto)]
 
 pub mod dom;
+pub mod faults;
 pub mod script;
 pub mod style;
 

@@ -3,8 +3,7 @@
 //! `built(alloc, "<p\n\"text")?` is the DOM of a paragraph that holds `text`.
 
 mod building;
-mod calls;
+mod escapes;
 mod splits;
-mod texts;
 
 pub use building::{ScriptError, built};

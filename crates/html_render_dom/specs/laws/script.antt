@@ -1,4 +1,2 @@
-pub mod Calls
 pub mod Escapes
 pub mod Lines
-pub mod Texts

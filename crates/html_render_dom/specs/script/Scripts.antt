@@ -67,8 +67,3 @@ document_of script = outcome_of (lines script) 1 at_document
 abbrev pub IsScriptFault : (script : List ℕ) → ScriptError → Type 0
 IsScriptFault script (Refused error) = error ≡ OutOfMemory
 IsScriptFault script (FaultyLine number) = document_of script ≡ Err number
-
--- document and current node after the pending texts are appended, if there are any
-abbrev pub texts_put : (texts : Option (List ℕ)) → Cursor → Cursor
-texts_put None at = at
-texts_put (Some contents) at = record at { dom = with_text at.dom at.current contents }

@@ -81,25 +81,9 @@ impl RcDom {
         ensures err { OnlyOutOfMemory result }
         ensures grows { node_count self.old ≤ node_count self.new }
     {
-        self.copy_text(alloc, parent, text)?;
-        Ok(())
-    }
-
-    /// Joins a copy of the text to the last child if that is a text node; otherwise appends a text node.
-    pub(crate) fn copy_text(
-        &mut self,
-        alloc: Global,
-        parent: Handle,
-        text: &str,
-    ) -> Result<(), AllocError>
-        requires { IsNode self.old parent }
-        ensures ok { let nodes = self.old.nodes in OnOk result (self.new
-            ≡ record self.old { nodes = text_put nodes parent (last_text nodes parent) text.now }) }
-        ensures unchanged { OnErr result (self.new ≡ self.old) }
-        ensures grows { node_count self.old ≤ node_count self.new }
-    {
         let last = self.last_text(parent);
-        nodes::put_str(alloc, &mut self.nodes, parent, last, text)
+        nodes::put_str(alloc, &mut self.nodes, parent, last, text)?;
+        Ok(())
     }
 
     /// Appends a new HTML element with the local name `name`, without attributes, to the children of `parent`.
@@ -123,27 +107,27 @@ impl RcDom {
         ensures err { OnlyOutOfMemory result }
         ensures grows { node_count self.old ≤ node_count self.new }
     {
-        let appended = Handle::new(self.nodes.len());
-        self.push_element(alloc, parent, name)?;
-        Ok(appended)
+        let name = QualName::html(LocalName::from_str(alloc, name)?);
+        Ok(self.append_named(alloc, parent, name)?)
     }
 
-    /// Appends a new HTML element as [`append_element`](RcDom::append_element) does.
-    #[inline(never)]
-    pub(crate) fn push_element(
+    /// Appends a new element as [`append_element`](RcDom::append_element) does, with a name of any namespace.
+    pub(crate) fn append_named(
         &mut self,
         alloc: Global,
         parent: Handle,
-        name: &str,
-    ) -> Result<(), AllocError>
+        name: QualName,
+    ) -> Result<Handle, AllocError>
         requires { IsNode self.old parent }
-        ensures ok { OnOk result (self.new ≡ element_appended self.old parent (html_name name.now)) }
-        ensures len { OnOk result (node_count self.new ≡ node_count self.old + 1) }
+        ensures number { IfOk result (λ made. made ≡ node_count self.old) }
+        ensures ok { OnOk result (self.new ≡ element_appended self.old parent (name_of name)) }
+        ensures is_node { IfOk result (λ made. IsNode self.new made) }
         ensures unchanged { OnErr result (self.new ≡ self.old) }
         ensures grows { node_count self.old ≤ node_count self.new }
     {
-        let name = QualName::html(LocalName::from_str(alloc, name)?);
-        nodes::attach_element(alloc, &mut self.nodes, parent, name)
+        let appended = Handle::new(self.nodes.len());
+        nodes::attach_element(alloc, &mut self.nodes, parent, name)?;
+        Ok(appended)
     }
 
     /// Creates an element without a parent or children, and returns its handle, which is the next number.

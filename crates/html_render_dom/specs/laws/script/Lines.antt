@@ -1,12 +1,11 @@
 -- Texts are cut at a byte, and scripts into lines.
-use Rattle.std.specs.Prelude.{◌≡◌, ◌≢◌, ◌==◌, ℕ, false, ◌+◌, ◌-◌, ◌<◌, List, [], ◌∷◌, ◌++◌, length, take, drop}
+use Rattle.std.specs.Prelude.{◌≡◌, ◌≢◌, ◌==◌, ℕ, ◌+◌, ◌-◌, ◌<◌, List, [], ◌∷◌, ◌++◌, length, take, drop}
 use Rattle.std.specs.List.{after_first, before_first, position_or_len, slice_split}
 use Rattle.std.specs.Str.Lines.{lines, lines_of_parts, strip_carriage_return}
 use Rattle.std.proofs.Common.{refl, ap, sym, ◌∙◌, arith, get_or, inl, inr}
 use Rattle.std.proofs.lemmas.Bool.{eqb-true, ne_eqb}
 use Rattle.std.proofs.lemmas.Bool.Decides.{eqb_tells}
 use Rattle.std.proofs.lemmas.List.{drop_all, drop_more, get_or-take, length-append, length-take-le, take-append-drop}
-use Rattle.std.proofs.lemmas.List.Elements.{All-drop}
 use Rattle.std.proofs.lemmas.List.Splits.{slice_split_first, slice_split_none, length-slice_split}
 use Rattle.std.proofs.lemmas.List.Sums.{fails_before_first, passes_at_first, split_at_first}
 use Rattle.html_render_dom.specs.script.Plain.{Lacks}
@@ -23,10 +22,6 @@ Lacks-before_first byte bs found = λ k d at.
 -- without such a byte all bytes are others
 pub Lacks-none : (byte : ℕ) (bs : List ℕ) → position_or_len (λ b. b == byte) bs ≡ length bs → Lacks byte bs
 Lacks-none byte bs none = λ k d at. fails_before_first (λ b. b == byte) bs k d (omega arith)
-
--- what follows the first such byte lacks what the text lacks
-pub Lacks-after_first : (lacked byte : ℕ) (bs : List ℕ) → Lacks lacked bs → Lacks lacked (after_first (λ b. b == byte) bs)
-Lacks-after_first lacked byte bs none = All-drop (λ (b : ℕ). (b == lacked) ≡ false) (position_or_len (λ b. b == byte) bs + 1) bs none
 
 -- a text is the part before the first such byte, that byte, and the part after it
 pub cut_at_first : (byte : ℕ) (bs : List ℕ) → position_or_len (λ b. b == byte) bs < length bs →
