@@ -13,6 +13,9 @@ pub mod Applying
 pub mod RuleIndex
 -- faults of single calls
 pub mod Faults
+-- steps and the documents that they build
+pub mod Steps
+pub mod StepFaults
 -- scripts and the documents that they build
 pub mod script
 -- definitions for private functions

@@ -3,3 +3,4 @@ pub mod Changes
 pub mod Members
 pub mod Trees
 pub mod script
+pub mod steps

@@ -7,7 +7,7 @@ use Rattle.html_render_dom_values.specs.Forest.{Forest}
 use Rattle.html_render_dom_values.specs.declared.errors.Error.TheVariants.{TooNarrow, Fail, OutOfMemory}
 use Rattle.html_render_layout_nodes.specs.declared.tree.RenderNode.{RenderNode}
 use Rattle.html_render_tree.specs.Rendering.{Options, initial_options}
-use Rattle.html_render_tree_records.specs.declared.step.Step.{Step}
+use Rattle.html_render_dom.specs.declared.steps.step.Step.{Step}
 use Rattle.html_render_tree_records.specs.Faults.{code_of, record_of, IsGiven}
 use Rattle.html_render_tree_records.specs.Pages.{Ends, IsDocumentOutcome, IsOutcome, IsReturned}
 use Rattle.html_render_tree_records.specs.Settings.{configured}

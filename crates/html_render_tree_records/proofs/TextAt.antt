@@ -3,7 +3,7 @@ use Rattle.std.proofs.Common.{◌≡◌, ℕ, Bool, true, false, cond, List, Bor
 use Rattle.std.specs.Option.{option_map}
 use Rattle.std.proofs.lemmas.Bool.{and_from, and_parts, le-leb, leb-true}
 use Rattle.std.proofs.lemmas.Str.{IsUtf8-from_is_utf8, is_utf8-from_IsUtf8}
-use Rattle.html_render_tree_records.specs.Steps.{IsPiece, piece}
+use Rattle.html_render_dom.specs.Steps.{IsPiece, piece}
 use Rattle.html_render_tree_records.specs.Settings.{text_at}
 
 not_true : (b : Bool) → ¬ (b ≡ true) → b ≡ false

@@ -3,8 +3,8 @@ use Rattle.std.specs.Prelude.{◌≡◌, ℕ, List, [], ◌∷◌, ◌++◌, len
 use Rattle.std.specs.Borrow.{MutBor}
 use Rattle.std.specs.Ptr.{Ptr, as_mut_ptr}
 use Rattle.html_render_dom_values.specs.declared.errors.Error.TheVariants as error
-use Rattle.html_render_tree_records.specs.declared.building.StepError.{StepError}
-use Rattle.html_render_tree_records.specs.declared.building.StepError.TheVariants as step
+use Rattle.html_render_dom.specs.declared.steps.building.StepError.{StepError}
+use Rattle.html_render_dom.specs.declared.steps.building.StepError.TheVariants as step
 use Rattle.html_render_tree_records.specs.declared.faults.Fault.{Fault}
 use Rattle.html_render_tree_records.specs.declared.faults.Fault.TheVariants.{Refused, Step, Setting, Decorator}
 

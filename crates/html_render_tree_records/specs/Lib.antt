@@ -1,7 +1,3 @@
--- steps, and the documents that they build
-pub mod Steps
--- faults of a step that isn't taken
-pub mod StepFaults
 -- the result of a call without bytes
 pub mod Faults
 -- options that records of settings make
@@ -10,5 +6,3 @@ pub mod Settings
 pub mod Records
 -- the outcome of a call for a document of steps
 pub mod Pages
--- laws of the definitions
-pub mod laws

@@ -15,8 +15,8 @@ use Rattle.html_render_parts.specs.declared.decorate.rich.RichDecorator.{RichDec
 use Rattle.html_render_tree_convert.specs.Results.{render_tree_of}
 use Rattle.html_render_tree.specs.Rendering.{Options, initial_options, rendered_lines, rendered_strings}
 use Rattle.html_render_tree.specs.Texts.{text_of}
-use Rattle.html_render_tree_records.specs.Steps.{AreStepsOf, IsFaultyStep}
-use Rattle.html_render_tree_records.specs.declared.step.Step.{Step}
+use Rattle.html_render_dom.specs.Steps.{AreStepsOf, IsFaultyStep}
+use Rattle.html_render_dom.specs.declared.steps.step.Step.{Step}
 use Rattle.html_render_tree_records.specs.Faults.{IsPlaceOf, result_size, status_of}
 use Rattle.html_render_tree_records.specs.Records.{line_records, plain_record, rich_record}
 use Rattle.html_render_tree_records.specs.Settings.{configured, IsFaultySetting}

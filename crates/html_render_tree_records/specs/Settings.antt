@@ -18,7 +18,7 @@ use Rattle.html_render_layout_estimates.specs.declared.settings.ImageRenderMode.
 use Rattle.html_render_layout_estimates.specs.declared.settings.ImageRenderMode.TheVariants.{IgnoreEmpty, ShowAlways, Replace, Filename}
 use Rattle.html_render_tree.specs.Decorations.{decorations}
 use Rattle.html_render_tree.specs.Rendering.{Options}
-use Rattle.html_render_tree_records.specs.Steps.{piece}
+use Rattle.html_render_dom.specs.Steps.{piece}
 use Rattle.html_render_tree_records.specs.declared.faults.Fault.{Fault}
 use Rattle.html_render_tree_records.specs.declared.faults.Fault.TheVariants as fault
 use Rattle.html_render_tree_records.specs.declared.settings.Setting.{Setting}

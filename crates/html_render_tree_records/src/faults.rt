@@ -3,7 +3,7 @@
 ghost use Rattle.std.specs.Prelude.{◌≡◌, ◌≤◌};
 ghost use Rattle.html_render_tree_records.specs.Faults.{code_of, record_of};
 
-use crate::building::StepError;
+use html_render_dom::steps::building::StepError;
 use html_render_tree::Error;
 use std::alloc::{AllocError, AllocFailed};
 

@@ -4,12 +4,10 @@
 //! are tested, and those without a meaning are refused. A result is a text or records of lines, as bytes.
 #![tactic(auto)]
 
-pub mod building;
 pub mod faults;
-mod laws;
 mod lines;
-pub mod pieces;
 pub mod rendering;
 mod rules;
 pub mod settings;
-pub mod step;
+
+pub use html_render_dom::steps::{building, step};

@@ -4,11 +4,11 @@ ghost use Rattle.std.specs.Prelude.{◌≡◌, ◌≤◌, ◌++◌, ◌∷◌, [
 ghost use Rattle.html_render_tree_records.specs.Pages.{Ends, IsDocumentOutcome, IsOutcome, IsPlainLines, IsPlainText, IsRichLines, IsRichText, IsTreeFault, IsTreeOf, records_written, text_written};
 ghost use Rattle.html_render_tree_records.specs.Settings.{configured, IsSettingFault};
 
-use crate::building::built;
 use crate::faults::Fault;
 use crate::lines::{Written, write_lines};
 use crate::settings::{Setting, with_setting};
-use crate::step::Step;
+use html_render_dom::steps::building::built;
+use html_render_dom::steps::step::Step;
 use html_render_tree::config::{Config, plain_no_decorate, rich};
 use html_render_tree::decorate::{RichAnnotation, TextDecorator};
 use html_render_tree::tree::RenderTree;

@@ -7,8 +7,8 @@ ghost use Rattle.html_render_dom_styles.specs.Selectors.{words};
 ghost use Rattle.html_render_tree_records.specs.Settings as settings;
 ghost use Rattle.html_render_tree_records.specs.Settings.{declared_in, origin_in, place_in, rgb, rule_in, treatment};
 
-use crate::pieces::piece_of;
 use crate::settings::Setting;
+use html_render_dom::steps::pieces::piece_of;
 use html_render_tree::Error;
 use html_render_tree::style::{
     Colour, Declaration, Display, PseudoElement, Style, StyleOrigin, StyleRule, WhiteSpace,

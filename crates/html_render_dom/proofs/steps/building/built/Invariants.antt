@@ -1,0 +1,13 @@
+use Rattle.std.proofs.Common.{◌≤◌, length}
+use Rattle.html_render_dom.specs.laws.steps.Progress.{IsProgress}
+use Rattle.html_render_dom.proofs.steps.building.built.Given as goal
+
+-- the steps taken so far built the document
+abbrev pub invariant-loop-step : goal.invariant-loop-step
+invariant-loop-step l = record {
+  within : length l.rest ≤ length l.steps;
+  progress : IsProgress l.text l.steps l.rest l.building;
+}
+
+abbrev pub decreases-loop-step : goal.decreases-loop-step
+decreases-loop-step l = length l.rest
