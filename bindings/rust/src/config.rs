@@ -273,6 +273,7 @@ impl<D: TextDecorator> Config<D> {
             title: page.title.clone().filter(|_| options.shows_title),
             is_quirky: page.is_quirky,
             has_signs: sheets.settings.iter().any(|setting| setting.kind == call::DO_DECORATE),
+            is_styled: sheets.settings.iter().any(|setting| setting.kind != call::DO_DECORATE),
             links: self.link_mode(options),
             base: options.base.clone(),
             hiding,
@@ -322,7 +323,7 @@ impl<D: TextDecorator> Config<D> {
             } else if recorder.has_signed {
                 settings.push(setting);
                 if is_adapted {
-                    push_rules_without_signs(recorder, adapted.drops_signs, &mut settings);
+                    push_rules_without_signs(recorder, adapted.has_unsigned_class, &mut settings);
                 }
             }
         }

@@ -1,7 +1,8 @@
 //! A recorded document as HTML, for tests: what is recorded is seen without rendering it.
 
 use crate::adapt::UNSIGNED_CLASS;
-use crate::config::Config;
+use crate::config::{plain, Config};
+use crate::options::Options;
 use crate::record::kind;
 use crate::records::Step;
 use crate::render::TextDecorator;
@@ -28,6 +29,15 @@ pub(crate) fn of<D: TextDecorator>(config: &Config<D>, page: &str) -> String {
     let mut written = String::new();
     write_children(&nodes, body, &mut written);
     written
+}
+
+/// Checks what plain text records of a page in two ways. Where a rule may select elements by their names, elements without signs keep
+/// them; otherwise their name is `ins`.
+pub(crate) fn check(options: Options, page: &str, wanted: &str) {
+    let styled = plain().add_css("x { color: red }").expect("a rule").as_shown(options.clone());
+    assert_eq!(of(&styled, page), wanted, "{page}");
+    let renamed = ["b", "code", "em"].iter().fold(wanted.replace("<!span>", "<span>"), |text, name| text.replace(&format!("<!{name}>"), "<ins>"));
+    assert_eq!(of(&plain().as_shown(options), page), renamed, "{page}");
 }
 
 fn nodes_of(steps: &[Step], text: &[u8]) -> Vec<Node> {

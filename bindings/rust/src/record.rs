@@ -113,13 +113,20 @@ impl Recorder {
         self.keep_by(text, |text, to| filter.append(text, to))
     }
 
-    /// Returns a piece of so many characters of a horizontal line, which is kept once.
+    /// Returns a piece of so many characters of a horizontal line, which is kept once, after a newline.
     pub fn rule(&mut self, columns: u32) -> Piece {
         let columns = columns.min(MAX_RULE) as usize;
         if (self.rule.1 as usize) < RULE.len() * columns {
-            self.rule = self.keep(&RULE.repeat(columns));
+            let (start, length) = self.keep(&["\n", &RULE.repeat(columns)].concat());
+            self.rule = (start + 1, length.saturating_sub(1));
         }
         (self.rule.0, (RULE.len() * columns) as u32)
+    }
+
+    /// Returns a horizontal line of so many characters after a newline. `None` if it has fewer.
+    pub fn next_rule(&mut self, columns: u32) -> Option<Piece> {
+        let (start, length) = self.rule(columns);
+        (columns <= MAX_RULE).then(|| (start - 1, length + 1))
     }
 
     /// Returns a text without what the filter drops.

@@ -93,6 +93,33 @@ fn rules_are_as_wide_as_there_is_room() {
 }
 
 #[test]
+fn rules_beside_each_other_are_shown_as_others() {
+    const RULES: &str = "<hr><hr><hr>";
+    let pages = [
+        RULES.to_owned(),
+        format!("a{RULES}b<br>{RULES}<br><br>c"),
+        format!("<p>a</p>{RULES}<p>b</p>{RULES} {RULES}<ul><li>c</ul>{RULES}"),
+        format!("<blockquote>{RULES}<table border=1><tr><td>a<td>b<td>{RULES}<td>c<td>d</table>{RULES}</blockquote>{RULES}"),
+        format!("<b>a{RULES}<i>b</i></b><a href=x>{RULES}c</a><s>{RULES}</s><h2>{RULES}</h2><ol><li>{RULES}<li>d{RULES}</ol>"),
+        format!("<pre>a\n{RULES}\n</pre>{RULES}<div style='white-space: pre'>{RULES} \n{RULES}</div><div style='white-space: pre-wrap'>{RULES}</div>"),
+        format!("<hr id=a><hr><hr id=b><hr><hr hidden><hr style='color: red'><hr><hr title=c>{RULES}<hr class=d>{RULES}"),
+        format!("<table><tr><td>a<td>{RULES}<tr><td>b<td>c</table><dl><dt>a<dd>{RULES}</dl><ul>{RULES}<li>e</ul>"),
+    ];
+    // a rule that may select an `hr` has each recorded apart
+    let apart = "x, hr { color: #010203 }";
+    for (page, width) in pages.iter().flat_map(|page| (1..25).map(move |width| (page, width))) {
+        for config in [plain(), plain().pad_block_width(), plain().max_wrap_width(7), plain().raw_mode(true), plain_no_decorate()] {
+            let text = |config: Config<PlainDecorator>| config.allow_width_overflow().as_shown(Options::new()).string_from_read(page.as_bytes(), width).unwrap();
+            assert_eq!(text(config.clone()), text(config.add_css(apart).unwrap()), "{page} at {width}");
+        }
+        let lines = |config: Config<RichDecorator>| config.allow_width_overflow().as_shown(Options::new()).lines_from_read(page.as_bytes(), width).unwrap();
+        assert_eq!(lines(rich()), lines(rich().add_css("x { color: red }").unwrap()), "{page} at {width}");
+    }
+    assert_eq!(render(RULES, 2).unwrap(), "──\n──\n──\n");
+    assert_eq!(shown(RULES, plain().add_css("hr::before { content: 'a' }").unwrap(), 2), "a─\n─\n".repeat(3));
+}
+
+#[test]
 fn rules_are_never_too_narrow() {
     for page in ["<hr>", "<ul><li><hr>", "<ol start=-9><li><hr><li>", "<dl><dd><blockquote><hr>", "<h3><hr>", "<table><tr><td><hr>", "<table><tr><td><ul><li><hr>"] {
         for width in 1..20 {

@@ -611,6 +611,7 @@ pub(super) mod tests {
             title: None,
             is_quirky: false,
             has_signs: true,
+            is_styled: false,
             links: Some(LinkMode::Notes),
             base: None,
             hiding: Hiding::default(),

@@ -1,16 +1,19 @@
 //! Signs around emphasis: none inside a word, in other signs, around nothing, or around blocks, and none that has white space on its inner side.
 //!
-//! An element is recorded with its signs, which the library writes. They are dropped by a private class, for which a rule writes
-//! nothing, as soon as it is known that they are wrong. White space at the start of an element is recorded before it; white space,
+//! An element is recorded with its signs, which the library writes. They are dropped as soon as it is known that they are wrong: by
+//! another name, or, where a rule may select the element by its own, by a private class, for which a rule writes nothing. White space at the start of an element is recorded before it; white space,
 //! line breaks and the number of a link at its end after it.
 
 use super::flow::{self, Flow};
 use crate::record::{Handle, Recorder};
 use crate::tree::Piece;
-use html5ever::local_name;
+use html5ever::{local_name, LocalName};
 
 /// The private class of elements without signs.
 pub(crate) const UNSIGNED_CLASS: &str = "\0unsigned";
+
+/// The name of elements without signs: plain text shows emphasis of this name as that with signs, which are left out.
+pub(crate) const UNSIGNED_NAME: LocalName = local_name!("ins");
 
 /// What follows the value of an attribute `class` in the text, so that the class can be added to it later.
 pub(super) const UNSIGNED_SUFFIX: &str = " \0unsigned";
@@ -50,9 +53,16 @@ pub(crate) struct Emphasis {
     inserted: Option<usize>,
     /// The text of the private class, if an element has it.
     class: Option<Piece>,
+    /// Whether elements without signs have the private class, and keep their names.
+    keeps_names: bool,
 }
 
 impl Emphasis {
+    /// Returns the emphasis of a document. `keeps_names` says that a rule may select elements by their names.
+    pub fn new(keeps_names: bool) -> Emphasis {
+        Emphasis { keeps_names, ..Emphasis::default() }
+    }
+
     /// Reports whether the next text can change what is known of an element.
     #[inline]
     pub fn is_watching(&self) -> bool {
@@ -104,8 +114,8 @@ impl Emphasis {
         self.signed > 0
     }
 
-    /// Reports whether an element has no signs.
-    pub fn drops_signs(&self) -> bool {
+    /// Reports whether an element has the private class.
+    pub fn has_class(&self) -> bool {
         self.class.is_some()
     }
 
@@ -203,14 +213,24 @@ impl Emphasis {
         self.open[number] = signed;
     }
 
-    /// Gives an element the class of those without signs.
+    /// Gives an element the name or the class of those without signs.
     pub fn drop_signs(&mut self, recorder: &mut Recorder, signed: &mut Signed) {
-        if std::mem::take(&mut signed.is_signed) {
-            let class = *self.class.get_or_insert_with(|| recorder.keep(UNSIGNED_CLASS));
-            match signed.class_step {
-                Some(step) => recorder.lengthen_value(step, UNSIGNED_SUFFIX.len() as u32),
-                None => recorder.attribute_of_piece(signed.handle, &local_name!("class"), class),
-            }
+        if !std::mem::take(&mut signed.is_signed) {
+            return;
+        }
+        if self.keeps_names {
+            self.add_class(recorder, signed);
+        } else {
+            recorder.rename(signed.step, &UNSIGNED_NAME);
+        }
+    }
+
+    /// Gives an element the class of those without signs.
+    fn add_class(&mut self, recorder: &mut Recorder, signed: &Signed) {
+        let class = *self.class.get_or_insert_with(|| recorder.keep(UNSIGNED_CLASS));
+        match signed.class_step {
+            Some(step) => recorder.lengthen_value(step, UNSIGNED_SUFFIX.len() as u32),
+            None => recorder.attribute_of_piece(signed.handle, &local_name!("class"), class),
         }
     }
 }

@@ -21,17 +21,17 @@ pub(crate) struct Inline {
 
 impl Inline {
     /// Returns the start of a text whose emphasis may have signs.
-    pub fn new(links: Links, has_signs: bool) -> Inline {
-        Inline { flow: Flow::default(), has_signs, emphasis: Emphasis::default(), links, gaps: Gaps::default() }
+    pub fn new(links: Links, has_signs: bool, emphasis: Emphasis) -> Inline {
+        Inline { flow: Flow::default(), has_signs, emphasis, links, gaps: Gaps::default() }
     }
 
     pub fn has_signs(&self) -> bool {
         self.has_signs
     }
 
-    /// Reports whether an element has no signs.
-    pub fn drops_signs(&self) -> bool {
-        self.emphasis.drops_signs()
+    /// Reports whether an element has the private class of those without signs.
+    pub fn has_unsigned_class(&self) -> bool {
+        self.emphasis.has_class()
     }
 
     /// Reports whether what comes can change what is known of a link or an element with signs.
@@ -213,6 +213,7 @@ mod tests {
     use crate::config::{plain, plain_no_decorate, rich};
     use crate::options::{LinkMode, Options};
     use crate::outline;
+    use crate::random_pages::Random;
 
     fn recorded(page: &str) -> String {
         outline::of(&plain().as_shown(Options::new()), page)
@@ -241,7 +242,7 @@ mod tests {
             ("a<img src=x><b>b</b>", "a<img></><!b>b</>"),
             ("a<img src=x alt=y><b>b</b>", "a<img y></><b>b</>"),
         ] {
-            assert_eq!(recorded(page), wanted, "{page}");
+            outline::check(Options::new(), page, wanted);
         }
     }
 
@@ -257,7 +258,7 @@ mod tests {
             ("<pre>a <b>b</b></pre><listing><i><em>c</em></i></listing>", "<pre>    a <!b>b</></><listing><pre><i>    <!em>c</></></></>"),
             ("<b style='visibility: hidden'>a</b>", "<!span></>"),
         ] {
-            assert_eq!(recorded(page), wanted, "{page}");
+            outline::check(Options::new(), page, wanted);
         }
     }
 
@@ -272,8 +273,27 @@ mod tests {
             ("<b>\u{a0}a\u{a0}</b>", "\u{a0}<b>a</>\u{a0}"),
             ("<b>a <a href=x> b </a></b>c", "<b>a <a> b</></>[1] c"),
         ] {
-            assert_eq!(recorded(page), wanted, "{page}");
+            outline::check(Options::new(), page, wanted);
         }
+    }
+
+    #[test]
+    fn a_rule_that_selects_nothing_changes_nothing() {
+        let mut random = Random::new(1);
+        let mut joined = 0;
+        for _ in 0..400 {
+            let page = random.page();
+            for page in [page.clone(), page.replace("<p>", "<hr><hr>"), page.replace("<i>", "<b>")] {
+                let config = || plain().allow_width_overflow().as_shown(Options::new());
+                let styled = || config().add_css("x { color: red }").unwrap();
+                for width in [3, 40] {
+                    assert_eq!(config().string_from_read(page.as_bytes(), width).unwrap(), styled().string_from_read(page.as_bytes(), width).unwrap(), "{page}");
+                }
+                assert_eq!(config().lines_from_read(page.as_bytes(), 20).unwrap(), styled().lines_from_read(page.as_bytes(), 20).unwrap(), "{page}");
+                joined += usize::from(config().recorded(&page).0.len() < styled().recorded(&page).0.len());
+            }
+        }
+        assert!(joined > 100, "{joined}");
     }
 
     #[test]
@@ -347,10 +367,10 @@ mod tests {
         for (page, wanted) in [
             ("<h2><b>a</b> <code>b</code></h2><b>c</b>", "<h2><!b>a</> <!code>b</></><b>c</>"),
             ("<sup><b>a</b></sup>", "<sup><!b>a</></>"),
-            ("<table><tr><th><b>a</b><td>b</table>", "<table><tbody><tr><th><!b>a</></><td>b</></></></>"),
-            ("<table border=1><tr><td><p><b>a</b></p><td><b>b</b><tr><td><b>c</b><td>d</table>", "<table><tbody><tr><td><p><!b>\u{206a}a</></></><td><!b>b</></></><tr><td><b>c</></><td>d</></></></>"),
+            ("<table><tr><th><b>a</b><td>b</table>", "<table><tbody><tr><th><!b>a</></><td>b</></></></><span></>"),
+            ("<table border=1><tr><td><p><b>a</b></p><td><b>b</b><tr><td><b>c</b><td>d</table>", "<table><tbody><tr><td><p><!b>\u{206a}a</></></><td><!b>b</></></><tr><td><b>c</></><td>d</></></></><span></>"),
         ] {
-            assert_eq!(recorded(page).replace("<span></>", ""), wanted, "{page}");
+            outline::check(Options::new(), page, wanted);
         }
     }
 

@@ -39,7 +39,7 @@ use crate::tree::{Attr, Element, Id, Piece, Tree, DOCUMENT};
 use code::Code;
 use contents::Shown;
 use elements::{change_in, Change, Field, Inner, List, Part};
-use emphasis::{Signed, UNSIGNED_SUFFIX};
+use emphasis::{Emphasis, Signed, UNSIGNED_SUFFIX};
 use html5ever::{local_name, namespace_url, ns, LocalName};
 use inline::Inline;
 use links::Links;
@@ -205,6 +205,8 @@ pub(crate) struct Adaptation {
     pub is_quirky: bool,
     /// Whether signs are written around emphasis.
     pub has_signs: bool,
+    /// Whether rules of style sheets select elements, beside those that hide them.
+    pub is_styled: bool,
     /// How targets of links are shown; `None` where links keep them.
     pub links: Option<LinkMode>,
     /// The address that the page was read from.
@@ -238,7 +240,7 @@ impl Adaptation {
 pub(crate) struct Adapted {
     pub rules: PrivateRules,
     /// Whether elements have the class of those without signs.
-    pub drops_signs: bool,
+    pub has_unsigned_class: bool,
     /// The targets of its links.
     pub targets: Vec<Rc<str>>,
     /// Whether lines of preformatted blocks are between marks.
@@ -354,20 +356,33 @@ pub(crate) struct Adapter<'a> {
     is_mark_missing: bool,
     /// The numbers of the items of the `ol` that was opened last, until they are taken.
     numbers: Option<Numbers>,
+    /// The last horizontal line that others can follow in its division.
+    last_rule: Option<LastRule>,
+}
+
+/// A division of horizontal lines.
+#[derive(Clone, Copy)]
+struct LastRule {
+    handle: Handle,
+    parent: Handle,
+    /// Number of steps up to the last of its lines.
+    end: usize,
 }
 
 impl<'a> Adapter<'a> {
     pub fn new(tree: &'a Tree, mut adaptation: Adaptation) -> Adapter<'a> {
-        let inline = Inline::new(Links::new(adaptation.links, adaptation.base.take()), adaptation.has_signs);
+        // annotations say which emphasis an element is
+        let emphasis = Emphasis::new(adaptation.is_styled || adaptation.has_colours);
+        let inline = Inline::new(Links::new(adaptation.links, adaptation.base.take()), adaptation.has_signs, emphasis);
         let (filled, styles, nesting, row, rules, code) = Default::default();
-        Adapter { tree, adaptation, filled, styles, inline, nesting, row, rules, code, has_tables: false, row_marks: 0, is_first_row: false, end_of_citation: 0, is_mark_missing: false, numbers: None }
+        Adapter { tree, adaptation, filled, styles, inline, nesting, row, rules, code, has_tables: false, row_marks: 0, is_first_row: false, end_of_citation: 0, is_mark_missing: false, numbers: None, last_rule: None }
     }
 
     /// Returns what the recorded document needs beside its steps.
     pub fn finish(self) -> Adapted {
         Adapted {
             rules: self.rules,
-            drops_signs: self.inline.drops_signs(),
+            has_unsigned_class: self.inline.has_unsigned_class(),
             targets: self.inline.links.into_targets(),
             has_long_lines: self.code.has_long_lines,
             has_tables: self.has_tables,
@@ -1088,15 +1103,33 @@ impl<'a> Adapter<'a> {
         }
     }
 
-    /// Records a division with a line as wide as there is room for.
+    /// Records a division with a line as wide as there is room for. One that directly follows another may be put in that one's division.
     fn record_rule(&mut self, recorder: &mut Recorder, opened: &Opened<'_>, context: Context) {
-        let handle = self.record_as(recorder, opened, &local_name!("div"), RULE_CLASS);
         let columns = context.margins.rule(self.adaptation.columns);
-        if columns > 0 && !context.flags.has(Flags::INVISIBLE) {
+        let is_shown = columns > 0 && !context.flags.has(Flags::INVISIBLE);
+        let can_join = is_shown && self.can_join_rules(opened, context);
+        let last = self.last_rule.filter(|last| can_join && last.parent == opened.parent && last.end == recorder.steps.len());
+        if let Some((last, line)) = last.and_then(|last| Some((last, recorder.next_rule(columns)?))) {
+            recorder.text(last.handle, line);
+            self.last_rule = Some(LastRule { end: recorder.steps.len(), ..last });
+            return;
+        }
+        // only a rule of a style sheet asks for the class
+        let class = if self.adaptation.is_styled { RULE_CLASS } else { "" };
+        let handle = self.record_as(recorder, opened, &local_name!("div"), class);
+        if is_shown {
             self.inline.gaps.add_contents(recorder);
             let line = recorder.rule(columns);
             recorder.text(handle, line);
+            self.last_rule = can_join.then(|| LastRule { handle, parent: opened.parent, end: recorder.steps.len() });
         }
+    }
+
+    /// Reports whether horizontal lines may be in one division: each fills a line of the document, and no rule, attribute or annotation
+    /// is for one of them alone.
+    fn can_join_rules(&self, opened: &Opened<'_>, context: Context) -> bool {
+        let fills_line = context.margins.rule(self.adaptation.columns) == self.adaptation.columns && !context.margins.is_in_cell();
+        fills_line && opened.attributes.is_empty() && !self.adaptation.is_styled && !context.flags.has(Flags::PRE)
     }
 
     /// Records an element with a link to what it embeds, if that can be followed; that to a frame is a block.
