@@ -61,7 +61,8 @@ enum html_render_status {
     HTML_RENDER_BAD_SETTING = 5,
     /* The decorator isn't one of html_render_decorator. */
     HTML_RENDER_BAD_DECORATOR = 6,
-    /* A page has more than 5 million nodes, or attributes that rendering reads. */
+    /* A page has more nodes, or attributes that rendering reads, than `max_nodes` of the options says, by default 5
+     * million. */
     HTML_RENDER_TOO_LARGE = 7,
     /* The options have a faulty size, a number that isn't in its enumeration, or a flag without a name; or a pointer is
      * NULL that may not be. */
@@ -401,6 +402,9 @@ struct html_render_options {
     enum html_render_image_mode images;
     /* html_render_page_flags. */
     uint64_t flags;
+    /* Maximum number of the page's nodes, and of its attributes that rendering reads; 0 for 5 million. The document,
+     * html, head and body, which each page has, count. A number above 2^31 counts as 2^31. */
+    size_t max_nodes;
 };
 
 /* Renders a page of HTML as a text in UTF-8, as a browser shows the page, wrapped to `width` columns. `html` has
@@ -410,10 +414,15 @@ struct html_render_options {
  * the zero. The caller frees the text with html_render_free. Any other status sets `text` to NULL, and `text_length` to
  * 0; if one of these pointers is NULL itself, nothing is set, and the status is HTML_RENDER_BAD_ARGUMENT.
  *
- * The limits on depth, attributes and nodes hold for every page: 512 open elements, and 5 million nodes, which may take
- * some gigabytes. If memory is out in a part of the library that is written in Rust, such as the parser, the program is
- * aborted. If it is out in the proved part, the status is HTML_RENDER_OUT_OF_MEMORY. A program that mustn't be aborted
- * has another process render the pages that it doesn't trust. */
+ * The limits on depth, attributes and nodes hold for every page: 512 open elements, and 5 million nodes or
+ * `max_nodes`. A node takes up to 1.3 kB, and each byte of the text 4 to 10 bytes. So 5 million `hr` with an id, 45 MB
+ * of HTML, take 6.2 GB at 80 columns. Prefixes of lists and quotes in each other are text too: in 250 lists with long
+ * numbers they have 3,250 bytes on each line. The worst page that is known, of paragraphs in such lists, takes 5.7 kB
+ * for each of its bytes and 12 kB for a node, which is 60 GB for 5 million nodes.
+ *
+ * If memory is out in a part of the library that is written in Rust, such as the parser, the program is aborted. If it
+ * is out in the proved part, the status is HTML_RENDER_OUT_OF_MEMORY. A program that mustn't be aborted has another
+ * process render the pages that it doesn't trust, or sets `max_nodes`: with 100,000 the worst page takes 1.2 GB. */
 enum html_render_status html_render_html(const char *html, size_t length, size_t width,
                                          const struct html_render_options *options, char **text,
                                          size_t *text_length);

@@ -139,6 +139,35 @@ struct grown {
     uint64_t unknown;
 };
 
+/* Expects that options of the first version, which end with `flags`, are taken, and nothing after them is read. */
+static void expect_first_version(void) {
+    size_t size = offsetof(struct html_render_options, max_nodes);
+    struct html_render_options options = defaults(), *first = malloc(size);
+    options.size = size;
+    options.flags = HTML_RENDER_FLAG_PAD;
+    memcpy(first, &options, size);
+    expect_text("<p>a", 3, first, "a  \n");
+    free(first);
+    options.max_nodes = 1;
+    expect_text("<p>a", 3, &options, "a  \n");
+}
+
+/* Expects that a page is refused that has more nodes, or attributes that are read, than the options say. */
+static void expect_max_nodes(void) {
+    static const char attributes[] = "<p id=a class=b name=c title=d><br id=a class=b name=c title=d><hr id=c>";
+    struct html_render_options options = defaults();
+    options.max_nodes = 6;
+    expect_text("<p>a", 20, &options, "a\n");
+    expect_text("<p id=a class=b name=c>a", 20, &options, "a\n");
+    expect_fault("<p>a<br>", 8, 20, &options, HTML_RENDER_TOO_LARGE, "a node too many");
+    options.max_nodes = 8;
+    expect_fault(attributes, sizeof attributes - 1, 20, &options, HTML_RENDER_TOO_LARGE, "an attribute too many");
+    options.max_nodes = 1;
+    expect_fault("", 0, 20, &options, HTML_RENDER_TOO_LARGE, "a limit below each page");
+    options.max_nodes = SIZE_MAX;
+    expect_text("<p>a", 20, &options, "a\n");
+}
+
 static void expect_sizes(void) {
     struct html_render_options options = defaults();
     struct grown grown = {0};
@@ -149,6 +178,8 @@ static void expect_sizes(void) {
     options.size = 0;
     expect_bad_option(options, HTML_RENDER_BAD_ARGUMENT, "a size of 0");
     options.size = sizeof options - 1;
+    expect_bad_option(options, HTML_RENDER_BAD_ARGUMENT, "a size within the last field");
+    options.size = offsetof(struct html_render_options, max_nodes) - 1;
     expect_bad_option(options, HTML_RENDER_BAD_ARGUMENT, "a size that is too small");
     options.size = 4097;
     expect_bad_option(options, HTML_RENDER_BAD_ARGUMENT, "a size that is too large");
@@ -232,6 +263,8 @@ int main(int count, char **words) {
     expect_flags();
     expect_lines();
     expect_sizes();
+    expect_first_version();
+    expect_max_nodes();
     expect_numbers();
     expect_bad_options();
     expect_bad_arguments();

@@ -10,7 +10,7 @@ _htext_values() {
     --tables) printf '%s\n' data all none ;;
     --images) printf '%s\n' none name always ;;
     --charset) printf '%s\n' utf-8 iso-8859-1 iso-8859-2 iso-8859-15 windows-1251 windows-1252 koi8-r big5 gbk euc-jp shift_jis iso-2022-jp euc-kr ;;
-    -w | --width | -j | --jobs | --max-width | --base | --css) ;;
+    -w | --width | -j | --jobs | --max-width | --max-nodes | --base | --css) ;;
     *) return 1 ;;
     esac
 }
@@ -36,8 +36,8 @@ _htext() {
     elif [[ "$option" != -o && "$option" != --output && "$current" = -* ]]; then
         COMPREPLY=($(compgen -W "-w --width -s --style --format --color -o --output --output-dir -j --jobs -0 --null --title
             --charset --links --no-links --wrap-links --no-wrap-links --base --tables --row-rules --raw-tables --cut-words
-            --no-borders --fence-tables --wrap-code --max-width --pad --images --narrow --css --page-css --keep-controls -h --help
-            -V --version" -- "$current"))
+            --no-borders --fence-tables --wrap-code --max-width --pad --images --narrow --css --page-css --keep-controls --max-nodes
+            -h --help -V --version" -- "$current"))
     fi
 }
 

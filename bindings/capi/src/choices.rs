@@ -48,6 +48,8 @@ pub struct Choices<'a> {
     pub tables: u32,
     pub images: u32,
     pub flags: u64,
+    /// Maximum number of nodes; 0 for the default.
+    pub max_nodes: usize,
 }
 
 impl Choices<'_> {
@@ -124,6 +126,9 @@ impl Choices<'_> {
         }
         if let Some(base) = self.base {
             options = options.base(base)?;
+        }
+        if self.max_nodes != 0 {
+            options = options.max_nodes(self.max_nodes);
         }
         if self.has(flag::TITLE) {
             options = options.title();

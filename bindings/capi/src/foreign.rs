@@ -3,7 +3,7 @@
 use crate::choices::Choices;
 use crate::status::Status;
 use std::ffi::{c_void, CStr};
-use std::mem::size_of;
+use std::mem::{size_of, MaybeUninit};
 use std::os::raw::{c_char, c_int};
 use std::panic::{catch_unwind, AssertUnwindSafe};
 use std::{ptr, slice};
@@ -27,34 +27,44 @@ pub struct Options {
     tables: u32,
     images: u32,
     flags: u64,
+    max_nodes: usize,
 }
 
 impl Options {
     /// Size of the options that this version knows, in bytes.
     const SIZE: usize = size_of::<Options>();
+    /// Size of the options of the first version, in bytes, which end with `flags`.
+    const FIRST_SIZE: usize = Options::SIZE - size_of::<usize>();
     /// Maximum size of the options of later versions, in bytes.
     const MAX_SIZE: usize = 4096;
 
-    /// Returns the options of a caller; `None` for NULL.
+    /// Returns the options of a caller, in which fields that the caller's version doesn't have are 0; `None` for NULL.
     ///
     /// # Safety
     ///
     /// A pointer that isn't NULL leads to as many bytes as the number says that it leads to.
-    unsafe fn read<'a>(given: *const Options) -> Result<Option<&'a Options>, Status> {
+    unsafe fn read(given: *const Options) -> Result<Option<Options>, Status> {
         if given.is_null() {
             return Ok(None);
         }
         // SAFETY: the size is the first field of the options of every version
         let size = unsafe { given.cast::<usize>().read() };
-        if !(Options::SIZE..=Options::MAX_SIZE).contains(&size) {
+        if size != Options::FIRST_SIZE && !(Options::SIZE..=Options::MAX_SIZE).contains(&size) {
             return Err(Status::BadArgument);
         }
         // SAFETY: the options have `size` bytes
-        let (known, unknown) = unsafe { (&*given, slice::from_raw_parts(given.cast::<u8>().add(Options::SIZE), size - Options::SIZE)) };
+        let bytes = unsafe { slice::from_raw_parts(given.cast::<u8>(), size) };
+        let (known, unknown) = bytes.split_at(size.min(Options::SIZE));
         if unknown.iter().any(|byte| *byte != 0) {
             return Err(Status::BadArgument);
         }
-        Ok(Some(known))
+        let mut options = MaybeUninit::<Options>::zeroed();
+        // SAFETY: there is room for the bytes, which are fields that any bits are values of, and so are zeros
+        let options = unsafe {
+            ptr::copy_nonoverlapping(known.as_ptr(), options.as_mut_ptr().cast::<u8>(), known.len());
+            options.assume_init()
+        };
+        Ok(Some(options))
     }
 
     /// Returns what the options say.
@@ -62,7 +72,7 @@ impl Options {
     /// # Safety
     ///
     /// Texts that aren't NULL end with a zero byte.
-    unsafe fn choices(&self) -> Result<Choices<'_>, Status> {
+    unsafe fn choices<'a>(self) -> Result<Choices<'a>, Status> {
         // SAFETY: so the caller ensures
         let text = |start, fault| unsafe { text_at(start, fault) };
         Ok(Choices {
@@ -76,6 +86,7 @@ impl Options {
             tables: self.tables,
             images: self.images,
             flags: self.flags,
+            max_nodes: self.max_nodes,
         })
     }
 }

@@ -10,7 +10,7 @@ class TooNarrow(Error):
 
 
 class TooLarge(Error):
-    """The page has more than 5 million nodes, or attributes that rendering reads."""
+    """The page has more nodes, or attributes that rendering reads, than `Options.max_nodes`, by default 5 million."""
 
 
 class CannotRender(Error):

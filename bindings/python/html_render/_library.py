@@ -52,6 +52,7 @@ class _Record(ctypes.Structure):
         ("tables", ctypes.c_uint32),
         ("images", ctypes.c_uint32),
         ("flags", ctypes.c_uint64),
+        ("max_nodes", ctypes.c_size_t),
     ]
 
 
@@ -82,7 +83,7 @@ def _record_of(options: Options | None, style: Style, charset: str | None) -> _R
     record.links = LINKS[options.links]
     record.tables = TABLES[options.tables]
     record.images = IMAGES[options.images] if options.image_title is None else IMAGE_REPLACE
-    record.max_width = options.max_width or 0
+    record.max_width, record.max_nodes = options.max_width or 0, options.max_nodes or 0
     record.base, record.css, record.image_title = map(_text, (options.base, options.css, options.image_title))
     record.flags = sum(flag for name, flag in FLAGS.items() if getattr(options, name))
     return record

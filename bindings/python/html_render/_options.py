@@ -64,11 +64,16 @@ class Options:
     """Applies the page's own style sheets."""
     keep_controls: bool = False
     """Keeps control characters, with which a page can control a terminal."""
+    max_nodes: int | None = None
+    """Maximum number of the page's nodes, and of its attributes that are read; None for 5 million. A page that has more raises
+    TooLarge. The document, html, head and body, which each page has, count."""
 
     def __post_init__(self) -> None:
         for name, numbers in (("style", {None: 0, **STYLES}), ("links", LINKS), ("tables", TABLES), ("images", IMAGES)):
             if getattr(self, name) not in numbers:
                 known = ", ".join(it for it in numbers if it is not None)
                 raise ValueError(f"{name} is one of {known}, and not {getattr(self, name)!r}")
-        if self.max_width is not None and not 0 < self.max_width < 1 << 64:
-            raise ValueError(f"max_width is from 1 to 2^64 - 1, and not {self.max_width}")
+        for name in ("max_width", "max_nodes"):
+            number = getattr(self, name)
+            if number is not None and not 0 < number < 1 << 64:
+                raise ValueError(f"{name} is from 1 to 2^64 - 1, and not {number}")

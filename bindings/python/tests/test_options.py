@@ -31,6 +31,7 @@ NAMES = [
     "css",
     "page_css",
     "keep_controls",
+    "max_nodes",
 ]
 OTHERS = Options("rich", links="inline", max_width=40, pad=True, css="b { color: red }")
 

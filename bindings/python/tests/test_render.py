@@ -80,11 +80,11 @@ def test_each_option_is_told():
     names = {it.name for it in dataclasses.fields(Options)}
     flags = set(html_render._numbers.FLAGS)
     assert flags < names
-    assert names - flags == {"style", "links", "base", "tables", "max_width", "images", "image_title", "css"}
+    assert names - flags == {"style", "links", "base", "tables", "max_width", "images", "image_title", "css", "max_nodes"}
 
 
 def test_faulty_options():
-    for faulty in ({"style": "fat"}, {"links": "all"}, {"tables": "some"}, {"images": "all"}, {"max_width": 0}, {"max_width": 2**64}):
+    for faulty in ({"style": "fat"}, {"links": "all"}, {"tables": "some"}, {"images": "all"}, {"max_width": 0}, {"max_width": 2**64}, {"max_nodes": 0}, {"max_nodes": 2**64}):
         with pytest.raises(ValueError):
             Options(**faulty)
     with pytest.raises(BadBase):
@@ -103,6 +103,18 @@ def test_faulty_options():
 def test_a_page_that_is_too_large():
     with pytest.raises(TooLarge):
         render(b"<hr>" * 5_000_001)
+
+
+def test_the_limit_of_nodes():
+    assert render(b"<p>a", options=Options(max_nodes=6)) == "a\n"
+    assert len(render_lines(b"<p>a", options=Options(max_nodes=6))) == 1
+    for call, nodes in ((render, 5), (render_lines, 5), (render, 1)):
+        with pytest.raises(TooLarge):
+            call(b"<p>a", options=Options(max_nodes=nodes))
+    assert render(b"<p>a", options=Options(max_nodes=(1 << 64) - 1)) == "a\n"
+    for nodes in (0, -1, 1 << 64):
+        with pytest.raises(ValueError, match="max_nodes is from 1"):
+            Options(max_nodes=nodes)
 
 
 def test_errors_are_of_two_kinds():

@@ -4,7 +4,7 @@ use crate::adapt;
 use crate::characters::Filter;
 use crate::encoding;
 use crate::error::Error;
-use crate::limits::Refusal;
+use crate::limits::{self, Refusal};
 use crate::options::Options;
 use crate::reader::Reader;
 use crate::record;
@@ -63,7 +63,8 @@ impl Parsed {
         };
         let is_adapted = reading.options.is_some();
         let filter = Filter { keeps_controls: reading.keeps_controls, drops_soft_hyphens: is_adapted, drops_marks: is_adapted }.for_page(&page);
-        let wanted = Wanted { is_asked: if is_adapted { adapt::is_asked } else { record::is_asked }, css: beside.css };
+        let max_nodes = reading.options.as_ref().and_then(|options| options.max_nodes).unwrap_or(limits::MAX_NODES);
+        let wanted = Wanted { is_asked: if is_adapted { adapt::is_asked } else { record::is_asked }, css: beside.css, max_nodes };
         let options = TreeBuilderOpts { drop_doctype: true, scripting_enabled: !is_adapted, ..TreeBuilderOpts::default() };
         let mut tree = Tree::new(filter);
         if !tree.make_room_for_text(page.len()) {

@@ -20,7 +20,9 @@ pub enum Error {
     Fail,
     /// Memory is out, or the document has more than 2^32 - 1 bytes of text or calls.
     OutOfMemory,
-    /// The page has more than 5 million nodes or attributes.
+    /// The page has more nodes or attributes than [`Options::max_nodes`] says, by default 5 million.
+    ///
+    /// [`Options::max_nodes`]: crate::Options::max_nodes
     TooLarge,
     /// A rule of a style sheet has no block.
     CssParseError,

@@ -2,7 +2,7 @@
 //!
 //! html5ever looks up all open elements at many tags, reopens all unclosed formatting elements at a text, and compares each attribute
 //! of a tag with those before it. So past 512 open elements start tags are dropped, as browsers do; a tag keeps its first 1,000
-//! attributes; and a page of more than 5 million nodes is refused.
+//! attributes; and a page of more nodes than a limit is refused, by default 5 million.
 
 use crate::sink::Sink;
 use crate::tree::{Id, Tree, MAX_ATTRIBUTES};
@@ -15,8 +15,11 @@ use std::cell::RefCell;
 /// Maximum number of open elements.
 const MAX_OPEN: usize = 512;
 
-/// Maximum number of a page's nodes, and of its attributes.
+/// Default limit of a page's nodes, and of its attributes.
 pub(crate) const MAX_NODES: usize = if cfg!(test) { 200_000 } else { 5_000_000 };
+
+/// Greatest limit: numbers of nodes and attributes have 32 bits.
+const GREATEST_LIMIT: usize = 1 << 31;
 
 /// Maximum number of nodes that a token makes beside those that it reopens: an end tag copies up to 4 elements in each of 8 rounds.
 const MAX_OWN: usize = 64;
@@ -43,8 +46,9 @@ fn most_made(nodes: usize, attributes: usize) -> (usize, usize) {
 }
 
 /// Numbers of nodes and attributes below which a tree has room for what a token makes.
-#[derive(Default)]
 pub(crate) struct Room {
+    /// Maximum number of nodes, and of attributes.
+    limit: usize,
     nodes: usize,
     attributes: usize,
     /// Numbers of nodes and attributes that there is room for.
@@ -52,6 +56,11 @@ pub(crate) struct Room {
 }
 
 impl Room {
+    /// Returns no room yet, under a limit of nodes and of attributes.
+    pub fn new(limit: usize) -> Room {
+        Room { limit: limit.min(GREATEST_LIMIT), nodes: 0, attributes: 0, most: (0, 0) }
+    }
+
     /// Reports whether a tree has room for what another token makes.
     #[inline]
     pub fn is_enough(&self, tree: &Tree) -> bool {
@@ -63,16 +72,16 @@ impl Room {
     pub fn make(&mut self, tree: &mut Tree) -> Result<(), Refusal> {
         let (nodes, attributes) = (tree.node_count(), tree.attribute_count());
         debug_assert!(self.nodes == 0 || nodes <= self.most.0 && attributes <= self.most.1);
-        if nodes.max(attributes) > MAX_NODES {
+        if nodes.max(attributes) > self.limit {
             return Err(Refusal::TooLarge);
         }
-        let next = (2 * nodes + FIRST, 2 * attributes + FIRST);
+        let next = ((2 * nodes + FIRST).min(self.limit + 1), (2 * attributes + FIRST).min(self.limit + 1));
         let made = most_made(next.0, next.1);
         self.most = (next.0 + made.0, next.1 + made.1);
         if tree.is_out_of_memory || !tree.make_room(self.most.0 - nodes, self.most.1 - attributes) {
             return Err(Refusal::OutOfMemory);
         }
-        (self.nodes, self.attributes) = (next.0.min(MAX_NODES + 1), next.1.min(MAX_NODES + 1));
+        (self.nodes, self.attributes) = next;
         Ok(())
     }
 }

@@ -54,6 +54,7 @@ pub struct Options {
     pub(crate) is_padded: bool,
     pub(crate) wraps_code: bool,
     pub(crate) has_row_rules: bool,
+    pub(crate) max_nodes: Option<usize>,
 }
 
 impl Options {
@@ -117,6 +118,21 @@ impl Options {
     /// heads, or of a `tfoot`, and the other isn't.
     pub fn row_rules(self) -> Options {
         Options { has_row_rules: true, ..self }
+    }
+
+    /// Sets the maximum number of a page's nodes, and of its attributes that are read. A page that has more is refused, with `TooLarge`.
+    /// Without the call that is 5 million, and at most it is 2^31. The document and the elements `html`, `head` and `body`, which each
+    /// page has, count.
+    ///
+    /// ```
+    /// use html_render::{config, Error, Options};
+    ///
+    /// let text = |nodes| config::plain().as_shown(Options::new().max_nodes(nodes)).string_from_read("<p>one".as_bytes(), 80);
+    /// assert_eq!(text(6).unwrap(), "one\n");
+    /// assert_eq!(text(5), Err(Error::TooLarge));
+    /// ```
+    pub fn max_nodes(self, nodes: usize) -> Options {
+        Options { max_nodes: Some(nodes), ..self }
     }
 
     /// Keeps the spaces at the ends of lines that fill the last cells of tables.

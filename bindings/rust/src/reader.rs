@@ -399,7 +399,7 @@ mod tests {
     /// Number of rounds, unless the variable HTML_RENDER_ROUNDS of the environment says another one.
     const ROUNDS: usize = 20;
 
-    const WANTED: Wanted = Wanted { is_asked: record::is_asked, css: true };
+    const WANTED: Wanted = Wanted { is_asked: record::is_asked, css: true, max_nodes: limits::MAX_NODES };
 
     fn new_sink(wanted: Wanted) -> Sink {
         Sink::new(Tree::new(Filter { keeps_controls: true, ..Filter::default() }), wanted)
@@ -432,7 +432,7 @@ mod tests {
 
         /// Returns the document of a page.
         fn document(self, page: &str) -> String {
-            let wanted = Wanted { is_asked: self.is_asked(), css: true };
+            let wanted = Wanted { is_asked: self.is_asked(), css: true, max_nodes: limits::MAX_NODES };
             let mut reader = Reader::new(page, new_sink(wanted), wanted, self.options());
             reader.page.window_length = self.window_length;
             let Sink { tree, css, is_quirky, language, .. } = reader.read_all().unwrap();
@@ -584,6 +584,23 @@ mod tests {
         assert_eq!(read(&"<br>".repeat(limits::MAX_NODES)), Err(Refusal::TooLarge));
         let fonts: String = (0..500).map(|size| format!("<font size={size}>")).collect();
         assert_eq!(read(&("<p>".to_owned() + &fonts + &"<p>x".repeat(1_000))), Err(Refusal::TooLarge));
+    }
+
+    #[test]
+    fn limits_of_nodes_are_exact() {
+        let read = |page: &str, max_nodes| {
+            let wanted = Wanted { max_nodes, ..WANTED };
+            Reader::read(page, new_sink(wanted), wanted, TreeBuilderOpts::default()).map(|sink| (sink.tree.node_count(), sink.tree.attribute_count()))
+        };
+        let attributes = "<i id=a class=b>".repeat(100);
+        for page in ["", "<p>a<b>b</p>c", "<table><tr><td>a", &"<hr>".repeat(1_000), &"<p><b><i>x".repeat(20), &attributes] {
+            let (nodes, attributes) = read(page, usize::MAX).unwrap();
+            let most = nodes.max(attributes);
+            assert_eq!(read(page, most), Ok((nodes, attributes)), "{page}");
+            for less in [most - 1, most / 2, 1, 0] {
+                assert_eq!(read(page, less), Err(Refusal::TooLarge), "{page} in {less}");
+            }
+        }
     }
 
     #[test]

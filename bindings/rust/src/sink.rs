@@ -7,13 +7,15 @@ use html5ever::{local_name, namespace_url, ns, Attribute, ExpandedName, LocalNam
 use std::borrow::Cow;
 use tendril::StrTendril;
 
-/// What is kept of a page beside its nodes.
+/// What is kept of a page beside its nodes, and how many nodes it may have.
 #[derive(Clone, Copy)]
 pub(crate) struct Wanted {
     /// Whether attributes of a name are asked for.
     pub is_asked: fn(&LocalName) -> bool,
     /// Whether the texts of style sheets are.
     pub css: bool,
+    /// Maximum number of nodes, and of attributes that are asked for.
+    pub max_nodes: usize,
 }
 
 /// The tree that html5ever's tree builder makes.

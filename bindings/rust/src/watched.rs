@@ -64,7 +64,7 @@ impl<'a> Watched<'a> {
             raw: None,
             is_asked: wanted.is_asked,
             open: OpenElements::default(),
-            room: Room::default(),
+            room: Room::new(wanted.max_nodes),
             page,
             direct: Direct::default(),
             spaces: "",

@@ -85,6 +85,18 @@ fn widths() {
 }
 
 #[test]
+fn pages_of_many_nodes_are_refused() {
+    assert_eq!(text(&["--max-nodes", "6"], "<p>one"), "one\n");
+    assert_eq!(text(&["--max-nodes=99999999999"], "<p>one"), "one\n");
+    for words in [["--max-nodes=5"].as_slice(), &["--max-nodes", "1"], &["--max-nodes=5", "--format=json"], &["--max-nodes=5", "-srich"], &["--max-nodes=5", "-sbare"]] {
+        assert_eq!(fault(words, "<p>one"), (1, "htext: -: too large\n".to_owned()), "{words:?}");
+    }
+    for nodes in ["0", "-1", "many", ""] {
+        assert_eq!(fault(&["--max-nodes", nodes], ""), (2, format!("htext: --max-nodes takes a number from 1 on, and not {nodes:?}; htext --help tells how\n")));
+    }
+}
+
+#[test]
 fn tables() {
     let table = "<table border=1><tr><td>a<td>b</table>";
     assert_eq!(text(&["--no-borders"], table), "a b\n");

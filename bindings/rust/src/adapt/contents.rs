@@ -592,7 +592,7 @@ pub(super) mod tests {
 
     /// Returns the tree of a page.
     pub(in crate::adapt) fn tree_of(page: &str) -> Tree {
-        let wanted = Wanted { is_asked, css: false };
+        let wanted = Wanted { is_asked, css: false, max_nodes: usize::MAX };
         let sink = Sink::new(Tree::new(Filter::default()), wanted);
         Reader::read(page, sink, wanted, TreeBuilderOpts { scripting_enabled: false, ..TreeBuilderOpts::default() }).unwrap().tree
     }

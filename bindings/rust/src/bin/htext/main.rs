@@ -67,6 +67,8 @@ none, as text wrapped to a width.
       --page-css      the rules of the page's own <style> elements
       --keep-controls keep control characters of the page, which can control a
                       terminal
+      --max-nodes N   refuse a page of more than N nodes, or attributes that are
+                      read; else of more than 5 million
   -h, --help          print this
   -V, --version       print the version
 

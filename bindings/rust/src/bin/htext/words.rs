@@ -137,10 +137,10 @@ impl Word {
         text.parse().map_err(|_| self.fault(&format!("takes a number of columns, and not {text:?}")))
     }
 
-    /// Returns a number of threads.
-    fn jobs(&mut self, words: &mut impl Iterator<Item = OsString>) -> Result<usize, Usage> {
+    /// Returns a number from 1 on.
+    fn count(&mut self, words: &mut impl Iterator<Item = OsString>) -> Result<usize, Usage> {
         let text = self.text(words)?;
-        text.parse().ok().filter(|&jobs| jobs > 0).ok_or_else(|| self.fault(&format!("takes a number from 1 on, and not {text:?}")))
+        text.parse().ok().filter(|&count| count > 0).ok_or_else(|| self.fault(&format!("takes a number from 1 on, and not {text:?}")))
     }
 
     /// Refuses a value.
@@ -237,7 +237,7 @@ impl Choices {
             }
             "-o" | "--output" => self.output = Some(word.value(words)?),
             "--output-dir" => self.folder = Some(word.value(words)?),
-            "-j" | "--jobs" => self.jobs = Some(word.jobs(words)?),
+            "-j" | "--jobs" => self.jobs = Some(word.count(words)?),
             "--charset" => {
                 let label = word.text(words)?;
                 self.options = mem::take(&mut self.options).charset(&label).map_err(|_| Usage(format!("no such charset: {label}")))?;
@@ -264,6 +264,7 @@ impl Choices {
                 };
                 self.options = mem::take(&mut self.options).tables(tables);
             }
+            "--max-nodes" => self.options = mem::take(&mut self.options).max_nodes(word.count(words)?),
             "--css" => self.css.push_str(&word.text(words)?),
             "--max-width" => self.changes.push(Change::MaxWidth(word.number(words)?)),
             "--images" => self.changes.push(Change::Images(match word.text(words)?.as_str() {
