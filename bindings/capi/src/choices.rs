@@ -187,6 +187,22 @@ mod tests {
     }
 
     #[test]
+    fn pages_of_many_nodes_are_refused() {
+        let page = b"<p>a";
+        for style in 0..3 {
+            let limited = |max_nodes| Choices { style, max_nodes, ..Choices::default() };
+            for max_nodes in [0, 6, usize::MAX] {
+                assert_eq!(limited(max_nodes).text(page, 9).as_deref(), Ok("a\n"));
+                assert!(limited(max_nodes).records(page, 9).is_ok());
+            }
+            for max_nodes in [1, 5] {
+                assert_eq!(limited(max_nodes).text(page, 9), Err(Status::TooLarge));
+                assert_eq!(limited(max_nodes).records(page, 9), Err(Status::TooLarge));
+            }
+        }
+    }
+
+    #[test]
     fn defaults_are_those_of_render() {
         let page = "<p>one <a href=b>two</a><table border=1><tr><td>three<td>four</table>";
         let text = Choices { charset: Some("utf-8"), ..Choices::default() }.text(page.as_bytes(), 30);

@@ -116,6 +116,8 @@ fn rules_beside_each_other_are_shown_as_others() {
         assert_eq!(lines(rich()), lines(rich().add_css("x { color: red }").unwrap()), "{page} at {width}");
     }
     assert_eq!(render(RULES, 2).unwrap(), "──\n──\n──\n");
+    // wider than the longest rule
+    assert_eq!(render(RULES, 200_000).unwrap(), ("─".repeat(1 << 16) + "\n").repeat(3));
     assert_eq!(shown(RULES, plain().add_css("hr::before { content: 'a' }").unwrap(), 2), "a─\n─\n".repeat(3));
 }
 
