@@ -1,8 +1,8 @@
 //! Signs around emphasis: none inside a word, in other signs, around nothing, or around blocks, and none that has white space on its inner side.
 //!
 //! An element is recorded with its signs, which the library writes. They are dropped as soon as it is known that they are wrong: by
-//! another name, or, where a rule may select the element by its own, by a private class, for which a rule writes nothing. White space at the start of an element is recorded before it; white space,
-//! line breaks and the number of a link at its end after it.
+//! another name, or, where a rule may select the element by its own, by a private class, for which a rule writes nothing. White space at
+//! the start of an element is recorded before it; white space, line breaks and the number of a link at its end after it.
 
 use super::flow::{self, Flow};
 use crate::record::{Handle, Recorder};
@@ -12,8 +12,8 @@ use html5ever::{local_name, LocalName};
 /// The private class of elements without signs.
 pub(crate) const UNSIGNED_CLASS: &str = "\0unsigned";
 
-/// The name of elements without signs: plain text shows emphasis of this name as that with signs, which are left out.
-pub(crate) const UNSIGNED_NAME: LocalName = local_name!("ins");
+/// The name of elements without signs. Plain text shows it as emphasis that has signs, without these.
+const UNSIGNED_NAME: LocalName = local_name!("ins");
 
 /// What follows the value of an attribute `class` in the text, so that the class can be added to it later.
 pub(super) const UNSIGNED_SUFFIX: &str = " \0unsigned";
