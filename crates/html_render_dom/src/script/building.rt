@@ -41,13 +41,13 @@ impl From<Error> for ScriptError {
 
 /// The document of the lines so far.
 #[derive(Drop)]
-struct Building {
+struct ScriptBuilder {
     dom: RcDom,
     /// The node to which the next line appends.
     current: Handle,
 }
 
-impl Model for Building {
+impl Model for ScriptBuilder {
     ghost use Rattle.html_render_dom.specs.Dom.{IsNode};
     ghost use Rattle.html_render_dom.specs.script.Scripts.{Cursor};
 
@@ -58,15 +58,15 @@ impl Model for Building {
     ghost invariant = { λ b. IsNode b.dom b.current };
 }
 
-impl Building {
+impl ScriptBuilder {
     /// Creates a document whose document node is current.
-    fn new(alloc: Global) -> Result<Building, Error>
+    fn new(alloc: Global) -> Result<ScriptBuilder, Error>
         ensures ok { IfOk result (λ b. b ≡ at_document) }
         ensures err { OnlyOutOfMemory result }
     {
         let dom = RcDom::new(alloc)?;
         let current = dom.get_document();
-        Ok(Building { dom, current })
+        Ok(ScriptBuilder { dom, current })
     }
 
     /// Appends a text to the current node.
@@ -195,18 +195,18 @@ pub fn built(alloc: Global, script: &str) -> Result<RcDom, ScriptError>
     ensures ok { IfOk result (λ dom. document_of script.now ≡ Ok dom) }
     ensures err { IfErr result (λ e. IsScriptFault script.now e) }
 {
-    let mut building = Building::new(alloc)?;
+    let mut builder = ScriptBuilder::new(alloc)?;
     let mut plain = String::new(alloc);
     let mut number = 0usize;
     let mut rest = script;
     while !rest.is_empty() {
         let (line, after) = split_line(rest);
         number += 1;
-        match building.take(alloc, line, &mut plain) {
+        match builder.take(alloc, line, &mut plain) {
             Ok(()) => rest = after,
             Err(Fault::Refused(error)) => return Err(ScriptError::Refused(error)),
             Err(Fault::Faulty) => return Err(ScriptError::FaultyLine(number)),
         }
     }
-    Ok(building.dom)
+    Ok(builder.dom)
 }

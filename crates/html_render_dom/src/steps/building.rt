@@ -117,12 +117,12 @@ fn is_above(dom: &RcDom, node: Handle, below: Handle) -> bool
 
 /// The document of the steps so far, and its nodes by their numbers in steps.
 #[derive(Drop)]
-struct Building {
+struct StepBuilder {
     dom: RcDom,
     made: Vec<Handle>,
 }
 
-impl Model for Building {
+impl Model for StepBuilder {
     ghost use Rattle.std.specs.Prelude.{All};
     ghost use Rattle.html_render_dom.specs.Dom.{IsNode};
     ghost use Rattle.html_render_dom.specs.Steps.{Built};
@@ -134,16 +134,16 @@ impl Model for Building {
     ghost invariant = { λ b. All (IsNode b.dom) b.made.items };
 }
 
-impl Building {
+impl StepBuilder {
     /// Creates a document, whose document node has the number 0.
-    fn new(alloc: Global) -> Result<Building, Error>
+    fn new(alloc: Global) -> Result<StepBuilder, Error>
         ensures ok { IfOk result (λ b. b ≡ steps.begun) }
         ensures err { OnlyOutOfMemory result }
     {
         let dom = RcDom::new(alloc)?;
         let mut made = Vec::new(alloc);
         made.push(dom.get_document())?;
-        Ok(Building { dom, made })
+        Ok(StepBuilder { dom, made })
     }
 
     /// Returns the node of this number; `Faulty` if there is none.
@@ -429,16 +429,16 @@ pub fn built(alloc: Global, text: &[u8], steps: &[Step]) -> Result<RcDom, StepEr
     ensures ok { IfOk result (λ dom. AreStepsOf text.now steps.now dom) }
     ensures err { IfErr result (λ e. IsStepFault text.now steps.now e) }
 {
-    let mut building = Building::new(alloc)?;
+    let mut builder = StepBuilder::new(alloc)?;
     // pieces of a text that is UTF-8 aren't tested one by one
     let string = str::from_utf8(text).ok();
     let mut rest = steps;
     while let Some((step, behind)) = rest.split_first() {
-        match building.take(alloc, text, string, step) {
+        match builder.take(alloc, text, string, step) {
             Ok(()) => rest = behind,
             Err(Fault::Refused(error)) => return Err(StepError::Refused(error)),
             Err(Fault::Faulty) => return Err(StepError::Faulty(steps.len() - rest.len())),
         }
     }
-    Ok(building.dom)
+    Ok(builder.dom)
 }

@@ -10,7 +10,7 @@ abbrev pub invariant-loop-rest : goal.invariant-loop-rest
 invariant-loop-rest l = record {
   is_text : shadow (Utf8 l.rest);
   counted : l.number + length l.rest ≤ length l.script;
-  wanted : outcome_of (lines l.rest) (l.number + 1) l.building ≡ document_of l.script;
+  wanted : outcome_of (lines l.rest) (l.number + 1) l.builder ≡ document_of l.script;
 }
 
 abbrev pub decreases-loop-rest : goal.decreases-loop-rest

@@ -6,7 +6,7 @@ use Rattle.html_render_dom.proofs.steps.building.built.Given as goal
 abbrev pub invariant-loop-step : goal.invariant-loop-step
 invariant-loop-step l = record {
   within : length l.rest ≤ length l.steps;
-  progress : IsProgress l.text l.steps l.rest l.building;
+  progress : IsProgress l.text l.steps l.rest l.builder;
 }
 
 abbrev pub decreases-loop-step : goal.decreases-loop-step
