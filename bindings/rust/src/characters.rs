@@ -25,6 +25,8 @@ pub(crate) mod mark {
     pub const LONG: &str = "\u{206b}";
     /// At the end of such a line.
     pub const LONG_END: &str = "\u{206c}";
+    /// The stroke that the library writes after each visible character that is struck out, and after each mark.
+    pub const STROKE: &str = "\u{336}";
 }
 
 /// Reports whether a character is deprecated by Unicode: an adapted document has some as marks of its own.

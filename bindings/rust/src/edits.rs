@@ -27,9 +27,6 @@ pub(crate) struct Edits {
 /// The character of a table's borders that lies between two columns and between two rows.
 const CROSS: &[u8] = "\u{253c}".as_bytes();
 
-/// The stroke that the library writes after each visible character that is struck out, and after each mark.
-const STROKE: &str = "\u{336}";
-
 type Line = TaggedLine<Vec<RichAnnotation>>;
 
 /// Reports whether a text has a character that parts columns in a table's border.
@@ -168,8 +165,8 @@ fn made(length: usize, append: impl FnOnce(&mut String)) -> Result<String, Error
 
 /// Returns where the stroke of a mark ends whose character ends at a place, or that place if the mark has no stroke.
 fn stroke_end(text: &str, end: usize) -> usize {
-    if text[end..].starts_with(STROKE) {
-        end + STROKE.len()
+    if text[end..].starts_with(mark::STROKE) {
+        end + mark::STROKE.len()
     } else {
         end
     }
@@ -250,6 +247,9 @@ impl<'a> Ruled<'a> {
             padding::push(&self.text[self.rest..mark], is_padded, &self.ends, self.to);
             self.marks_left = &self.marks_left[1..];
             self.rest = stroke_end(self.text, mark + mark::APART.len());
+            if !self.is_padded && self.text[self.rest..].starts_with('\n') {
+                self.to.truncate(self.to.trim_end_matches(' ').len());
+            }
         }
     }
 
@@ -420,7 +420,7 @@ impl Edits {
             lines = without_rules(lines);
         }
         if self.row_marks > 0 {
-            lines.iter_mut().for_each(|line| line.remove(mark::APART, STROKE));
+            lines.iter_mut().for_each(|line| line.remove(mark::APART, mark::STROKE));
         }
         lines
     }
@@ -478,8 +478,8 @@ fn joined(lines: Vec<Line>) -> Vec<Line> {
     let mut prefix: Option<String> = None;
     for (mut line, is_long) in lines.into_iter().zip(closed) {
         let text = line.text();
-        line.remove(mark::LONG, STROKE);
-        line.remove(mark::LONG_END, STROKE);
+        line.remove(mark::LONG, mark::STROKE);
+        line.remove(mark::LONG_END, mark::STROKE);
         if is_long {
             prefix = text.split_once(mark::LONG).map(|(before, _)| before.to_owned());
             kept.push(line);
@@ -546,9 +546,10 @@ mod tests {
     }
 
     #[test]
-    fn marks_are_dropped_with_their_strokes() {
+    fn marks_are_dropped_with_strokes_and_spaces() {
         let table = "─┬─\n\u{206a}\u{336}a\u{336}│b\n─┼─\nc│d\n─┴─\n";
         assert_eq!(without_rules_in(table), "─┬─\na\u{336}│b\n─┼─\nc│d\n─┴─\n");
+        assert_eq!(without_rules_in("─┬─\na│ \u{206a}\n │b\n─┼─\nc│d\n─┴─\n"), "─┬─\na│\n │b\n─┼─\nc│d\n─┴─\n");
         let edits = Edits { joins_lines: true, drops_rules: false, ..EDITS };
         let code = "\u{206b}\u{336}a\u{336}\nb\u{336}\u{206c}\u{336}\n\u{206a}\u{336}c\u{336}";
         assert_eq!(edits.text(code).unwrap(), "a\u{336}b\u{336}\nc\u{336}");

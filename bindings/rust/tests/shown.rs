@@ -261,7 +261,7 @@ fn marks_of_rows_change_no_text() {
         "<a href='https://x/'>https://x/</a>", "<a href='https://x/'><b>https:</b>//x/</a>", "<a href='https://x/'><sup>1</sup></a>",
         "<a href=y><b>z</b></a>", "<a href=y><img src=i> a</a>", "<img src=i alt=a>1", "<img src=i alt=' a'>", "<input value=v>a",
         "<button>a</button>", "<svg><text> a</text></svg>", "<ul><li>a</ul>", "<blockquote>a</blockquote>", "<pre> a\n b</pre>",
-        "a word of eighteen characters", "e\u{301}", "a<b>\u{336}b</b>", "&shy;a", "&nbsp;", "<br>a",
+        "a word of eighteen characters", "e\u{301}", "a<b>\u{336}b</b>", "\u{336}a", "&shy;a", "&nbsp;", "<br>a",
     ];
     for head in heads {
         for (start, end) in [("", ""), ("<b>", "</b>"), ("<s>", "</s>"), ("<a href=z>", "</a>")] {

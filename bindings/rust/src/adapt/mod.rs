@@ -407,7 +407,7 @@ impl<'a> Adapter<'a> {
     pub fn marked_text(&mut self, recorder: &mut Recorder, context: &Context, piece: Piece) -> Piece {
         let text = contents::text_of(&recorder.text, piece);
         let (blank, shown) = text.split_at(flow::blank_start(text.as_bytes()));
-        if shown.is_empty() || !self.needs_mark(context) {
+        if shown.is_empty() || shown.starts_with(mark::STROKE) || !self.needs_mark(context) {
             return piece;
         }
         let marked = [blank, mark::APART, shown].concat();
