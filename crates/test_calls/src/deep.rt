@@ -1,5 +1,6 @@
 //! Calls on deep documents: dumps and paths.
 
+use html_render_dom::dom::Handle;
 use html_render_dom::script::built;
 use std::alloc::{AllocError, Global};
 use std::test::Fail;
@@ -26,7 +27,10 @@ fn a_path_may_be_long(rt: HostRuntime) -> Result<(), Fail> {
     for _ in 0..100_000 {
         path.push(1)?;
     }
-    assert!(rt; dom.get_node_by_path(path.as_slice()).is_some());
+    let innermost = Handle::new(100_000);
+    assert_eq!(rt; dom.get_node_by_path(path.as_slice()), Some(innermost));
+    assert!(rt; dom.is_node(innermost));
+    assert_eq!(rt; dom.element_name(alloc, innermost)?.as_deref(), Some("div"));
     path.push(1)?;
     assert!(rt; dom.get_node_by_path(path.as_slice()).is_none());
     Ok(())

@@ -13,6 +13,9 @@ pub enum Fault {
     /// The line isn't in the form of its call or breaks the call's condition, or a call did something that a test forbids.
     #[error("{0}")]
     Malformed(&'static str),
+    /// The line of this number of a script is faulty.
+    #[error("line {0} of the script is faulty")]
+    FaultyLine(usize),
 }
 
 impl From<Error> for Fault {

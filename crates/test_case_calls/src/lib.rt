@@ -1,22 +1,17 @@
-//! Calls by their names, as cases write them: calls that build and change a document, and questions about documents, their
-//! values, styles, grids, columns and decorators.
+//! Calls by their names, as cases write them, with numbers for nodes, spans and columns; and what reports calls.
 //!
-//! `Page::new(alloc, watch)?` creates a document. Its `take(alloc, "<p", watch)?` makes the calls of a line that begins with
-//! a sign, and `call(alloc, "append", "current \"text", watch)?` makes one call by its name.
-//! `answer(alloc, &page, "as_dom_string", "", watch)?` returns the result of a question, as a case prints it.
+//! `cuts::answer(alloc, "cut_fits", "3 3 / 9 4 / 10", watch)?` returns the line that answers a question.
 #![tactic(auto)]
 
 pub mod annotations;
-pub mod answers;
+pub mod cuts;
 pub mod decorators;
-pub mod edits;
+pub mod documents;
+pub mod elements;
 pub mod faults;
-pub mod pages;
+pub mod grids;
 pub mod rules;
-pub mod seen;
 pub mod styles;
-pub mod tables;
-pub mod tags;
 pub mod texts;
 pub mod values;
 pub mod watch;

@@ -1,13 +1,12 @@
 //! Questions about the computed style of an element, and the specificity of a rule.
 
+use crate::elements::attributes;
 use crate::faults::Fault;
 use crate::rules::rule;
-use crate::tags::Tag;
 use crate::texts::push_escaped;
 use crate::watch::Watch;
 use html_render_dom::style::{
-    ComputedStyle, ContentText, Display, RuleIndex, StyleOrigin, StyleRule, WhiteSpace, WithSpec,
-    computed_style,
+    ComputedStyle, Display, RuleIndex, StyleOrigin, StyleRule, computed_style,
 };
 use std::alloc::{AllocError, Global};
 
@@ -22,74 +21,51 @@ fn rules_of(alloc: Global, calls: &[&str]) -> Result<Vec<StyleRule>, Fault> {
     Ok(rules)
 }
 
-/// Returns a line for each property with a value, of an element's style by the rules of a configuration.
-pub fn answer(alloc: Global, calls: &[&str], given: &str, watch: Watch) -> Result<String, Fault> {
-    let rules = rules_of(alloc, calls)?;
-    let tag = Tag::read(alloc, given)?;
-    watch.begin("computed_style");
-    let came = computed_style(
-        alloc,
-        rules.as_slice(),
-        tag.name.local.as_str(),
-        &tag.attributes,
-    );
-    watch.end(&came);
-    let mut shown = String::new(alloc);
-    push_style(&mut shown, &came?)?;
-    Ok(shown)
-}
-
-/// Returns a line for each property with a value, of an element's style by an index of the rules of a configuration.
+/// Returns a line for each property with a value, of the style of an element, such as `p@class=a`, by the rules of a
+/// configuration.
 ///
-/// Of the calls, only the one with the name `asked` is watched.
-pub fn indexed(
+/// The style by all rules and that by an index of them must be the same, and the index must know of each style that isn't
+/// empty. Of these calls, the one with the name `asked` is watched.
+pub fn answer(
     alloc: Global,
     calls: &[&str],
     asked: &str,
-    given: &str,
+    element: &str,
     watch: Watch,
 ) -> Result<String, Fault> {
     let rules = rules_of(alloc, calls)?;
-    let tag = Tag::read(alloc, given)?;
-    let (name, attributes) = (tag.name.local.as_str(), &tag.attributes);
-    let of_watch = watch.only_if(asked == "RuleIndex::of");
-    of_watch.begin("RuleIndex::of");
-    let came = RuleIndex::of(alloc, rules.as_slice());
-    of_watch.end(&came);
-    let index = came?;
-    let style_watch = watch.only_if(asked == "RuleIndex::computed_style");
-    style_watch.begin("RuleIndex::computed_style");
-    let came = index.computed_style(alloc, rules.as_slice(), name, attributes);
-    style_watch.end(&came);
-    let style = came?;
+    let attributes = attributes(alloc, element)?;
+    let (name, _) = element.split_once('@').unwrap_or((element, ""));
+    let of_watch = watch.only_if(asked == "RuleIndex::of").begin(asked);
+    let index = of_watch.end(RuleIndex::of(alloc, &rules))?;
+    let index_watch = watch
+        .only_if(asked == "RuleIndex::computed_style")
+        .begin(asked);
+    let style = index_watch.end(index.computed_style(alloc, &rules, name, &attributes))?;
+    let mut by_index = String::new(alloc);
+    push_style(&mut by_index, &style)?;
+    let rules_watch = watch.only_if(asked == "computed_style").begin(asked);
+    let style = rules_watch.end(computed_style(alloc, &rules, name, &attributes))?;
     let mut shown = String::new(alloc);
     push_style(&mut shown, &style)?;
-    if !shown.is_empty() && !index.may_select(name, attributes) {
-        return Err(Fault::Malformed("a rule is asked that may select nothing"));
+    if shown != by_index || !shown.is_empty() && !index.may_select(name, &attributes) {
+        return Err(Fault::Malformed("an index of the rules says something else"));
     }
     Ok(shown)
 }
 
-/// Returns the line of the specificity of a rule.
-pub fn specificity(alloc: Global, given: &str, watch: Watch) -> Result<String, Fault> {
-    let rule = rule(alloc, given)?;
-    shown_specificity(alloc, &rule, watch)
-}
-
-/// Returns the line of the specificity of a rule for an element name.
-pub fn for_element(alloc: Global, name: &str, watch: Watch) -> Result<String, Fault> {
-    let name = String::from_str(alloc, name)?;
-    watch.begin("for_element");
-    let rule = StyleRule::for_element(alloc, StyleOrigin::Author, name, None, Vec::new(alloc));
-    watch.end(&Ok(()));
-    shown_specificity(alloc, &rule, watch)
-}
-
-/// Returns the line of a specificity: its counts of ids, of classes, and of element names and pseudo-elements.
-fn shown_specificity(alloc: Global, rule: &StyleRule, watch: Watch) -> Result<String, Fault> {
-    watch.begin("specificity");
-    let specificity = rule.specificity();
-    watch.end(&Ok(()));
+/// Returns the line of the specificity of a rule, or of one for an element name: its counts of ids, of classes, and of element
+/// names and pseudo-elements.
+pub fn specificity(alloc: Global, asked: &str, given: &str, watch: Watch) -> Result<String, Fault> {
+    let mut rule = rule(alloc, given)?;
+    if asked == "for_element" {
+        let name = String::from_str(alloc, given)?;
+        let for_watch = watch.begin(asked);
+        let none = Vec::new(alloc);
+        let made = StyleRule::for_element(alloc, StyleOrigin::Author, name, None, none);
+        rule = for_watch.end(Ok(made))?;
+    }
+    let specificity = watch.begin("specificity").end(Ok(rule.specificity()))?;
     let (id, class, typ) = (specificity.id, specificity.class, specificity.typ);
     Ok(format!(in alloc; "|id {id}, class {class}, typ {typ}\n")?)
 }
@@ -106,36 +82,22 @@ fn push_style(shown: &mut String, style: &ComputedStyle) -> Result<(), AllocErro
         shown.push_str("|display None\n")?;
     }
     if let Some(white_space) = style.white_space.val() {
-        write!(shown, "|white_space {}\n", white_space_name(*white_space))?;
+        write!(shown, "|white_space {white_space:?}\n")?;
     }
-    push_content(shown, "content", &style.content)?;
-    push_content(shown, "content_before", &style.content_before)?;
-    push_content(shown, "content_after", &style.content_after)?;
+    let contents = [
+        ("content", &style.content),
+        ("content_before", &style.content_before),
+        ("content_after", &style.content_after),
+    ];
+    for (name, content) in contents {
+        if let Some(text) = content.val() {
+            write!(shown, "|{name} ")?;
+            push_escaped(shown, text.as_str())?;
+            shown.push('\n')?;
+        }
+    }
     if style.internal_pre {
         shown.push_str("|internal_pre\n")?;
     }
     Ok(())
-}
-
-/// Appends the line of a content, if there is one.
-fn push_content(
-    shown: &mut String,
-    name: &str,
-    content: &WithSpec<ContentText>,
-) -> Result<(), AllocError> {
-    if let Some(text) = content.val() {
-        write!(shown, "|{name} ")?;
-        push_escaped(shown, text.as_str())?;
-        shown.push('\n')?;
-    }
-    Ok(())
-}
-
-/// Returns the name of a treatment of white space.
-fn white_space_name(white_space: WhiteSpace) -> &'static str {
-    match white_space {
-        WhiteSpace::Normal => "Normal",
-        WhiteSpace::Pre => "Pre",
-        WhiteSpace::PreWrap => "PreWrap",
-    }
 }

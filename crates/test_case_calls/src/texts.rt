@@ -83,6 +83,11 @@ pub fn numbers(alloc: Global, text: &str) -> Result<Vec<usize>, Fault> {
     Ok(all)
 }
 
+/// Returns the word `true` or `false`.
+pub fn truth_of(holds: bool) -> &'static str {
+    if holds { "true" } else { "false" }
+}
+
 /// Parses `true` or `false`.
 pub fn truth(text: &str) -> Result<bool, Fault> {
     match text {

@@ -1,12 +1,14 @@
 //! Reports of the library's calls, from which a test knows when to refuse allocations.
 
+use crate::faults::Fault;
 use html_render_dom::Error;
 use std::io::{Stdout, Write};
 
 /// Reports calls on standard output, if they are watched.
 ///
 /// A line `call NAME` precedes a call, and a line `came RESULT` follows it. `RESULT` is `answer` for success, or else
-/// `TooNarrow`, `Fail` or `OutOfMemory`. All allocations between the two lines are the call's.
+/// `TooNarrow`, `Fail` or `OutOfMemory`. All allocations between the two lines are the call's:
+/// `watch.begin("new").end(RcDom::new(alloc))?` makes a call between them.
 #[derive(Clone, Copy)]
 pub struct Watch {
     output: Option<Stdout>,
@@ -40,29 +42,29 @@ impl Watch {
         if holds { self } else { Watch::nobody() }
     }
 
-    /// Reports the beginning of a call.
-    pub fn begin(self, call: &str) {
+    /// Reports the beginning of a call, and returns the watch, for the call's end.
+    pub fn begin(self, call: &str) -> Watch {
         if let Some(output) = self.output {
             write(output, "call ");
             write(output, call);
             write(output, "\n");
         }
+        self
     }
 
-    /// Reports the result of the call.
-    pub fn end<T>(self, came: &Result<T, Error>) {
+    /// Reports the result of the call, and returns it.
+    pub fn end<T: Drop>(self, came: Result<T, Error>) -> Result<T, Fault> {
         if let Some(output) = self.output {
-            write(output, line_of(came));
+            write(
+                output,
+                match came {
+                    Ok(_) => "came answer\n",
+                    Err(Error::TooNarrow) => "came TooNarrow\n",
+                    Err(Error::Fail) => "came Fail\n",
+                    Err(Error::OutOfMemory) => "came OutOfMemory\n",
+                },
+            );
         }
-    }
-}
-
-/// Returns the line that reports a result.
-fn line_of<T>(came: &Result<T, Error>) -> &'static str {
-    match came {
-        Ok(_) => "came answer\n",
-        Err(Error::TooNarrow) => "came TooNarrow\n",
-        Err(Error::Fail) => "came Fail\n",
-        Err(Error::OutOfMemory) => "came OutOfMemory\n",
+        Ok(came?)
     }
 }

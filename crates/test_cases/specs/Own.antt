@@ -5,7 +5,7 @@ use Rattle.std.specs.Ordering.{int_eq}
 use Rattle.html_render_tree.specs.Place.{Place}
 use Rattle.html_render_tree.specs.Place.TheVariants.{QuotePrefix, OrderedItemPrefix}
 use Rattle.test_cases.specs.declared.decorators.Own.{Own}
-use Rattle.test_cases.specs.declared.decorators.Own.TheVariants.{Grow, Odd}
+use Rattle.test_cases.specs.declared.decorators.Own.TheVariants.{Grow, Odd, Refusing}
 
 -- the text of a decorator at a place, which is that of the decorator below if unchanged
 abbrev pub text : Own → Place → (below : List ℕ) → List ℕ
@@ -17,3 +17,4 @@ text own place below = below
 abbrev pub subblock : Own → Own
 subblock (Grow level) = Grow (min (level + 1) (2 ^ 64 - 1))
 subblock Odd = Odd
+subblock (Refusing call) = Refusing call

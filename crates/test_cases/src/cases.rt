@@ -1,34 +1,35 @@
 //! The player of a file's cases.
 
-use crate::configs::{is_preset, is_setting};
+use crate::configs::is_setting;
+use crate::documents::{built, dump};
+use crate::programs;
 use crate::rendering::{self, Question, is_rendering};
-use crate::{programs, scripts};
 use html_render_tree::Error;
+use html_render_tree::dom::RcDom;
 use std::alloc::{AllocError, Global};
 use std::mem;
-use test_case_calls::edits::is_call;
 use test_case_calls::faults::Fault;
-use test_case_calls::pages::Page;
-use test_case_calls::seen::seen;
-use test_case_calls::texts::split_word;
+use test_case_calls::texts::{number, split_word};
 use test_case_calls::watch::Watch;
-use test_case_calls::{answers, decorators, styles, tables, values};
-
-/// The expected output of a question, in the form of results: each printed line after `|`.
-#[derive(Drop)]
-struct Wanted {
-    lines: String,
-    /// Whether the last line isn't ended yet.
-    is_open: bool,
-}
+use test_case_calls::{cuts, decorators, documents, grids, styles, values};
 
 /// A question whose expected output isn't complete yet.
 #[derive(Drop)]
 struct Waiting<'a> {
     question: &'a str,
-    /// Input of the program, or a script.
+    /// Input of the program, a script, or calls.
     input: String,
-    wanted: Wanted,
+    /// Expected output in the form of results: each printed line after `|`.
+    wanted: String,
+    /// Whether the last line of the expected output isn't ended yet.
+    is_open: bool,
+}
+
+/// A document that a script builds when it is first asked for.
+#[derive(Drop)]
+struct Page {
+    script: String,
+    dom: Option<RcDom>,
 }
 
 /// A case that is being played.
@@ -36,7 +37,7 @@ struct Waiting<'a> {
 struct Case<'a> {
     title: &'a str,
     page: Page,
-    /// Calls of the configuration, from the preset on.
+    /// Calls of the configuration, from the one that creates it on.
     calls: Vec<&'a str>,
     waiting: Option<Waiting<'a>>,
     /// Whether the case has a question that renders the document.
@@ -69,79 +70,21 @@ fn split_count(line: &str) -> Option<(usize, bool, &str)> {
     Some((digits.parse().ok()?, true, text))
 }
 
-/// Splits a line `repeat N CALL` with a call of a configuration; `None` for any other line.
-fn repeated_setting(line: &str) -> Option<(usize, &str)> {
-    let (count, call) = split_word(line.strip_prefix("repeat ")?);
-    if !is_setting(split_word(call).0) {
-        return None;
-    }
-    Some((count.parse().ok()?, call))
-}
-
-/// Reports whether a line begins with a sign that builds the document.
-fn has_sign(line: &str) -> bool {
+/// Reports whether a line is one of a script.
+fn is_of_script(line: &str) -> bool {
     matches!(
         line.as_bytes().first(),
-        Some(b'<' | b'>' | b'"' | b'\'' | b'@' | b'!' | b'?' | b'&')
+        Some(b'<' | b'>' | b'"' | b'@' | b'!')
     )
+}
+
+/// Reports whether a line creates a configuration.
+fn is_preset(line: &str) -> bool {
+    matches!(line, "plain" | "plain_no_decorate" | "rich") || line.starts_with("with_decorator ")
 }
 
 /// Expected output if a decorator or a colour map returns `OutOfMemory`.
 const REFUSED: &str = "OutOfMemory";
-
-impl Wanted {
-    /// Creates an empty expected output.
-    fn new(alloc: Global) -> Wanted {
-        Wanted {
-            lines: String::new(alloc),
-            is_open: false,
-        }
-    }
-
-    /// Appends a printed text to the last line, or begins a line with it.
-    fn print(&mut self, text: &str) -> Result<(), AllocError> {
-        if !self.is_open {
-            self.lines.push('|')?;
-        }
-        self.is_open = true;
-        self.lines.push_str(text)
-    }
-
-    /// Ends the line.
-    fn end_line(&mut self) -> Result<(), AllocError> {
-        self.is_open = false;
-        self.lines.push('\n')
-    }
-
-    /// Takes a line of expected output. Returns whether it is one.
-    fn take(&mut self, line: &str) -> Result<bool, AllocError> {
-        if let Some(text) = line.strip_prefix('|') {
-            self.print(text)?;
-            self.end_line()?;
-            return Ok(true);
-        }
-        if line == "TooNarrow"
-            || line == "Fail"
-            || line == REFUSED
-            || line.starts_with('~')
-            || line.starts_with("status ")
-        {
-            self.lines.push_str(line)?;
-            self.end_line()?;
-            return Ok(true);
-        }
-        let Some((count, is_line, text)) = split_count(line) else {
-            return Ok(false);
-        };
-        for _ in 0..count {
-            self.print(text)?;
-            if is_line {
-                self.end_line()?;
-            }
-        }
-        Ok(true)
-    }
-}
 
 impl<'a> Waiting<'a> {
     /// Creates a question without expected output.
@@ -149,8 +92,22 @@ impl<'a> Waiting<'a> {
         Waiting {
             question,
             input: String::new(alloc),
-            wanted: Wanted::new(alloc),
+            wanted: String::new(alloc),
+            is_open: false,
         }
+    }
+
+    /// Appends a printed text to the last line, or begins a line with it, and ends the line if the text is one of its own.
+    fn print(&mut self, text: &str, is_line: bool) -> Result<(), AllocError> {
+        if !self.is_open {
+            self.wanted.push('|')?;
+        }
+        self.wanted.push_str(text)?;
+        if is_line {
+            self.wanted.push('\n')?;
+        }
+        self.is_open = !is_line;
+        Ok(())
     }
 
     /// Takes a line of the input or of expected output. Returns whether it is one.
@@ -160,21 +117,57 @@ impl<'a> Waiting<'a> {
             self.input.push('\n')?;
         } else if let Some(text) = line.strip_prefix('.') {
             self.input.push_str(text)?;
+        } else if let Some(text) = line.strip_prefix('|') {
+            self.print(text, true)?;
+        } else if matches!(line, "TooNarrow" | "Fail" | "OutOfMemory")
+            || line.starts_with('~')
+            || line.starts_with("status ")
+        {
+            self.wanted.push_str(line)?;
+            self.wanted.push('\n')?;
+        } else if let Some((count, is_line, text)) = split_count(line) {
+            for _ in 0..count {
+                self.print(text, is_line)?;
+            }
         } else {
-            return self.wanted.take(line);
+            return Ok(false);
         }
         Ok(true)
     }
 }
 
+impl Page {
+    /// Appends a line of a script, or several with one space after each.
+    fn add(&mut self, line: &str, is_one: bool) -> Result<(), AllocError> {
+        self.dom = None;
+        for part in line.split(if is_one { '\n' } else { ' ' }) {
+            self.script.push_str(part)?;
+            self.script.push('\n')?;
+        }
+        Ok(())
+    }
+
+    /// Returns the document.
+    fn document(&mut self, alloc: Global, watch: Watch) -> Result<&RcDom, Fault> {
+        let dom = match mem::take(&mut self.dom) {
+            Some(dom) => dom,
+            None => built(alloc, &self.script, watch)?,
+        };
+        Ok(self.dom.insert(dom))
+    }
+}
+
 impl<'a> Case<'a> {
-    /// Creates a case with a new document and the configuration `plain`.
-    fn new(alloc: Global, title: &'a str, watch: Watch) -> Result<Case<'a>, Fault> {
+    /// Creates a case with an empty document and the configuration `plain`.
+    fn new(alloc: Global, title: &'a str) -> Result<Case<'a>, AllocError> {
         let mut calls = Vec::new(alloc);
         calls.push("plain")?;
         Ok(Case {
             title,
-            page: Page::new(alloc, watch)?,
+            page: Page {
+                script: String::new(alloc),
+                dom: None,
+            },
             calls,
             waiting: None,
             is_rendered: false,
@@ -189,33 +182,36 @@ impl<'a> Case<'a> {
             }
         }
         self.settle(alloc, played)?;
-        let (word, given) = split_word(line);
-        if line.is_empty() {
-            Ok(())
-        } else if let Some((count, call)) = repeated_setting(line) {
-            for _ in 0..count {
-                self.calls.push(call)?;
+        if let Some(repeated) = line.strip_prefix("repeat ") {
+            let (count, calls) = split_word(repeated);
+            for _ in 0..number(count)? {
+                self.call(calls, false)?;
             }
-            Ok(())
-        } else if has_sign(line) || word == "repeat" {
-            self.page.take(alloc, line, played.watch)
-        } else if is_preset(word) {
-            self.calls.clear();
-            Ok(self.calls.push(line)?)
-        } else if is_setting(word) {
-            Ok(self.calls.push(line)?)
-        } else if is_call(word) {
-            self.page.call(alloc, word, given, played.watch)
-        } else {
-            self.is_rendered = self.is_rendered || is_rendering(word);
+        } else if !line.is_empty() && !self.call(line, true)? {
+            self.is_rendered = self.is_rendered || is_rendering(split_word(line).0);
             self.waiting = Some(Waiting::new(alloc, line));
-            Ok(())
         }
+        Ok(())
+    }
+
+    /// Takes a line of a script, or several with one space after each, or a call of the configuration. Returns whether it is one.
+    fn call(&mut self, line: &'a str, is_one: bool) -> Result<bool, AllocError> {
+        if is_of_script(line) {
+            self.page.add(line, is_one)?;
+        } else if is_preset(line) {
+            self.calls.clear();
+            self.calls.push(line)?;
+        } else if is_setting(split_word(line).0) {
+            self.calls.push(line)?;
+        } else {
+            return Ok(false);
+        }
+        Ok(true)
     }
 
     /// Returns the result of a question, whose calls are made once.
     fn answer_once(
-        &self,
+        &mut self,
         alloc: Global,
         question: &str,
         input: &str,
@@ -229,49 +225,41 @@ impl<'a> Case<'a> {
                 script: input,
                 watch,
             };
-            return rendering::answer(alloc, &self.calls, &self.page.dom, question);
+            let dom = self.page.document(alloc, watch)?;
+            return rendering::answer(alloc, &self.calls, dom, question);
         }
         match asked {
-            "computed_style" => styles::answer(alloc, &self.calls, given, watch),
-            "RuleIndex::of" | "RuleIndex::computed_style" => {
-                styles::indexed(alloc, &self.calls, asked, given, watch)
+            "computed_style" | "RuleIndex::of" | "RuleIndex::computed_style" => {
+                styles::answer(alloc, &self.calls, asked, given, watch)
             }
-            "specificity" => styles::specificity(alloc, given, watch),
-            "for_element" => styles::for_element(alloc, given, watch),
-            "spans_are_valid" => tables::validity(alloc, given, watch),
-            "table_grid" => tables::grid(alloc, given, watch),
+            "specificity" | "for_element" => styles::specificity(alloc, asked, given, watch),
+            "spans_are_valid" | "table_grid" => grids::answer(alloc, asked, given, watch),
             "cut_fits" | "check_cut" | "column_widths" | "column_widths_metered" => {
-                tables::cut(alloc, asked, given, watch)
+                cuts::answer(alloc, asked, given, watch)
             }
             "decorator" => decorators::answer(alloc, given, watch),
             "htree" => programs::answer(alloc, given, input),
-            "built" => scripts::answer(alloc, input, watch),
-            _ if asked.contains("::") => values::answer(alloc, asked, given, watch),
-            _ => answers::answer(alloc, &self.page, asked, given, watch),
+            "built" => dump(alloc, input, watch),
+            "calls" => {
+                let mut dom = built(alloc, &self.page.script, Watch::nobody())?;
+                documents::answers(alloc, &mut dom, input, watch)
+            }
+            _ => values::answer(alloc, asked, given, watch),
         }
     }
 
-    /// Returns the result of a question.
-    ///
-    /// A watched question is repeated as long as it is out of memory. Each refused call must leave the document unchanged.
+    /// Returns the result of a question. A watched question is repeated as long as it is out of memory.
     fn answer(
-        &self,
+        &mut self,
         alloc: Global,
         question: &str,
         input: &str,
         watch: Watch,
     ) -> Result<String, Fault> {
-        if !watch.is_told() {
-            return self.answer_once(alloc, question, input, watch);
-        }
-        let before = seen(alloc, &self.page)?;
         for _ in 0..TRIES {
             match self.answer_once(alloc, question, input, watch) {
-                Err(Fault::Refused(Error::OutOfMemory)) => {}
+                Err(Fault::Refused(Error::OutOfMemory)) if watch.is_told() => {}
                 answer => return answer,
-            }
-            if seen(alloc, &self.page)? != before {
-                return Err(Fault::Malformed("a refused call changed the document"));
             }
         }
         Err(Fault::Refused(Error::OutOfMemory))
@@ -279,9 +267,10 @@ impl<'a> Case<'a> {
 
     /// Returns the result of a question.
     ///
-    /// If calls are watched, the calls that a rendering needs (preset, settings, conversion) are first watched on their own.
+    /// If calls are watched, the calls that a rendering needs (creation and settings of the configuration, conversion) are first
+    /// watched on their own.
     fn answer_all(
-        &self,
+        &mut self,
         alloc: Global,
         question: &str,
         input: &str,
@@ -304,7 +293,7 @@ impl<'a> Case<'a> {
             return Ok(());
         };
         let question = waiting.question;
-        let refuses = waiting.wanted.lines.as_str().trim_end() == REFUSED;
+        let refuses = waiting.wanted.as_str().trim_end() == REFUSED;
         let watch = if refuses {
             Watch::nobody()
         } else {
@@ -319,8 +308,8 @@ impl<'a> Case<'a> {
             }
             Err(fault) => return played.fail(question, &fault, self.title),
         };
-        if came != waiting.wanted.lines {
-            played.differ(question, &waiting.wanted.lines, &came, self.title)?;
+        if came != waiting.wanted {
+            played.differ(question, &waiting.wanted, &came, self.title)?;
         }
         Ok(())
     }
@@ -331,7 +320,7 @@ impl<'a> Case<'a> {
     /// watched.
     fn end(&mut self, alloc: Global, played: &mut Played) -> Result<(), AllocError> {
         self.settle(alloc, played)?;
-        if !self.is_rendered || played.watch.is_told() || self.page.dom.node_count() > LARGE {
+        if !self.is_rendered || played.watch.is_told() {
             return Ok(());
         }
         self.calls.retain(|call| *call != "allow_width_overflow" && *call != "no_link_wrapping");
@@ -341,7 +330,12 @@ impl<'a> Case<'a> {
             script: "",
             watch: Watch::nobody(),
         };
-        match rendering::answer(alloc, &self.calls, &self.page.dom, question) {
+        let came = match self.page.document(alloc, Watch::nobody()) {
+            Ok(dom) if dom.node_count() > LARGE => return Ok(()),
+            Ok(dom) => rendering::answer(alloc, &self.calls, dom, question),
+            Err(fault) => Err(fault),
+        };
+        match came {
             Ok(faults) if faults.is_empty() => Ok(()),
             Ok(faults) => played.differ("at each width", "", &faults, self.title),
             Err(Fault::Refused(Error::Fail)) => Ok(()),
@@ -399,11 +393,11 @@ impl Played {
 
     /// Plays the cases of a text.
     pub fn play(&mut self, alloc: Global, text: &str) -> Result<(), Fault> {
-        let mut case = Case::new(alloc, "(before the first title)", self.watch)?;
+        let mut case = Case::new(alloc, "(before the first title)")?;
         for line in text.split('\n') {
             if let Some(title) = line.strip_prefix("# ") {
                 case.end(alloc, self)?;
-                case = Case::new(alloc, title, self.watch)?;
+                case = Case::new(alloc, title)?;
                 self.count = self.count.saturating_add(1);
             } else if let Err(fault) = case.take(alloc, line, self) {
                 self.fail(line, &fault, case.title)?;

@@ -1,34 +1,13 @@
-//! Configurations, by the names of their calls.
+//! Calls that change a configuration, by their names.
 
-use crate::settings::{DecoratorName, Preset, Setting};
-use html_render_tree::config::ImageRenderMode;
+use html_render_tree::config::{Config, ImageRenderMode};
+use html_render_tree::decorate::TextDecorator;
 use html_render_tree::text::Text;
 use std::alloc::Global;
 use test_case_calls::faults::Fault;
 use test_case_calls::rules::rule;
 use test_case_calls::texts::{number, split_word, truth, unescaped};
 use test_case_calls::watch::Watch;
-
-/// Reports whether a word is the name of a call that creates a configuration.
-pub fn is_preset(word: &str) -> bool {
-    matches!(
-        word,
-        "plain" | "plain_no_decorate" | "rich" | "with_decorator"
-    )
-}
-
-/// Parses a call that creates a configuration.
-pub fn preset(line: &str) -> Result<Preset, Fault> {
-    match split_word(line) {
-        ("plain", _) => Ok(Preset::Plain),
-        ("plain_no_decorate", _) => Ok(Preset::PlainNoDecorate),
-        ("rich", _) => Ok(Preset::Rich),
-        (_, name) => match DecoratorName::of(name) {
-            Some(decorator) => Ok(Preset::WithDecorator(decorator)),
-            None => Err(Fault::Malformed("no decorator has this name")),
-        },
-    }
-}
 
 /// Reports whether a word is the name of a call that changes a configuration.
 pub fn is_setting(word: &str) -> bool {
@@ -51,75 +30,50 @@ pub fn is_setting(word: &str) -> bool {
     )
 }
 
-/// Parses a mode of images without a title.
-fn image_mode(alloc: Global, given: &str) -> Result<ImageRenderMode, Fault> {
-    match split_word(given) {
-        ("IgnoreEmpty", _) => Ok(ImageRenderMode::IgnoreEmpty),
-        ("ShowAlways", _) => Ok(ImageRenderMode::ShowAlways),
-        ("Filename", _) => Ok(ImageRenderMode::Filename),
-        ("Replace", text) => {
-            let title = unescaped(alloc, text)?;
-            Ok(ImageRenderMode::Replace(Text::from(title)))
-        }
-        _ => Err(Fault::Malformed("no mode of images has this name")),
-    }
-}
-
-/// Returns a copy of a mode.
-fn copy(alloc: Global, mode: &ImageRenderMode, watch: Watch) -> Result<ImageRenderMode, Fault> {
-    watch.begin("ImageRenderMode::try_clone");
-    let came = mode.try_clone(alloc);
-    watch.end(&came);
-    Ok(came?)
-}
-
-/// Parses a call that changes a configuration.
-fn setting(alloc: Global, line: &str, watch: Watch) -> Result<Setting, Fault> {
-    let (name, given) = split_word(line);
-    match name {
-        "pad_block_width" => Ok(Setting::PadBlockWidth),
-        "allow_width_overflow" => Ok(Setting::AllowWidthOverflow),
-        "fence_tables" => Ok(Setting::FenceTables),
-        "whole_words" => Ok(Setting::WholeWords),
-        "no_table_borders" => Ok(Setting::NoTableBorders),
-        "no_link_wrapping" => Ok(Setting::NoLinkWrapping),
-        "do_decorate" => Ok(Setting::DoDecorate),
-        "max_wrap_width" => Ok(Setting::MaxWrapWidth(number(given)?)),
-        "min_wrap_width" => Ok(Setting::MinWrapWidth(number(given)?)),
-        "raw_mode" => Ok(Setting::RawMode(truth(given)?)),
-        "unicode_strikeout" => Ok(Setting::UnicodeStrikeout(truth(given)?)),
-        "link_footnotes" => Ok(Setting::LinkFootnotes(truth(given)?)),
-        "empty_img_mode" => {
-            let mode = image_mode(alloc, given)?;
-            Ok(Setting::EmptyImgMode(copy(alloc, &mode, watch)?))
-        }
-        "add_style_rule" => Ok(Setting::AddStyleRule(rule(alloc, given)?)),
-        _ => Err(Fault::Malformed("no setting has this name")),
-    }
-}
-
-/// Calls that change a configuration.
-#[derive(Drop)]
-pub struct NamedSettings<'a> {
-    /// Name for a watch: that of the call if there is exactly one, otherwise `with_settings`.
-    pub name: &'a str,
-    /// Calls, in order.
-    pub calls: Vec<Setting>,
-}
-
-/// Parses calls that change a configuration.
-pub fn settings<'a>(
-    alloc: Global,
-    lines: &[&'a str],
-    watch: Watch,
-) -> Result<NamedSettings<'a>, Fault> {
-    let mut calls = Vec::new(alloc);
-    for line in lines {
-        calls.push(setting(alloc, line, watch)?)?;
-    }
-    let name = match lines {
-        [line] => split_word(line).0,
-        _ => "with_settings",
+/// Parses a mode of images without a title, and returns a copy of it.
+fn image_mode(alloc: Global, given: &str, watch: Watch) -> Result<ImageRenderMode, Fault> {
+    let mode = match split_word(given) {
+        ("IgnoreEmpty", _) => ImageRenderMode::IgnoreEmpty,
+        ("ShowAlways", _) => ImageRenderMode::ShowAlways,
+        ("Filename", _) => ImageRenderMode::Filename,
+        ("Replace", text) => ImageRenderMode::Replace(Text::from(unescaped(alloc, text)?)),
+        _ => return Err(Fault::Malformed("no mode of images has this name")),
     };
-    Ok(NamedSettings { name, calls })
+    watch
+        .begin("ImageRenderMode::try_clone")
+        .end(mode.try_clone(alloc))
+}
+
+/// Returns a configuration after a call. What the call takes is made before the call is watched.
+pub fn with_setting<D: TextDecorator>(
+    alloc: Global,
+    config: Config<D>,
+    line: &str,
+    watch: Watch,
+) -> Result<Config<D>, Fault> {
+    let (name, given) = split_word(line);
+    let added = rule(alloc, if name == "add_style_rule" { given } else { "" })?;
+    let mode = match name {
+        "empty_img_mode" => image_mode(alloc, given, watch)?,
+        _ => ImageRenderMode::IgnoreEmpty,
+    };
+    watch.begin(name);
+    let came = match name {
+        "pad_block_width" => Ok(config.pad_block_width()),
+        "allow_width_overflow" => Ok(config.allow_width_overflow()),
+        "fence_tables" => Ok(config.fence_tables()),
+        "whole_words" => Ok(config.whole_words()),
+        "no_table_borders" => Ok(config.no_table_borders()),
+        "no_link_wrapping" => Ok(config.no_link_wrapping()),
+        "max_wrap_width" => Ok(config.max_wrap_width(number(given)?)),
+        "min_wrap_width" => Ok(config.min_wrap_width(number(given)?)),
+        "raw_mode" => Ok(config.raw_mode(truth(given)?)),
+        "unicode_strikeout" => Ok(config.unicode_strikeout(truth(given)?)),
+        "link_footnotes" => Ok(config.link_footnotes(truth(given)?)),
+        "empty_img_mode" => Ok(config.empty_img_mode(mode)),
+        "do_decorate" => config.do_decorate(alloc),
+        "add_style_rule" => config.add_style_rule(alloc, added),
+        _ => return Err(Fault::Malformed("no setting has this name")),
+    };
+    watch.end(came)
 }

@@ -31,10 +31,9 @@ pub fn displayed(alloc: Global, tree: &RenderTree, watch: Watch) -> Result<Strin
     let mut left = Left {
         text: text.as_str(),
     };
-    watch.begin("display");
-    let came = write!(left, "{tree}").map_err(|_| Error::OutOfMemory);
-    watch.end(&came);
-    came?;
+    watch
+        .begin("display")
+        .end(write!(left, "{tree}").map_err(|_| Error::OutOfMemory))?;
     if !left.text.is_empty() {
         return Err(Fault::Malformed("a tree is displayed in two ways"));
     }

@@ -1,39 +1,24 @@
-//! Plays cases: documents that calls build, and questions about them with the expected output.
+//! Plays cases: documents that scripts build, calls of a configuration, and questions with the expected output.
 //!
 //! The program's words are files of cases. Without words it plays all files of the current directory. If the first word is
 //! `watched`, it reports each call before and after it ([`Watch`]). A watched call is repeated as long as it is out of
-//! memory, and each refused call must leave the document unchanged.
+//! memory.
 //!
-//! A file of `data/` has the cases of one subject. A line `# TITLE` begins a case, with a new document and the
-//! configuration `plain`. Each further line is a call or a question; the expected output follows a question. Empty lines
-//! are skipped.
+//! A file of `data/` has the cases of one subject. A line `# TITLE` begins a case, with an empty script and the
+//! configuration `plain`. Each further line belongs to the script, is a call of the configuration, or is a question; the
+//! expected output follows a question. Empty lines are skipped.
 //!
-//! # Calls
+//! # Scripts and calls
 //!
-//! Signs build the document as in the scripts of `htree`. At first the document node is current.
+//! The lines of a script begin with `<`, `>`, `"`, `@` or `!`, as in the scripts of `htree`. The document is built from all
+//! of them that precede a question. `repeat N LINE LINE ..` is these lines `N` times.
 //!
-//! | Line | Call |
-//! |---|---|
-//! | `<name`, `<svg:name`, `<{mathml}name` | Appends an element and makes it current. |
-//! | `<name@a=v@b=w` | Appends an element with attributes and makes it current. |
-//! | `@name=value` | Adds an attribute to the current element, unless it has one with this name. |
-//! | `"text` | Appends a text. It is joined to a text before it. |
-//! | `'text` | Appends a text as a node of its own. |
-//! | `!comment`, `?target` | Appends a comment or a processing instruction. |
-//! | `>` | Makes the parent current. |
-//! | `&name` | Gives the current node a name. |
-//! | `repeat N CALL CALL ..` | Makes these calls `N` times. |
+//! The calls of a configuration are written by their names: `rich`, `max_wrap_width 10`,
+//! `add_style_rule Author p.note#id::before important Content text`, .. One that creates a configuration, such as `plain`,
+//! begins it anew. `repeat N CALL` makes a call `N` times. The declarations of a rule follow each other, `Content` last.
 //!
-//! The braces of a name have `html`, `svg`, `mathml`, `none` or another namespace. Texts, comments and values have the
-//! escapes `\n` and `\\`. The name of the document node is `document`.
-//!
-//! The other calls of `RcDom` are written by their names: `append p "text`, `append_before_sibling s c`,
-//! `create_element e em@id=i template`, .. So are the calls of a configuration: `rich`, `max_wrap_width 10`,
-//! `add_style_rule Author p.note#id::before important Content text`, .. A preset, such as `plain`, begins the configuration
-//! anew. `repeat N CALL` makes a call of a configuration `N` times. The declarations of a rule follow each other, `Content`
-//! last.
-//!
-//! `with_decorator refusing:CALL` is plain text, except that this call of the decorator returns `OutOfMemory`.
+//! `with_decorator` has the name of a decorator: `plain`, `rich`, or one of this crate. `with_decorator refusing:CALL` is
+//! plain text, except that this call of the decorator returns `OutOfMemory`.
 //!
 //! # Questions
 //!
@@ -48,21 +33,21 @@
 //! | `render_coloured numbered` | a width; each string is in angle brackets, after the number of the map's call |
 //! | `render_coloured refusing` | a width and a text for which the colour map returns `OutOfMemory` |
 //! | `dom_to_render_tree`, `try_clone` | the display of the render tree, or of its copy |
-//! | `dom_into_render_tree` | a script; the display of the render tree |
+//! | `dom_into_render_tree` | another script; the display of the render tree |
 //! | `sweep` | checks of the text at each width from 1 to 40, for the characters of all texts; a line for each width with a fault, its first |
-//! | each query of `RcDom` | names of nodes and numbers; nodes by their names, `true` or `false`, or lines of text |
-//! | `computed_style`, `RuleIndex::of`, `RuleIndex::computed_style` | an element; each property of its style |
+//! | `computed_style`, `RuleIndex::of`, `RuleIndex::computed_style` | an element, as `p@class=a`; each property of its style |
 //! | `specificity`, `for_element` | a rule, an element name; the specificity |
 //! | `decorator` | `plain` or `rich`, and a call with its arguments |
 //! | `table_grid`, `spans_are_valid` | the spans of rows: `3x1 2x2 / 1x1`, and `-` for a row without cells |
 //! | `column_widths`, `column_widths_metered`, `cut_fits` | minimums, shares and width: `3 3 / 9 4 / 10` |
 //! | `check_cut` | minimums, shares, width and a cut |
 //! | calls of names, attributes and texts | `TextContents::push_str a b`, .. |
+//! | `calls` | calls on the document, with the numbers of nodes: `append_before_sibling 4 2`, `append 1 "text`, `children? 1`; the answers to those with `?` |
 //! | `built` | a script; the dump of its document, or its first faulty line |
 //! | `htree` | words and an input; its output as far as it is flushed, its faults and status |
 //!
-//! In lists of numbers `5*3` is five times 3. The lines of a script or an input follow the question, each after `:`, or
-//! after `.` for one without its line feed.
+//! In lists of numbers `5*3` is five times 3. The lines of another script, of calls or of an input follow the question, each
+//! after `:`, or after `.` for one without its line feed. Calls and the answers to them may alternate.
 //!
 //! At the end of a case, a document that was rendered is also checked at each width from 1 to 40, for the characters of its
 //! text at a great width. A document of more than 5,000 nodes isn't checked, and none is if calls are watched.
@@ -78,11 +63,9 @@ mod cases;
 mod configs;
 mod decorators;
 mod display;
+mod documents;
 mod programs;
-mod refusing;
 mod rendering;
-mod scripts;
-mod settings;
 mod sweeps;
 
 use cases::Played;

@@ -1,13 +1,11 @@
 //! Questions about the conversion and the rendering of a document under a configuration.
 
-ghost use Rattle.std.specs.Prelude.{◌≡◌};
 ghost use Rattle.html_render_dom_values.specs.Outcome.{OnlyOutOfMemory};
 
-use crate::configs::{NamedSettings, preset, settings};
+use crate::configs::with_setting;
+use crate::decorators::Own;
 use crate::display::displayed;
-use crate::refusing::plain_but;
-use crate::scripts::document;
-use crate::settings::{DecoratorName, Preset, with_settings};
+use crate::documents::built;
 use crate::sweeps::{Kept, sweep};
 use html_render_tree::Error;
 use html_render_tree::block::{TaggedLine, TaggedLineElement};
@@ -54,109 +52,109 @@ pub struct Question<'a> {
     pub watch: Watch,
 }
 
-/// Returns the result of a question under the configuration that these calls make. The first one is its preset.
+/// Returns the result of a question under the configuration that these calls make. The first one creates it.
 pub fn answer(
     alloc: Global,
     calls: &[&str],
     dom: &RcDom,
     question: Question<'_>,
 ) -> Result<String, Fault> {
-    let Some((first, others)) = calls.split_first() else {
+    let Some((first, settings)) = calls.split_first() else {
         return Err(Fault::Malformed("no call makes a configuration"));
     };
-    let watch = question.watch.only_if(question.asked == "settings");
-    let settings = settings(alloc, others, watch)?;
-    if let Some(name) = first.strip_prefix("with_decorator refusing:") {
-        let config = with_decorator(alloc, plain_but(name));
-        return answer_under(alloc, config, settings, dom, question);
-    }
-    match preset(first)? {
-        Preset::Plain => {
-            let watch = question.watch.only_if(question.asked == "preset");
-            watch.begin("plain");
-            let came = plain(alloc);
-            watch.end(&came);
-            answer_under(alloc, came?, settings, dom, question)
+    let watch = question.watch.only_if(question.asked == "preset");
+    match split_word(first) {
+        ("plain", _) => {
+            let config = watch.begin("plain").end(plain(alloc))?;
+            answer_under(alloc, config, settings, dom, question)
         }
-        Preset::PlainNoDecorate => {
+        ("plain_no_decorate", _) => {
             answer_under(alloc, plain_no_decorate(alloc), settings, dom, question)
         }
-        Preset::Rich => answer_under(alloc, rich(alloc), settings, dom, question),
-        Preset::WithDecorator(name) => answer_decorated(alloc, name, settings, dom, question),
-    }
-}
-
-/// Returns the result of a question under a configuration with the decorator of this name.
-fn answer_decorated(
-    alloc: Global,
-    name: DecoratorName,
-    settings: NamedSettings<'_>,
-    dom: &RcDom,
-    question: Question<'_>,
-) -> Result<String, Fault> {
-    match name {
-        DecoratorName::Plain => {
+        ("rich", _) => answer_under(alloc, rich(alloc), settings, dom, question),
+        (_, "plain") => {
             let config = with_decorator(alloc, PlainDecorator::new());
             answer_under(alloc, config, settings, dom, question)
         }
-        DecoratorName::Rich => {
+        (_, "rich") => {
             let config = with_decorator(alloc, RichDecorator::new());
             answer_under(alloc, config, settings, dom, question)
         }
-        DecoratorName::Own(own) => {
-            answer_under(
-                alloc,
-                with_decorator(alloc, own.decorator()),
-                settings,
-                dom,
-                question,
-            )
+        (_, name) => {
+            let config = with_decorator(alloc, Own::decorator(name)?);
+            answer_under(alloc, config, settings, dom, question)
         }
     }
 }
 
-/// Returns the result of a question under a configuration after these settings.
+/// Returns the result of a question under a configuration after these settings. For the question `settings` the last one is
+/// watched.
 fn answer_under<D: TextDecorator>(
     alloc: Global,
     config: Config<D>,
-    settings: NamedSettings<'_>,
+    settings: &[&str],
     dom: &RcDom,
     question: Question<'_>,
 ) -> Result<String, Fault>
 where
     D::Annotation: Shown,
 {
-    let watch = question.watch.only_if(question.asked == "settings");
-    watch.begin(settings.name);
-    let came = with_settings(alloc, config, settings.calls);
-    watch.end(&came);
-    let config = came?;
+    let watch = question.watch;
+    let mut config = config;
+    if let Some((last, others)) = settings.split_last() {
+        for line in others {
+            config = with_setting(alloc, config, line, Watch::nobody())?;
+        }
+        let watch = watch.only_if(question.asked == "settings");
+        config = with_setting(alloc, config, last, watch)?;
+    }
     match question.asked {
         "preset" | "settings" => Ok(String::new(alloc)),
         "sweep" => sweep(alloc, config, dom, Kept::Texts),
         "sweep_shown" => sweep(alloc, config, dom, Kept::Shown),
         "dom_to_render_tree" => {
-            question.watch.begin("dom_to_render_tree");
-            let came = config.dom_to_render_tree(alloc, dom);
-            question.watch.end(&came);
-            displayed(alloc, &came?, question.watch)
+            let tree = watch
+                .begin(question.asked)
+                .end(config.dom_to_render_tree(alloc, dom))?;
+            displayed(alloc, &tree, watch)
         }
         "dom_into_render_tree" => {
-            let dom = document(alloc, question.script)?;
-            question.watch.begin("dom_into_render_tree");
-            let came = config.dom_into_render_tree(alloc, dom);
-            question.watch.end(&came);
-            displayed(alloc, &came?, question.watch)
+            let dom = built(alloc, question.script, Watch::nobody())?;
+            let tree = watch
+                .begin(question.asked)
+                .end(config.dom_into_render_tree(alloc, dom))?;
+            displayed(alloc, &tree, watch)
         }
+        "try_clone" => copy(alloc, config.dom_to_render_tree(alloc, dom)?, watch),
         _ => {
             let tree = config.dom_to_render_tree(alloc, dom)?;
-            answer_of(alloc, &config, tree, question)
+            rendered(alloc, &config, tree, question)
         }
     }
 }
 
-/// Returns the result of a question about a render tree.
-fn answer_of<D: TextDecorator>(
+/// Returns the display of a copy of a render tree, after the tree itself is dropped.
+fn copy(alloc: Global, tree: RenderTree, watch: Watch) -> Result<String, Fault> {
+    let copy = watch
+        .begin("RenderTree::try_clone")
+        .end(tree.try_clone(alloc))?;
+    watch.begin("drop").end(Ok(drop(tree)))?;
+    displayed(alloc, &copy, watch)
+}
+
+/// Returns the name of a call, or another one at width 0, where the call makes no allocation.
+fn name_at(asked: &str, width: usize) -> &str {
+    match asked {
+        "render_to_string" if width == 0 => "render_to_string 0",
+        "render_to_lines" if width == 0 => "render_to_lines 0",
+        "render_to_lines_metered" if width == 0 => "render_to_lines_metered 0",
+        "render_coloured" if width == 0 => "render_coloured 0",
+        _ => asked,
+    }
+}
+
+/// Returns the result of rendering a tree.
+fn rendered<D: TextDecorator>(
     alloc: Global,
     config: &Config<D>,
     tree: RenderTree,
@@ -165,45 +163,72 @@ fn answer_of<D: TextDecorator>(
 where
     D::Annotation: Shown,
 {
-    let (given, watch) = (question.given, question.watch);
-    match question.asked {
-        "try_clone" => copy(alloc, tree, watch),
-        "render_to_string" => text(alloc, config, tree, number(given)?, watch),
-        "render_to_lines" => lines(alloc, config, tree, number(given)?, watch),
-        "render_to_lines_metered" => metered(alloc, config, tree, number(given)?, watch),
-        _ => coloured(alloc, config, tree, given, watch),
+    let (asked, watch) = (question.asked, question.watch);
+    let (map, given) = match asked {
+        "render_coloured" => split_word(question.given),
+        _ => ("", question.given),
+    };
+    let (width, refused) = split_word(given);
+    let width = number(width)?;
+    watch.begin(name_at(asked, width));
+    match asked {
+        "render_to_string" => {
+            let text = watch.end(config.render_to_string(alloc, tree, width))?;
+            printed(alloc, &text)
+        }
+        "render_to_lines" => {
+            let lines = watch.end(config.render_to_lines(alloc, tree, width))?;
+            let mut shown = String::new(alloc);
+            for line in &lines {
+                push_line(&mut shown, line)?;
+            }
+            Ok(shown)
+        }
+        "render_to_lines_metered" => {
+            let mut meter = Meter::default();
+            let came = config.render_to_lines_metered(alloc, tree, width, &mut meter);
+            let refusal = match watch.end(came) {
+                Ok(_lines) => "",
+                Err(Fault::Refused(Error::TooNarrow)) => "TooNarrow\n",
+                Err(fault) => return Err(fault),
+            };
+            let (entered, left, frames) = (meter.entered, meter.left, meter.frames);
+            Ok(format!(in alloc; "{refusal}|entered {entered}, left {left}, frames {frames}\n")?)
+        }
+        _ => {
+            let mut calls = 0;
+            let came = config.render_coloured(
+                alloc,
+                tree,
+                width,
+                |annotations: &[D::Annotation], text: &str| {
+                    calls = next(calls);
+                    let number = if map == "numbered" {
+                        calls
+                    } else {
+                        annotations.len()
+                    };
+                    coloured(alloc, number, text, refused)
+                },
+            );
+            printed(alloc, &watch.end(came)?)
+        }
     }
 }
 
-/// Returns the display of a copy of a render tree, after the tree itself is dropped.
-fn copy(alloc: Global, tree: RenderTree, watch: Watch) -> Result<String, Fault> {
-    watch.begin("RenderTree::try_clone");
-    let came = tree.try_clone(alloc);
-    watch.end(&came);
-    let copy = came?;
-    watch.begin("drop");
-    drop(tree);
-    watch.end(&Ok(()));
-    displayed(alloc, &copy, watch)
+/// Returns the next number of a call.
+fn next(calls: usize) -> usize {
+    calls.saturating_add(1)
 }
 
-/// Returns the name of a call, or another one at width 0, where the call makes no allocation.
-fn at_width(call: &'static str, at_none: &'static str, width: usize) -> &'static str {
-    if width == 0 { at_none } else { call }
-}
-
-/// Returns the lines of a render tree's text.
-fn text<D: TextDecorator>(
-    alloc: Global,
-    config: &Config<D>,
-    tree: RenderTree,
-    width: usize,
-    watch: Watch,
-) -> Result<String, Fault> {
-    watch.begin(at_width("render_to_string", "render_to_string 0", width));
-    let came = config.render_to_string(alloc, tree, width);
-    watch.end(&came);
-    printed(alloc, &came?)
+/// Returns `<number:text>`; `OutOfMemory` for the text `refused`.
+fn coloured(alloc: Global, number: usize, text: &str, refused: &str) -> Result<String, Error>
+    ensures err { OnlyOutOfMemory result }
+{
+    if text == refused {
+        return Err(Error::OutOfMemory);
+    }
+    Ok(format!(in alloc; "<{number}:{text}>")?)
 }
 
 /// Appends a tagged line: each string after its annotations, and each name of a mark in angle brackets.
@@ -231,116 +256,4 @@ fn push_annotations<A: Shown>(shown: &mut String, annotations: &[A]) -> Result<(
         annotation.push_to(shown)?;
     }
     shown.push('}')
-}
-
-/// Returns the tagged lines of a render tree, as printed lines.
-fn lines<D: TextDecorator>(
-    alloc: Global,
-    config: &Config<D>,
-    tree: RenderTree,
-    width: usize,
-    watch: Watch,
-) -> Result<String, Fault>
-where
-    D::Annotation: Shown,
-{
-    watch.begin(at_width("render_to_lines", "render_to_lines 0", width));
-    let came = config.render_to_lines(alloc, tree, width);
-    watch.end(&came);
-    let mut shown = String::new(alloc);
-    for line in &came? {
-        push_line(&mut shown, line)?;
-    }
-    Ok(shown)
-}
-
-/// Returns the line of the meter's counts for a layout. If that is too narrow, a line `TooNarrow` precedes it.
-fn metered<D: TextDecorator>(
-    alloc: Global,
-    config: &Config<D>,
-    tree: RenderTree,
-    width: usize,
-    watch: Watch,
-) -> Result<String, Fault> {
-    let mut meter = Meter::default();
-    watch.begin(at_width(
-        "render_to_lines_metered",
-        "render_to_lines_metered 0",
-        width,
-    ));
-    let came = config.render_to_lines_metered(alloc, tree, width, &mut meter);
-    watch.end(&came);
-    let refusal = match came {
-        Ok(_lines) => "",
-        Err(Error::TooNarrow) => "TooNarrow\n",
-        Err(error) => return Err(Fault::Refused(error)),
-    };
-    let (entered, left, frames) = (meter.entered, meter.left, meter.frames);
-    Ok(format!(in alloc; "{refusal}|entered {entered}, left {left}, frames {frames}\n")?)
-}
-
-/// Returns `<n:text>` for a text with n annotations; `OutOfMemory` for the text `refused`.
-fn in_angles<A>(
-    alloc: Global,
-    annotations: &[A],
-    text: &str,
-    refused: &str,
-) -> Result<String, Error>
-    ensures err { OnlyOutOfMemory result }
-{
-    if text == refused {
-        return Err(Error::OutOfMemory);
-    }
-    let count = annotations.len();
-    Ok(format!(in alloc; "<{count}:{text}>")?)
-}
-
-/// Returns `<n:text>` for the text of the map's n-th call, and counts the call.
-fn numbered(alloc: Global, calls: &mut u64, text: &str) -> Result<String, Error>
-    ensures err { OnlyOutOfMemory result }
-{
-    *calls = calls.saturating_add(1);
-    let number = *calls;
-    Ok(format!(in alloc; "<{number}:{text}>")?)
-}
-
-/// Returns the lines of a render tree's text under a colour map: `angles WIDTH`; `numbered WIDTH`, which numbers its calls; or
-/// `refusing WIDTH TEXT`, which returns `OutOfMemory` for that text.
-fn coloured<D: TextDecorator>(
-    alloc: Global,
-    config: &Config<D>,
-    tree: RenderTree,
-    given: &str,
-    watch: Watch,
-) -> Result<String, Fault> {
-    let (map, given) = split_word(given);
-    let (width, refused) = split_word(given);
-    if map != "angles" && map != "numbered" && map != "refusing" {
-        return Err(Fault::Malformed("no map has this name"));
-    }
-    let width = number(width)?;
-    watch.begin(at_width("render_coloured", "render_coloured 0", width));
-    let came = if map == "numbered" {
-        let mut calls = 0;
-        config.render_coloured(
-            alloc,
-            tree,
-            width,
-            |_annotations: &[D::Annotation], text: &str| numbered(alloc, &mut calls, text),
-        )
-    } else {
-        config.render_coloured(
-            alloc,
-            tree,
-            width,
-            |annotations: &[D::Annotation], text: &str| in_angles(
-                alloc,
-                annotations,
-                text,
-                refused,
-            ),
-        )
-    };
-    watch.end(&came);
-    printed(alloc, &came?)
 }
