@@ -6,8 +6,7 @@
  *
  * Without REFUSED_GROWTH, growths are refused call by call. On standard output the program writes a line "call NAME" before a
  * call, and a line "came RESULT" after it. It repeats a refused call. At first the call's first growth is refused, then its
- * second one, and so on, until the call meets no refusal. A line "refused N" follows each "came". Calls whose names begin with
- * UNREFUSED meet no refusal: several of them may belong to one question, which is repeated from its first call on.
+ * second one, and so on, until the call meets no refusal. A line "refused N" follows each "came".
  *
  * A list whose growth is refused asks again at once, for no more than it needs. So the growth after a refused one is refused
  * too or, with THE_REST_TOO=1, all that follow. */
@@ -23,7 +22,6 @@ void *__libc_malloc(size_t), *__libc_calloc(size_t, size_t), *__libc_realloc(voi
 
 static long wanted = 1, count, refused;
 static int is_started, is_whole, is_naming, is_counting, rest_too;
-static char named[256];
 
 static void start(void) {
     const char *growth = getenv("REFUSED_GROWTH");
@@ -58,24 +56,17 @@ void *realloc(void *old, size_t size) { return refuses() ? NULL : __libc_realloc
 void *aligned_alloc(size_t to, size_t size) { return refuses() ? NULL : __libc_memalign(to, size); }
 int posix_memalign(void **got, size_t to, size_t size) { return (*got = aligned_alloc(to, size)) ? 0 : ENOMEM; }
 
-static void name(const char *text, size_t length) {
-    const char *unrefused = getenv("UNREFUSED");
-    size_t had = strlen(named), more = length < sizeof named - had ? length : 0;
-    memcpy(named + had, text, more);
-    named[had + more] = 0;
-    if (text[length - 1] != '\n') return;
-    is_naming = 0;
-    is_counting = !unrefused || strncmp(named + 5, unrefused, strlen(unrefused));
-    count = refused = 0;
-}
-
 ssize_t write(int to, const void *text, size_t length) {
     int is_call = to == 1 && length >= 5 && !memcmp(text, "call ", 5), is_end = to == 1 && length >= 5 && !memcmp(text, "came ", 5);
     ssize_t written = syscall(SYS_write, to, text, length);
     start();
     if (is_whole || to != 1 || !length) return written;
-    if (is_call) is_naming = 1, named[0] = 0;
-    if (is_naming) name(text, length);
+    if (is_call) is_naming = 1;
+    if (is_naming && ((const char *)text)[length - 1] == '\n') {
+        is_naming = 0;
+        is_counting = 1;
+        count = refused = 0;
+    }
     if (is_end) {
         tell(1);
         if (is_counting) wanted = refused ? wanted + 1 : 1;

@@ -1,5 +1,6 @@
 /* Records each call that edits a document, and checks the text in 20 columns: of elements, comments and instructions,
- * texts, moves, templates, and names of other namespaces. */
+ * texts, moves, templates, and names of other namespaces. Gives elements attributes of one local name in several
+ * namespaces, which rendering doesn't tell apart, and checks which of them counts. */
 #include "html_render.h"
 
 #include <stdio.h>
@@ -195,6 +196,107 @@ static void attributes(void) {
     html_render_drop(page);
 }
 
+/* Gives an element attributes: names and values, up to NULL. Those of one name are in namespaces of their own. */
+static void give(html_render_recording *page, html_render_node node, const char *const *fields) {
+    static const uint32_t SPACES[] = {HTML_RENDER_NO_NAMESPACE, HTML_RENDER_HTML, HTML_RENDER_SVG, HTML_RENDER_MATHML};
+    int i, j, before;
+    for (i = 0; fields[i]; i += 2) {
+        for (before = 0, j = 0; j < i; j += 2)
+            before += !strcmp(fields[i], fields[j]);
+        html_render_attribute(page, node, SPACES[before], fields[i], strlen(fields[i]), fields[i + 1],
+                              strlen(fields[i + 1]));
+    }
+}
+
+/* Expects the records of the line of rich text of an image with these attributes. */
+static void expect_image(const char *const *fields, char source, char title, const char *what) {
+    /* a line, and a string of one annotation: an image with a source of a byte; then a title of a byte */
+    char wanted[] = "LS\1\0\0\0i\1\0\0\0?\1\0\0\0?";
+    html_render_recording *page = html_render_new();
+    char *records;
+    size_t length;
+    wanted[11] = source;
+    wanted[16] = title;
+    give(page, child(page, 0, "img", NULL), fields);
+    checked++;
+    if (html_render_lines_of(page, HTML_RENDER_RICH, 20, &records, &length) != HTML_RENDER_OK ||
+        length != sizeof wanted - 1 || memcmp(records, wanted, length)) {
+        printf("edits: %s\n", what);
+        failed = 1;
+    }
+    html_render_free(records);
+    html_render_drop(page);
+}
+
+/* Expects the text of an image with these attributes, and without a title. */
+static void expect_file(const char *const *fields, const char *wanted, const char *what) {
+    html_render_recording *page = html_render_new();
+    give(page, child(page, 0, "img", NULL), fields);
+    html_render_set(page, HTML_RENDER_EMPTY_IMG_MODE, HTML_RENDER_IMAGE_FILENAME, NULL);
+    expect_text(page, wanted, what);
+    html_render_drop(page);
+}
+
+/* Of the sources and the titles of an image, those up to the first of the other kind count, the last one of them. */
+static void images(void) {
+    static const char *const TWO[] = {"src", "s", "src", "t", NULL};
+    static const char *const EMPTY[] = {"src", "s", "src", "", NULL};
+    static const char *const BOTH[] = {"alt", "a", "alt", "b", "src", "s", "src", "t", NULL};
+    static const char *const SOURCES[] = {"src", "s", "src", "t", "alt", "a", "src", "u", "alt", "b", NULL};
+    static const char *const TITLES[] = {"alt", "a", "alt", "", "alt", "b", "alt", "", "src", "s", NULL};
+    expect_file(TWO, "[t]\n", "of two sources before any title the last counts");
+    expect_file(EMPTY, "[s]\n", "an empty source behind another doesn't count");
+    expect_image(BOTH, 's', 'b', "a title and a source are read until both are there");
+    expect_image(SOURCES, 't', 'a', "sources up to the first title count, the last one of them");
+    expect_image(TITLES, 's', 'b', "titles up to the first source count, the last one that isn't empty");
+}
+
+/* The first of two targets, and of two starts of a list, counts. */
+static void firsts(void) {
+    static const char *const TARGETS[] = {"href", "u", "href", "v", NULL};
+    static const char *const STARTS[] = {"start", "3", "start", "4", NULL};
+    static const char *const BAD_STARTS[] = {"start", "x", "start", "4", NULL};
+    html_render_recording *page = html_render_new();
+    html_render_node list = child(page, 0, "ol", NULL);
+    child(page, list, "li", "a");
+    give(page, list, STARTS);
+    list = child(page, 0, "ol", NULL);
+    child(page, list, "li", "a");
+    give(page, list, BAD_STARTS);
+    give(page, child(page, 0, "a", "k"), TARGETS);
+    html_render_set(page, HTML_RENDER_LINK_FOOTNOTES, 1, NULL);
+    expect_text(page, "3. a\n1. a\n[k][1]\n\n[1]: u\n", "the first of two targets and of two starts counts");
+    html_render_drop(page);
+}
+
+/* box drawings of a table */
+#define LINE "\xe2\x94\x80"
+#define BAR "\xe2\x94\x82"
+#define DOWN "\xe2\x94\xac"
+#define UP "\xe2\x94\xb4"
+#define CROSS "\xe2\x94\xbc"
+
+/* The last of two colspans counts, also if it is no number. */
+static void colspans(void) {
+    static const char *const FIRST[] = {"colspan", "2", "colspan", "+3", "rowspan", "0", NULL};
+    static const char *const SECOND[] = {"colspan", "2", "colspan", "x", NULL};
+    static const char *const THIRD[] = {"colspan", "", "rowspan", "02", NULL};
+    html_render_recording *page = html_render_new();
+    html_render_node body = child(page, child(page, 0, "table", NULL), "tbody", NULL), row = child(page, body, "tr", NULL);
+    give(page, child(page, row, "td", "a"), FIRST);
+    give(page, child(page, row, "td", "b"), SECOND);
+    give(page, child(page, row, "td", "c"), THIRD);
+    row = child(page, body, "tr", NULL);
+    child(page, row, "td", "d");
+    child(page, row, "td", "e");
+    child(page, row, "td", "f");
+    child(page, row, "td", "g");
+    expect_text(page, LINE LINE LINE LINE LINE DOWN LINE DOWN LINE "\na    " BAR "b" BAR "c\n" LINE DOWN LINE DOWN LINE CROSS LINE CROSS
+                LINE "\nd" BAR "e" BAR "f" BAR "g" BAR " \n" LINE UP LINE UP LINE UP LINE UP LINE "\n",
+                "what each colspan makes of a row");
+    html_render_drop(page);
+}
+
 int main(void) {
     appended();
     texts_before();
@@ -207,6 +309,9 @@ int main(void) {
     hidden();
     namespaces();
     attributes();
+    images();
+    firsts();
+    colspans();
     if (!failed)
         printf("%d texts\n", checked);
     return failed;

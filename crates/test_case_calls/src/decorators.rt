@@ -48,6 +48,21 @@ fn targets(alloc: Global, words: &str, watch: Watch) -> Result<Vec<Text>, Fault>
     Ok(targets)
 }
 
+/// Returns a text as what a call returns.
+fn text<A: Drop>(came: Result<String, Error>) -> Result<Reply<A>, Error> {
+    Ok(Reply::Text(came?))
+}
+
+/// Returns a text and an annotation as what a call returns.
+fn start<A: Drop>(came: Result<(String, A), Error>) -> Result<Reply<A>, Error> {
+    Ok(Reply::Start(came?))
+}
+
+/// Returns an annotation as what a call returns.
+fn mark<A: Drop>(came: Result<A, Error>) -> Result<Reply<A>, Error> {
+    Ok(Reply::Annotation(came?))
+}
+
 /// Returns the line of the result of a decorator's call.
 fn called<D: TextDecorator>(
     alloc: Global,
@@ -65,54 +80,35 @@ where
     let links = targets(alloc, if name == "finalise" { given } else { "" }, watch)?;
     watch.begin(name);
     let came = match name {
-        "decorate_link_start" => decorator
-            .decorate_link_start(alloc, given)
-            .map(Reply::Start),
-        "decorate_em_start" => decorator.decorate_em_start(alloc).map(Reply::Start),
-        "decorate_strong_start" => decorator.decorate_strong_start(alloc).map(Reply::Start),
-        "decorate_strikeout_start" => {
-            decorator.decorate_strikeout_start(alloc).map(Reply::Start)
-        }
-        "decorate_code_start" => decorator.decorate_code_start(alloc).map(Reply::Start),
-        "decorate_superscript_start" => {
-            decorator
-                .decorate_superscript_start(alloc)
-                .map(Reply::Start)
-        }
-        "decorate_image" => decorator
-            .decorate_image(alloc, source, title)
-            .map(Reply::Start),
-        "decorate_link_end" => decorator.decorate_link_end(alloc).map(Reply::Text),
-        "decorate_em_end" => decorator.decorate_em_end(alloc).map(Reply::Text),
-        "decorate_strong_end" => decorator.decorate_strong_end(alloc).map(Reply::Text),
-        "decorate_strikeout_end" => decorator.decorate_strikeout_end(alloc).map(Reply::Text),
-        "decorate_code_end" => decorator.decorate_code_end(alloc).map(Reply::Text),
-        "decorate_superscript_end" => { decorator.decorate_superscript_end(alloc).map(Reply::Text) }
-        "header_prefix" => decorator.header_prefix(alloc, level).map(Reply::Text),
-        "quote_prefix" => decorator.quote_prefix(alloc).map(Reply::Text),
-        "unordered_item_prefix" => decorator.unordered_item_prefix(alloc).map(Reply::Text),
-        "ordered_item_prefix" => {
-            decorator
-                .ordered_item_prefix(alloc, number)
-                .map(Reply::Text)
-        }
-        "decorate_preformat_first" => {
-            decorator
-                .decorate_preformat_first(alloc)
-                .map(Reply::Annotation)
-        }
-        "decorate_preformat_cont" => {
-            decorator
-                .decorate_preformat_cont(alloc)
-                .map(Reply::Annotation)
-        }
+        "decorate_link_start" => start(decorator.decorate_link_start(alloc, given)),
+        "decorate_em_start" => start(decorator.decorate_em_start(alloc)),
+        "decorate_strong_start" => start(decorator.decorate_strong_start(alloc)),
+        "decorate_strikeout_start" => start(decorator.decorate_strikeout_start(alloc)),
+        "decorate_code_start" => start(decorator.decorate_code_start(alloc)),
+        "decorate_superscript_start" => start(decorator.decorate_superscript_start(alloc)),
+        "decorate_image" => start(decorator.decorate_image(alloc, source, title)),
+        "decorate_link_end" => text(decorator.decorate_link_end(alloc)),
+        "decorate_em_end" => text(decorator.decorate_em_end(alloc)),
+        "decorate_strong_end" => text(decorator.decorate_strong_end(alloc)),
+        "decorate_strikeout_end" => text(decorator.decorate_strikeout_end(alloc)),
+        "decorate_code_end" => text(decorator.decorate_code_end(alloc)),
+        "decorate_superscript_end" => text(decorator.decorate_superscript_end(alloc)),
+        "header_prefix" => text(decorator.header_prefix(alloc, level)),
+        "quote_prefix" => text(decorator.quote_prefix(alloc)),
+        "unordered_item_prefix" => text(decorator.unordered_item_prefix(alloc)),
+        "ordered_item_prefix" => text(decorator.ordered_item_prefix(alloc, number)),
+        "decorate_preformat_first" => mark(decorator.decorate_preformat_first(alloc)),
+        "decorate_preformat_cont" => mark(decorator.decorate_preformat_cont(alloc)),
         "push_colour" => decorator
             .push_colour(alloc, colour(given)?)
             .map(Reply::Colour),
         "push_bgcolour" => decorator
             .push_bgcolour(alloc, colour(given)?)
             .map(Reply::Colour),
-        "finalise" => decorator.finalise(alloc, &links).map(Reply::Lines),
+        "finalise" => match decorator.finalise(alloc, &links) {
+            Ok(lines) => Ok(Reply::Lines(lines)),
+            Err(error) => Err(error),
+        },
         _ => return Err(Fault::Malformed("no call of a decorator has this name")),
     };
     shown(alloc, watch.end(came)?)

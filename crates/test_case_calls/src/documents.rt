@@ -30,19 +30,17 @@ struct Given<'a> {
 impl<'a> Given<'a> {
     /// Parses arguments.
     fn read(arguments: &'a str) -> Given<'a> {
-        let mut given = Given {
-            nodes: [0; 3],
-            text: arguments,
-        };
-        for node in &mut given.nodes {
-            let (word, more) = split_word(given.text);
+        let mut nodes = [0; 3];
+        let mut text = arguments;
+        for node in &mut nodes {
+            let (word, more) = split_word(text);
             let Ok(number) = word.parse() else {
                 break;
             };
             *node = number;
-            given.text = more;
+            text = more;
         }
-        given
+        Given { nodes, text }
     }
 }
 

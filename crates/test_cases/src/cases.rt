@@ -210,21 +210,14 @@ impl<'a> Case<'a> {
     }
 
     /// Returns the result of a question, whose calls are made once.
-    fn answer_once(
-        &mut self,
-        alloc: Global,
-        question: &str,
-        input: &str,
-        watch: Watch,
-    ) -> Result<String, Fault> {
-        let (asked, given) = split_word(question);
+    fn answer_once(&mut self, alloc: Global, question: Question<'_>) -> Result<String, Fault> {
+        let Question {
+            asked,
+            given,
+            input,
+            watch,
+        } = question;
         if is_rendering(asked) {
-            let question = Question {
-                asked,
-                given,
-                script: input,
-                watch,
-            };
             let dom = self.page.document(alloc, watch)?;
             return rendering::answer(alloc, &self.calls, dom, question);
         }
@@ -249,16 +242,10 @@ impl<'a> Case<'a> {
     }
 
     /// Returns the result of a question. A watched question is repeated as long as it is out of memory.
-    fn answer(
-        &mut self,
-        alloc: Global,
-        question: &str,
-        input: &str,
-        watch: Watch,
-    ) -> Result<String, Fault> {
+    fn answer(&mut self, alloc: Global, question: Question<'_>) -> Result<String, Fault> {
         for _ in 0..TRIES {
-            match self.answer_once(alloc, question, input, watch) {
-                Err(Fault::Refused(Error::OutOfMemory)) if watch.is_told() => {}
+            match self.answer_once(alloc, question) {
+                Err(Fault::Refused(Error::OutOfMemory)) if question.watch.is_told() => {}
                 answer => return answer,
             }
         }
@@ -269,22 +256,15 @@ impl<'a> Case<'a> {
     ///
     /// If calls are watched, the calls that a rendering needs (creation and settings of the configuration, conversion) are first
     /// watched on their own.
-    fn answer_all(
-        &mut self,
-        alloc: Global,
-        question: &str,
-        input: &str,
-        watch: Watch,
-    ) -> Result<String, Fault> {
-        let (asked, _) = split_word(question);
-        if watch.is_told() && is_rendering(asked) {
-            let _config = self.answer(alloc, "preset", "", watch)?;
-            let _changed = self.answer(alloc, "settings", "", watch)?;
-            if asked != "dom_to_render_tree" {
-                let _tree = self.answer(alloc, "dom_to_render_tree", "", watch)?;
+    fn answer_all(&mut self, alloc: Global, question: Question<'_>) -> Result<String, Fault> {
+        if question.watch.is_told() && is_rendering(question.asked) {
+            for asked in ["preset", "settings", "dom_to_render_tree"] {
+                if asked != question.asked {
+                    self.answer(alloc, Question { asked, ..question })?;
+                }
             }
         }
-        self.answer(alloc, question, input, watch)
+        self.answer(alloc, question)
     }
 
     /// Compares the result of the open question, if there is one, with its expected output.
@@ -292,24 +272,26 @@ impl<'a> Case<'a> {
         let Some(waiting) = mem::take(&mut self.waiting) else {
             return Ok(());
         };
-        let question = waiting.question;
         let refuses = waiting.wanted.as_str().trim_end() == REFUSED;
-        let watch = if refuses {
-            Watch::nobody()
-        } else {
-            played.watch
+        let watch = played.watch.only_if(!refuses);
+        let (asked, given) = split_word(waiting.question);
+        let question = Question {
+            asked,
+            given,
+            input: &waiting.input,
+            watch,
         };
-        let came = match self.answer_all(alloc, question, &waiting.input, watch) {
+        let came = match self.answer_all(alloc, question) {
             Ok(answer) => answer,
             Err(Fault::Refused(Error::TooNarrow)) => String::from_str(alloc, "TooNarrow\n")?,
             Err(Fault::Refused(Error::Fail)) => String::from_str(alloc, "Fail\n")?,
             Err(Fault::Refused(Error::OutOfMemory)) if refuses => {
                 String::from_str(alloc, "OutOfMemory\n")?
             }
-            Err(fault) => return played.fail(question, &fault, self.title),
+            Err(fault) => return played.fail(waiting.question, &fault, self.title),
         };
         if came != waiting.wanted {
-            played.differ(question, &waiting.wanted, &came, self.title)?;
+            played.differ(waiting.question, &waiting.wanted, &came, self.title)?;
         }
         Ok(())
     }
@@ -327,7 +309,7 @@ impl<'a> Case<'a> {
         let question = Question {
             asked: "sweep_shown",
             given: "",
-            script: "",
+            input: "",
             watch: Watch::nobody(),
         };
         let came = match self.page.document(alloc, Watch::nobody()) {

@@ -39,15 +39,15 @@ pub fn is_rendering(word: &str) -> bool {
     )
 }
 
-/// A question about a document: a call and its arguments.
+/// A question: a call and its arguments.
 #[derive(Clone, Copy)]
 pub struct Question<'a> {
     /// Name of the call.
     pub asked: &'a str,
     /// Arguments of the call.
     pub given: &'a str,
-    /// Script of the document that the call consumes.
-    pub script: &'a str,
+    /// Input of the program, a script, or calls.
+    pub input: &'a str,
     /// Reports the call, if it is watched.
     pub watch: Watch,
 }
@@ -119,7 +119,7 @@ where
             displayed(alloc, &tree, watch)
         }
         "dom_into_render_tree" => {
-            let dom = built(alloc, question.script, Watch::nobody())?;
+            let dom = built(alloc, question.input, Watch::nobody())?;
             let tree = watch
                 .begin(question.asked)
                 .end(config.dom_into_render_tree(alloc, dom))?;
