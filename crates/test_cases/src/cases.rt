@@ -185,7 +185,9 @@ impl<'a> Case<'a> {
         if let Some(repeated) = line.strip_prefix("repeat ") {
             let (count, calls) = split_word(repeated);
             for _ in 0..number(count)? {
-                self.call(calls, false)?;
+                if !self.call(calls, false)? {
+                    return Err(Fault::Malformed("only a call or lines of a script are repeated"));
+                }
             }
         } else if !line.is_empty() && !self.call(line, true)? {
             self.is_rendered = self.is_rendered || is_rendering(split_word(line).0);
