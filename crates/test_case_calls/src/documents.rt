@@ -243,7 +243,7 @@ fn query(
     watch.end(came)
 }
 
-/// Returns the lines of an answer. Data of nodes are separated by spaces.
+/// Returns the lines of an answer: one for each message and each node.
 fn shown(alloc: Global, dom: &RcDom, answer: Reply) -> Result<String, Fault> {
     let mut text = String::new(alloc);
     match answer {

@@ -39,7 +39,10 @@ fn style(alloc: Global, property: &str, value: &str) -> Result<Style, Fault> {
 fn declarations(alloc: Global, text: &str) -> Result<Vec<Declaration>, Fault> {
     let mut declarations = Vec::new(alloc);
     let mut rest = text;
-    while !rest.is_empty() {
+    for _ in 0..text.len() {
+        if rest.is_empty() {
+            break;
+        }
         let declared = rest.strip_prefix("important ");
         let important = declared.is_some();
         let (property, more) = split_word(declared.unwrap_or(rest));
@@ -76,7 +79,8 @@ pub fn rule(alloc: Global, text: &str) -> Result<StyleRule, Fault> {
             "Agent" => StyleOrigin::Agent,
             "User" => StyleOrigin::User,
             "Author" => StyleOrigin::Author,
-            _ => StyleOrigin::None,
+            "None" | "" => StyleOrigin::None,
+            _ => return Err(Fault::Malformed("no origin has this name")),
         },
         element: None,
         id: None,

@@ -37,7 +37,12 @@ pub fn answer(
     let attributes = attributes(alloc, element)?;
     let (name, _) = element.split_once('@').unwrap_or((element, ""));
     let of_watch = watch.only_if(asked == "RuleIndex::of").begin(asked);
-    let index = of_watch.end(RuleIndex::of(alloc, &rules))?;
+    let came = RuleIndex::of(alloc, &rules);
+    of_watch.end(match &came {
+        Ok(_) => Ok(()),
+        Err(error) => Err(*error),
+    })?;
+    let index = came?;
     let index_watch = watch
         .only_if(asked == "RuleIndex::computed_style")
         .begin(asked);

@@ -83,9 +83,6 @@ fn is_preset(line: &str) -> bool {
     matches!(line, "plain" | "plain_no_decorate" | "rich") || line.starts_with("with_decorator ")
 }
 
-/// Expected output if a decorator or a colour map returns `OutOfMemory`.
-const REFUSED: &str = "OutOfMemory";
-
 impl<'a> Waiting<'a> {
     /// Creates a question without expected output.
     fn new(alloc: Global, question: &'a str) -> Waiting<'a> {
@@ -274,7 +271,8 @@ impl<'a> Case<'a> {
         let Some(waiting) = mem::take(&mut self.waiting) else {
             return Ok(());
         };
-        let refuses = waiting.wanted.as_str().trim_end() == REFUSED;
+        // a decorator or a colour map is out of memory
+        let refuses = waiting.wanted.as_str() == "OutOfMemory\n";
         let watch = played.watch.only_if(!refuses);
         let (asked, given) = split_word(waiting.question);
         let question = Question {

@@ -7,11 +7,6 @@ use std::io::BufWriter;
 use test_case_calls::faults::Fault;
 use test_case_calls::texts::push_lines;
 
-/// Returns bytes as a text, or `not UTF-8`.
-fn text(bytes: &[u8]) -> &str {
-    str::from_utf8(bytes).unwrap_or("not UTF-8")
-}
-
 /// Returns the lines of the program's output, its lines about faults, each after `~`, and its status if that isn't 0. The output is
 /// buffered, and what isn't flushed is no part of it.
 pub fn answer(alloc: Global, words: &str, script: &str) -> Result<String, Fault> {
@@ -29,8 +24,16 @@ pub fn answer(alloc: Global, words: &str, script: &str) -> Result<String, Fault>
     let mut faults = Vec::new(alloc);
     let status = run(alloc, &arguments, &mut input, &mut output, &mut faults);
     let mut shown = String::new(alloc);
-    push_lines(&mut shown, '|', text(output.get_ref()))?;
-    push_lines(&mut shown, '~', text(&faults))?;
+    push_lines(
+        &mut shown,
+        '|',
+        str::from_utf8(output.get_ref()).unwrap_or("not UTF-8"),
+    )?;
+    push_lines(
+        &mut shown,
+        '~',
+        str::from_utf8(&faults).unwrap_or("not UTF-8"),
+    )?;
     if status != 0 {
         write!(shown, "status {status}\n")?;
     }

@@ -202,7 +202,7 @@ where
                 tree,
                 width,
                 |annotations: &[D::Annotation], text: &str| {
-                    calls = next(calls);
+                    calls = usize::saturating_add(calls, 1);
                     let number = if map == "numbered" {
                         calls
                     } else {
@@ -216,11 +216,6 @@ where
     }
 }
 
-/// Returns the next number of a call.
-fn next(calls: usize) -> usize {
-    calls.saturating_add(1)
-}
-
 /// Returns `<number:text>`; `OutOfMemory` for the text `refused`.
 fn coloured(alloc: Global, number: usize, text: &str, refused: &str) -> Result<String, Error>
     ensures err { OnlyOutOfMemory result }
@@ -231,29 +226,21 @@ fn coloured(alloc: Global, number: usize, text: &str, refused: &str) -> Result<S
     Ok(format!(in alloc; "<{number}:{text}>")?)
 }
 
-/// Appends a tagged line: each string after its annotations, and each name of a mark in angle brackets.
+/// Appends a tagged line: each string after its annotations, in braces, and each name of a mark in angle brackets.
 fn push_line<A: Shown>(shown: &mut String, line: &TaggedLine<Vec<A>>) -> Result<(), AllocError> {
     shown.push('|')?;
     for element in line.iter() {
         match element {
             TaggedLineElement::Str(string) => {
-                push_annotations(shown, &string.tag)?;
-                shown.push_str(&string.s)?;
+                shown.push('{')?;
+                for (place, annotation) in string.tag.iter().enumerate() {
+                    shown.push_str(if place > 0 { "," } else { "" })?;
+                    annotation.push_to(shown)?;
+                }
+                write!(shown, "}}{}", string.s)?;
             }
             TaggedLineElement::FragmentStart(name) => write!(shown, "<{name}>")?,
         }
     }
     shown.push('\n')
-}
-
-/// Appends annotations, in braces.
-fn push_annotations<A: Shown>(shown: &mut String, annotations: &[A]) -> Result<(), AllocError> {
-    shown.push('{')?;
-    for (place, annotation) in annotations.iter().enumerate() {
-        if place > 0 {
-            shown.push(',')?;
-        }
-        annotation.push_to(shown)?;
-    }
-    shown.push('}')
 }
