@@ -62,7 +62,7 @@ pub fn answer(
 /// Returns the line of the specificity of a rule, or of one for an element name: its counts of ids, of classes, and of element
 /// names and pseudo-elements.
 pub fn specificity(alloc: Global, asked: &str, given: &str, watch: Watch) -> Result<String, Fault> {
-    let mut rule = rule(alloc, given)?;
+    let mut rule = rule(alloc, if asked == "for_element" { "" } else { given })?;
     if asked == "for_element" {
         let name = String::from_str(alloc, given)?;
         let for_watch = watch.begin(asked);
