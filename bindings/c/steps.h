@@ -1,7 +1,6 @@
 /* Records of steps and settings, and the library's two calls, which take them. html_render.h records such steps and
- * settings; a binding of another language may do so itself. `Step` and `Setting` of crates/html_render_tree_records
- * have the same
- * fields, and their numbers are the ones here.
+ * settings; a binding of another language may do so itself. `Step` of crates/html_render_dom and `Setting` of
+ * crates/html_render_tree_records have the same fields, and their numbers are the ones here.
  *
  * The library tests every number. Nothing checks the pointers: the caller ensures that none is NULL, also one to no
  * items, that each leads to the number of items beside it, and that nothing changes these during the call. */
