@@ -17,7 +17,7 @@ fn next<'a>(fields: &mut Split<'a, char>) -> Result<&'a str, Fault> {
     }
 }
 
-/// Returns the line that answers a question about columns: their minimums, their shares and a width, separated by `/`; for
+/// Returns the result of a question about columns, one line: their minimums, their shares and a width, separated by `/`; for
 /// `check_cut` also a cut.
 pub fn answer(alloc: Global, asked: &str, given: &str, watch: Watch) -> Result<String, Fault> {
     let mut fields = given.split('/');

@@ -114,7 +114,7 @@ where
     shown(alloc, watch.end(came)?)
 }
 
-/// Returns the line of an answer: an annotation, in braces before a text; a text with escapes; each of several lines in brackets.
+/// Returns the line of a result: an annotation, in braces before a text; a text with escapes; each of several lines in brackets.
 fn shown<A: Shown>(alloc: Global, answer: Reply<A>) -> Result<String, Fault> {
     let mut shown = String::from_str(alloc, "|")?;
     match answer {

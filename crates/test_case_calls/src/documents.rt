@@ -170,7 +170,7 @@ fn quirks_mode(name: &str) -> QuirksMode {
     }
 }
 
-/// The answer to a question about a document.
+/// The result of a question about a document.
 #[derive(Drop)]
 enum Reply {
     /// A text.
@@ -187,7 +187,7 @@ enum Reply {
     Mode(QuirksMode),
 }
 
-/// Returns the answer to a question.
+/// Returns the result of a question.
 fn query(
     alloc: Global,
     dom: &RcDom,
@@ -243,7 +243,7 @@ fn query(
     watch.end(came)
 }
 
-/// Returns the lines of an answer: one for each message and each node.
+/// Returns the lines of a result: one for each message and each node.
 fn shown(alloc: Global, dom: &RcDom, answer: Reply) -> Result<String, Fault> {
     let mut text = String::new(alloc);
     match answer {
@@ -269,7 +269,7 @@ fn shown(alloc: Global, dom: &RcDom, answer: Reply) -> Result<String, Fault> {
     printed(alloc, &text)
 }
 
-/// Makes the calls of lines, and returns the lines of their answers.
+/// Makes the calls of lines, and returns the lines of their results.
 pub fn answers(alloc: Global, dom: &mut RcDom, lines: &str, watch: Watch) -> Result<String, Fault> {
     let mut shown = String::new(alloc);
     for line in lines.lines() {
@@ -279,7 +279,7 @@ pub fn answers(alloc: Global, dom: &mut RcDom, lines: &str, watch: Watch) -> Res
     Ok(shown)
 }
 
-/// Makes a call, and returns the lines of its answer: none for a call that changes the document.
+/// Makes a call, and returns the lines of its result: none for a call that changes the document.
 ///
 /// A name before `?` asks a question. A watched call is made again as long as it is out of memory: it states in its contract
 /// that a refusal leaves the document unchanged.

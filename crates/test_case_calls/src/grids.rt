@@ -33,7 +33,7 @@ fn rows(alloc: Global, given: &str) -> Result<Vec<Vec<Span>>, AllocError> {
     Ok(rows)
 }
 
-/// Returns the answer of `spans_are_valid`, or the lines of `table_grid`: its edges, and for each row the kind, the edges and
+/// Returns the result of `spans_are_valid`, or the lines of `table_grid`: its edges, and for each row the kind, the edges and
 /// the number of columns of each slot.
 pub fn answer(alloc: Global, asked: &str, given: &str, watch: Watch) -> Result<String, Fault> {
     let rows = rows(alloc, given)?;

@@ -1,6 +1,6 @@
 //! Calls by their names, as cases write them, with numbers for nodes, spans and columns; and what reports calls.
 //!
-//! `cuts::answer(alloc, "cut_fits", "3 3 / 9 4 / 10", watch)?` returns the line that answers a question.
+//! `cuts::answer(alloc, "cut_fits", "3 3 / 9 4 / 10", watch)?` returns the line of a result.
 #![tactic(auto)]
 
 pub mod annotations;

@@ -42,12 +42,12 @@
 //! | `column_widths`, `column_widths_metered`, `cut_fits` | minimums, shares and width: `3 3 / 9 4 / 10` |
 //! | `check_cut` | minimums, shares, width and a cut |
 //! | calls of names, attributes and texts | `TextContents::push_str a b`, .. |
-//! | `calls` | calls on the document, with the numbers of nodes: `append_before_sibling 4 2`, `append 1 "text`, `children? 1`; the answers to those with `?` |
+//! | `calls` | calls on the document, with the numbers of nodes: `append_before_sibling 4 2`, `append 1 "text`, `children? 1`; the results of those with `?` |
 //! | `built` | a script; the dump of its document, or its first faulty line |
 //! | `htree` | words and an input; its output as far as it is flushed, its faults and status |
 //!
 //! In lists of numbers `5*3` is five times 3. The lines of another script, of calls or of an input follow the question, each
-//! after `:`, or after `.` for one without its line feed. Calls and the answers to them may alternate.
+//! after `:`, or after `.` for one without its line feed. Calls and their results may alternate.
 //!
 //! At the end of a case, a document that was rendered is also checked at each width from 1 to 40, for the characters of its
 //! text at a great width. A document of more than 5,000 nodes isn't checked, and none is if calls are watched.
