@@ -78,7 +78,7 @@ static void texts_after_a_removal(void) {
     html_render_drop(page);
 }
 
-/* Children move directly before a sibling, from before it, from behind it, and out of their parent. */
+/* Children move directly before a sibling, from before it, from after it, and out of their parent. */
 static void moved_before(void) {
     html_render_recording *page = html_render_new();
     html_render_node p = child(page, 0, "p", NULL), c = child(page, p, "span", "c"), b = child(page, p, "span", "b"),
@@ -94,7 +94,7 @@ static void moved_before(void) {
     html_render_drop(page);
 }
 
-/* All children move behind those of another node. */
+/* All children are appended to those of another node. */
 static void reparented(void) {
     html_render_recording *page = html_render_new();
     html_render_node u = child(page, 0, "p", NULL), v;
@@ -107,7 +107,7 @@ static void reparented(void) {
     html_render_drop(page);
 }
 
-/* What is put by an element's parent is before the element, or behind the children of another node. */
+/* A node or a text is put before an element with a parent, and otherwise after the children of another node. */
 static void put_by_parent(void) {
     html_render_recording *page = html_render_new();
     html_render_node p = child(page, 0, "p", NULL), q = element(page, "p"), a = element(page, "span"),
@@ -117,7 +117,7 @@ static void put_by_parent(void) {
     put(page, b, "b");
     html_render_append_text_based_on_parent_node(page, q, p, "x", 1);
     html_render_append_based_on_parent_node(page, q, p, a);
-    expect_text(page, "xa\n", "behind the children of another node");
+    expect_text(page, "xa\n", "after the children of another node");
     html_render_append(page, 0, q);
     html_render_append_text_based_on_parent_node(page, q, p, "y", 1);
     html_render_append_based_on_parent_node(page, q, p, b);
@@ -245,7 +245,7 @@ static void images(void) {
     static const char *const SOURCES[] = {"src", "s", "src", "t", "alt", "a", "src", "u", "alt", "b", NULL};
     static const char *const TITLES[] = {"alt", "a", "alt", "", "alt", "b", "alt", "", "src", "s", NULL};
     expect_file(TWO, "[t]\n", "of two sources before any title the last counts");
-    expect_file(EMPTY, "[s]\n", "an empty source behind another doesn't count");
+    expect_file(EMPTY, "[s]\n", "an empty source after another doesn't count");
     expect_image(BOTH, 's', 'b', "a title and a source are read until both are there");
     expect_image(SOURCES, 't', 'a', "sources up to the first title count, the last one of them");
     expect_image(TITLES, 's', 'b', "titles up to the first source count, the last one that isn't empty");
