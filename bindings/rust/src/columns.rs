@@ -14,7 +14,16 @@ pub(crate) fn of_char(c: char) -> usize {
 
 /// Returns the number of columns of a text on one line.
 pub(crate) fn of_text(text: &str) -> usize {
-    text.chars().map(of_char).sum()
+    if is_printable_ascii(text) {
+        text.len()
+    } else {
+        text.chars().map(of_char).sum()
+    }
+}
+
+/// Reports whether a text is printable ASCII. Reads all of it, so that several bytes are tested at once.
+fn is_printable_ascii(text: &str) -> bool {
+    text.bytes().fold(0, |others, byte| others | u8::from(!matches!(byte, b' '..=b'~'))) == 0
 }
 
 /// Returns the number of columns of any character.

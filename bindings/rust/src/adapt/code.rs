@@ -9,6 +9,8 @@ use crate::columns;
 use crate::record::{Handle, Recorder};
 use crate::tree::{Data, Id, Piece, NONE};
 use html5ever::local_name;
+use memchr::memchr2_iter;
+use std::iter::once;
 
 /// Columns of the indentation, where they are left.
 const INDENT: u32 = 4;
@@ -19,17 +21,24 @@ const TAB: u32 = 8;
 /// Spaces of a tab or an indentation.
 const SPACES: &str = "        ";
 
-/// Returns the column after a character in a line.
-fn after(column: u32, c: char) -> u32 {
-    match c {
-        '\t' => (column / TAB + 1) * TAB,
-        _ => column.saturating_add(columns::of_char(c) as u32),
-    }
+/// Returns the column after a text without newlines and tabs.
+fn after(column: u32, text: &str) -> u32 {
+    column.saturating_add(columns::of_text(text) as u32)
 }
 
-/// Reports whether each byte of a text takes a column.
-fn is_plain(text: &str) -> bool {
-    text.bytes().all(|byte| matches!(byte, b' '..=b'~'))
+/// Returns the tab stop after a column.
+fn tab_stop(column: u32) -> u32 {
+    (column / TAB + 1) * TAB
+}
+
+/// Returns the parts of a text between newlines and tabs, each with the newline or tab after it.
+fn parts(text: &str) -> impl Iterator<Item = (&str, Option<u8>)> {
+    let mut start = 0;
+    memchr2_iter(b'\n', b'\t', text.as_bytes()).map(Some).chain(once(None)).map(move |end| {
+        let part = &text[start..end.unwrap_or(text.len())];
+        start += part.len() + 1;
+        (part, end.map(|end| text.as_bytes()[end]))
+    })
 }
 
 /// The lines of a preformatted block, as they are measured.
@@ -53,11 +62,13 @@ impl Measure {
     }
 
     fn add_text(&mut self, text: &str, room: u32) {
-        for (number, part) in text.split('\n').enumerate() {
-            if number > 0 {
-                self.end_line(room);
+        for (part, end) in parts(text) {
+            self.column = after(self.column, part);
+            match end {
+                Some(b'\n') => self.end_line(room),
+                Some(_) => self.column = tab_stop(self.column),
+                None => {}
             }
-            self.column = if is_plain(part) { self.column.saturating_add(part.len() as u32) } else { part.chars().fold(self.column, after) };
         }
     }
 }
@@ -115,23 +126,38 @@ impl Code {
         self.pass_line();
     }
 
-    /// Returns what is recorded of a text: indented lines without tabs.
+    /// Returns what is recorded of a text: indented lines, with spaces for tabs.
     pub fn indented(&mut self, recorder: &mut Recorder, piece: Piece) -> Piece {
         let mut indented = String::with_capacity(piece.1 as usize + 16);
-        for (number, part) in text_of(&recorder.text, piece).split('\n').enumerate() {
-            if number > 0 {
-                if self.is_long {
-                    indented.push_str(mark::LONG_END);
-                }
-                indented.push('\n');
-                self.pass_line();
-            }
-            if !part.is_empty() {
+        for (part, end) in parts(text_of(&recorder.text, piece)) {
+            if !part.is_empty() || end == Some(b'\t') {
                 self.push_start(&mut indented);
-                self.push_part(part, &mut indented);
+            }
+            indented.push_str(part);
+            self.column = after(self.column, part);
+            match end {
+                Some(b'\n') => self.push_newline(&mut indented),
+                Some(_) => self.push_tab(&mut indented),
+                None => {}
             }
         }
         recorder.keep(&indented)
+    }
+
+    /// Appends a newline, and begins the next line.
+    fn push_newline(&mut self, to: &mut String) {
+        if self.is_long {
+            to.push_str(mark::LONG_END);
+        }
+        to.push('\n');
+        self.pass_line();
+    }
+
+    /// Appends the spaces of a tab.
+    fn push_tab(&mut self, to: &mut String) {
+        let column = tab_stop(self.column);
+        to.push_str(&SPACES[..(column - self.column) as usize]);
+        self.column = column;
     }
 
     fn pass_line(&mut self) {
@@ -152,24 +178,6 @@ impl Code {
             to.push_str(mark::LONG);
         }
         to.push_str(&SPACES[..self.indent as usize]);
-    }
-
-    /// Appends a part of a line, with spaces for tabs.
-    fn push_part(&mut self, part: &str, to: &mut String) {
-        if is_plain(part) {
-            to.push_str(part);
-            self.column = self.column.saturating_add(part.len() as u32);
-            return;
-        }
-        for c in part.chars() {
-            let column = after(self.column, c);
-            if c == '\t' {
-                to.push_str(&SPACES[..(column - self.column) as usize]);
-            } else {
-                to.push(c);
-            }
-            self.column = column;
-        }
     }
 }
 
