@@ -5,3 +5,4 @@ pub mod BehindLines
 pub mod WordParts
 pub mod PieceLines
 pub mod PartLines
+pub mod OpenBlocks

@@ -16,3 +16,6 @@ pub mod Words
 pub mod Parts
 -- finished lines in pieces
 pub mod Pieces
+-- lines of blocks in blocks, and how they are stored
+pub mod Nested
+pub mod Levels
