@@ -1,7 +1,8 @@
 pub mod WordColumns
 pub mod PageColumns
 pub mod Copies
-pub mod Letters
+pub mod Tabs
+pub mod Stretches
 pub mod WholeWords
 pub mod SpacedWords
 pub mod Flushing

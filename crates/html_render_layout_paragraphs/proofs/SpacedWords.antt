@@ -13,8 +13,8 @@ use Rattle.html_render_layout_lines.specs.declared.character.Character.{Characte
 use Rattle.html_render_layout_lines.specs.declared.character.Kind.TheVariants.{Space}
 use Rattle.html_render_layout_lines.specs.declared.character.TextStyle.{TextStyle}
 use Rattle.html_render_layout_lines.specs.declared.line.Element.TheVariants as element
-use Rattle.html_render_layout_lines.specs.Character.{kind, width_of, tag_on, character_of, is_plain}
-use Rattle.html_render_layout_paragraphs.specs.Feeding.{AreLetters, IsFront, placed_text_and_space, with_words}
+use Rattle.html_render_layout_lines.specs.Character.{kind, width_of, tag_on, character_of}
+use Rattle.html_render_layout_paragraphs.specs.Feeding.{IsStretch, IsFront, placed_text_and_space, with_words}
 use Rattle.html_render_layout_lines.specs.Line.{Line, columns, word_columns, is_empty}
 use Rattle.html_render_layout_paragraphs.specs.Paragraph.{LineBuffer, Setting, fits, put_items, continued}
 use Rattle.html_render_layout_paragraphs.specs.Placing.{put_word}
@@ -22,13 +22,12 @@ use Rattle.html_render_layout_paragraphs.specs.Stream.{State, after, styled, wit
 use Rattle.html_render_layout_lines.specs.TaggedText.{text_columns, under, style_tag}
 use Rattle.html_render_layout_lines.specs.laws.Cases.{if_true, if_false}
 use Rattle.html_render_layout_lines.specs.laws.Columns.{width-space, columns-append, columns-under}
-use Rattle.html_render_layout_paragraphs.proofs.Letters.{after-word, some-chars, chars-ascii, plain-letters, first-character}
+use Rattle.html_render_layout_paragraphs.proofs.Stretches.{after-word, some-chars, chars-ascii, first-character}
 use Rattle.html_render_layout_paragraphs.proofs.PageColumns.{columns-push_space}
 use Rattle.html_render_layout_paragraphs.proofs.WordColumns.{word_columns-styled}
 use Rattle.html_render_layout_paragraphs.proofs.WholeWords.{put_items-text}
 use Rattle.std.specs.Prelude.{encode_utf8}
 use Rattle.html_render_layout_lines.specs.declared.character.Item.TheVariants as item
-use Rattle.std.specs.List.{list_all}
 use Rattle.html_render_layout_paragraphs.specs.laws.Whole.{put_items-append}
 
 -- ---- One word after a space
@@ -106,7 +105,7 @@ split bs n k u high space =
 
 -- A leading part of a text, with a space and the letters after it.
 pub next-words : (mode : WhiteSpace) (bs : List ℕ) (n w k v : ℕ) → IsUtf8 bs → IsFront bs n w → n < length bs → get_or bs n 0 ≡ 32 →
-    AreLetters mode (drop (n + 1) bs) k v → IsFront bs (n + 1 + k) (w + 1 + v)
+    IsStretch mode (drop (n + 1) bs) k v → IsFront bs (n + 1 + k) (w + 1 + v)
 next-words mode bs n w k v u front high space are =
     let whole = split bs n k (IsUtf8-take bs n u front.boundary) high space in
     let longer : n + 1 ≤ length bs = omega arith in
@@ -153,7 +152,7 @@ one_more {T} {M} st style bs n k u high space =
 
 pub next-fed : {T M : Type 0} (st : State T M) (style : TextStyle T) (bs : List ℕ) (n w k v : ℕ) → IsUtf8 bs → style.mode ≡ Normal →
     IsFront bs n w → n < length bs → get_or bs n 0 ≡ 32 →
-    AreLetters style.mode (drop (n + 1) bs) k v → 0 < k → n + 1 + k < length bs → get_or bs (n + 1 + k) 0 < 128 →
+    IsStretch style.mode (drop (n + 1) bs) k v → 0 < k → n + 1 + k < length bs → get_or bs (n + 1 + k) 0 < 128 →
     kind Normal (get_or bs (n + 1 + k) 0) ≡ Space → st.open_word ≡ None → st.word ≡ [] → 0 < length st.page.line → st.page.waiting ≡ [] →
     columns st.page.line + (w + (1 + v)) ≤ st.setting.width → after (with_words st style bs n) (styled style (chars (drop (n + 1) bs)))
     ≡ after (with_words st style bs (n + 1 + k)) (styled style (chars (drop (n + 1 + k + 1) bs)))
@@ -270,12 +269,6 @@ more-front bs n k w v u front rest =
         sum_by-append width_of (chars (take n bs)) (chars (take k (drop n bs))),
       );
     }
-
--- Printable ASCII characters.
-pub plain-front : (bs : List ℕ) (n : ℕ) → IsUtf8 bs → list_all is_plain (take n bs) ≡ true → n ≤ length bs → IsFront bs n n
-plain-front bs n u e within =
-    let letters = plain-letters Normal bs n refl u e within in
-    record { within = letters.within; boundary = letters.boundary; columns = letters.columns }
 
 -- A leading part with the character after it.
 pub next-front : (bs rest : List ℕ) (n w c v : ℕ) → IsUtf8 bs → IsFront bs n w → drop n bs ≡ encode_utf8 c ++ rest → IsUtf8 rest →

@@ -9,7 +9,7 @@ use Rattle.html_render_layout_lines.specs.declared.line.tagged_text.Run.{Run}
 use Rattle.html_render_layout_lines.specs.Character.{character_of, tag_on, width_of}
 use Rattle.html_render_layout_paragraphs.specs.Stream.{styled}
 use Rattle.html_render_layout_lines.specs.TaggedText.{under, items_of, elements_of, open_elements, HasTag, style_tag, text_columns}
-use Rattle.html_render_layout_paragraphs.proofs.Letters.{some-chars}
+use Rattle.html_render_layout_paragraphs.proofs.Stretches.{some-chars}
 use Rattle.html_render_layout_paragraphs.proofs.WordColumns.{items-append, items-under, word_columns-styled}
 use Rattle.std.proofs.lemmas.List.{map-append}
 use Rattle.html_render_layout_lines.specs.declared.character.Character.{Character}

@@ -1,11 +1,11 @@
--- Parts of a text that a paragraph takes as slices: consecutive letters, and words with the white space after them.
-use Rattle.std.specs.Prelude.{◌≡◌, ℕ, ◌+◌, ◌≤◌, ◌<◌, Bool, true, false, List, [], ◌∷◌, ◌++◌, Option, Some, None, take}
+-- Parts of a text that a paragraph takes as slices: stretches, and words with the white space after them.
+use Rattle.std.specs.Prelude.{◌≡◌, ℕ, ◌+◌, ◌≤◌, ◌<◌, nat_le, ◌&&◌, Bool, true, false, List, [], ◌∷◌, ◌++◌, Option, Some, None, take}
 use Rattle.std.specs.Prelude.{drop, length, option_map, option_and_then}
 use Rattle.std.specs.List.{list_all, slice_index}
 use Rattle.std.specs.Str.{chars, IsCharBoundary}
 use Rattle.html_render_dom_values.specs.declared.white_space.WhiteSpace.{WhiteSpace}
 use Rattle.html_render_layout_lines.specs.declared.character.Kind.{Kind}
-use Rattle.html_render_layout_lines.specs.declared.character.Kind.TheVariants.{Letter}
+use Rattle.html_render_layout_lines.specs.declared.character.Kind.TheVariants.{Letter, Preserved}
 use Rattle.html_render_layout_lines.specs.declared.character.TextStyle.{TextStyle}
 use Rattle.html_render_layout_lines.specs.Character.{kind, character_of}
 use Rattle.html_render_layout_lines.specs.declared.line.tagged_text.Run.{Run}
@@ -16,21 +16,26 @@ use Rattle.html_render_layout_paragraphs.specs.Stream.{State, styled, with_pendi
 use Rattle.html_render_layout_lines.specs.Line.{columns}
 use Rattle.html_render_layout_lines.specs.TaggedText.{text_columns, under, style_tag}
 
--- Whether a kind is that of letters.
-abbrev pub is_letter_kind : Kind → Bool
-is_letter_kind Letter = true
-is_letter_kind k = false
+-- Whether characters of a kind are in stretches: letters, and characters that are placed by themselves as they are.
+abbrev pub is_stretch_kind : Kind → Bool
+is_stretch_kind Letter = true
+is_stretch_kind Preserved = true
+is_stretch_kind k = false
 
--- Whether a character is a letter, a part of a word.
-abbrev pub is_letter : WhiteSpace → ℕ → Bool
-is_letter mode c = is_letter_kind (kind mode c)
+-- Whether a character is in a stretch.
+abbrev pub is_in_stretch : WhiteSpace → ℕ → Bool
+is_in_stretch mode c = is_stretch_kind (kind mode c)
 
--- Whether the first `bytes` bytes of a text are letters of `width` columns.
-pub record AreLetters (mode : WhiteSpace) (text : List ℕ) (bytes width : ℕ) : Type 0 where
+-- Whether the first `bytes` bytes of a text are a stretch of `width` columns.
+pub record IsStretch (mode : WhiteSpace) (text : List ℕ) (bytes width : ℕ) : Type 0 where
   pub within : bytes ≤ length text
   pub boundary : IsCharBoundary text bytes
-  pub letters : list_all (is_letter mode) (chars (take bytes text)) ≡ true
+  pub characters : list_all (is_in_stretch mode) (chars (take bytes text)) ≡ true
   pub columns : width ≡ text_columns (chars (take bytes text))
+
+-- Whether a byte is a printable ASCII character from `least` on.
+abbrev pub is_ascii_from : (least : ℕ) → ℕ → Bool
+is_ascii_from least c = nat_le least c && nat_le c 0x7E
 
 -- Whether the first `bytes` bytes of a text are whole characters of `width` columns.
 pub record IsFront (text : List ℕ) (bytes width : ℕ) : Type 0 where

@@ -2,16 +2,16 @@
 use Rattle.std.specs.Prelude.{ℕ, Bool, false, List, [], ◌∷◌, ◌++◌, Option, Some, None, is_some, map, option_and_then, option_map, if◌then◌else◌}
 use Rattle.std.specs.Bool.{beq}
 use Rattle.std.specs.Option.{option_or}
-use Rattle.html_render_dom_values.specs.WhiteSpace.{preserves}
+use Rattle.html_render_dom_values.specs.WhiteSpace.{preserves, wraps}
 use Rattle.html_render_layout_lines.specs.declared.character.Kind.{Kind}
-use Rattle.html_render_layout_lines.specs.declared.character.Kind.TheVariants.{Letter, Space, Divider, Dropped}
+use Rattle.html_render_layout_lines.specs.declared.character.Kind.TheVariants.{Letter, Space, Divider, Dropped, Preserved}
 use Rattle.html_render_layout_lines.specs.declared.character.Character.{Character}
 use Rattle.html_render_layout_lines.specs.declared.character.Item.{Item}
 use Rattle.html_render_layout_lines.specs.declared.character.TextStyle.{TextStyle}
 use Rattle.html_render_layout_lines.specs.declared.character.Item.TheVariants as item
 use Rattle.html_render_layout_lines.specs.Character.{kind, character_of}
 use Rattle.html_render_layout_lines.specs.Line.{Line}
-use Rattle.html_render_layout_paragraphs.specs.Paragraph.{LineBuffer, Setting, empty_buffer, with_waiting_mark, put_single, page_for_single, all_lines}
+use Rattle.html_render_layout_paragraphs.specs.Paragraph.{LineBuffer, Setting, empty_buffer, with_waiting_mark, put_single, put_items, page_for_single, all_lines}
 use Rattle.html_render_layout_paragraphs.specs.Placing.{put_word}
 
 -- Line buffer, pending space, and open word, with whether white space is preserved in its text. `open_word` is None if no
@@ -106,6 +106,20 @@ abbrev pub letters_step : {T M : Type 0} → State T M → TextStyle T → List 
 letters_step {T} {M} st style cs =
     if joins st.open_word (preserves style.mode) then Some (record st { word = st.word ++ styled style cs })
     else option_map (λ (t : State T M). record t { word = styled style cs; open_word = Some (preserves style.mode) }) (end_word st)
+
+-- State with characters of a text placed by themselves as they are, while no word is open.
+abbrev pub singles_step : {T M : Type 0} → State T M → TextStyle T → List ℕ → Option (State T M)
+singles_step {T} {M} st style cs =
+    option_map (λ (p : LineBuffer T M). record st { page = p; pending = None })
+    (put_items st.setting (page_for_single st.setting st.page st.pending Preserved) (styled style cs))
+
+-- State with its open word placed, and then characters of a text placed by themselves.
+abbrev pub then_singles : {T M : Type 0} → State T M → TextStyle T → List ℕ → Option (State T M)
+then_singles {T} {M} st style cs = option_and_then (λ (t : State T M). singles_step t style cs) (end_word st)
+
+-- State after a stretch of at least one character: letters, or characters that are placed by themselves.
+abbrev pub stretch_step : {T M : Type 0} → State T M → TextStyle T → List ℕ → Option (State T M)
+stretch_step st style cs = if wraps style.mode then letters_step st style cs else then_singles st style cs
 
 -- Lines followed by those of a finished line buffer, and an empty paragraph with the marks that still wait.
 abbrev pub flushed_to : {T M : Type 0} → Setting → List (Line T M) → LineBuffer T M → List (Line T M) × State T M

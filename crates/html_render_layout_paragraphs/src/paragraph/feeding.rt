@@ -1,16 +1,17 @@
-//! Feeding of texts: words and letters as slices if possible, other characters one by one.
+//! Feeding of texts: words and stretches as slices, other characters one by one.
 //!
-//! A letter is a character of [`Kind::Letter`], a part of a word.
+//! A stretch is consecutive characters of [`Kind::Letter`], the parts of words, or of [`Kind::Preserved`], each of which is
+//! placed by itself. A text has characters of only one of these kinds.
 
-ghost use Rattle.std.specs.Prelude.{IfErr, IfOk, IfSome, length, take, drop, ◌≡◌, ◌+◌, ◌≤◌, ◌<◌, [], Some, None, true};
+ghost use Rattle.std.specs.Prelude.{IfErr, IfOk, length, take, drop, ◌≡◌, ◌+◌, ◌≤◌, ◌<◌, [], Some, None, true};
 ghost use Rattle.std.specs.Bool.{OnTrue};
 ghost use Rattle.std.specs.List.{list_all, slice_index};
 ghost use Rattle.std.specs.Str.{chars, IsUtf8};
 ghost use Rattle.html_render_dom_values.specs.Outcome.{Gives, Refuses};
 ghost use Rattle.html_render_dom_values.specs.declared.white_space.WhiteSpace.TheVariants.{Normal};
-ghost use Rattle.html_render_layout_lines.specs.Character.{kind, width_of, is_plain, character_of};
-ghost use Rattle.html_render_layout_paragraphs.specs.Feeding.{AreLetters, IsFront, HasFreeColumns, placed_text_and_space, with_words};
-ghost use Rattle.html_render_layout_paragraphs.specs.Stream.{after, step, letter_step, letters_step, then_single, character_step};
+ghost use Rattle.html_render_layout_lines.specs.Character.{kind, width_of, character_of};
+ghost use Rattle.html_render_layout_paragraphs.specs.Feeding.{is_ascii_from, IsStretch, IsFront, HasFreeColumns, placed_text_and_space, with_words};
+ghost use Rattle.html_render_layout_paragraphs.specs.Stream.{after, step, letter_step, letters_step, then_single, then_singles, stretch_step, character_step};
 ghost use Rattle.html_render_layout_paragraphs.specs.Stream.{with_pending, joins, styled};
 ghost use Rattle.html_render_layout_lines.specs.TaggedText.{text_columns};
 
@@ -25,26 +26,26 @@ use html_render_layout_lines::tag::Tag;
 use std::alloc::AllocError;
 use std::simd::prelude::*;
 
-/// Letters at the start of a text: their number of bytes, and their columns.
+/// A stretch at the start of a text: its number of bytes, and its columns.
 #[derive(Clone, Copy)]
-struct Letters {
+struct Stretch {
     bytes: usize,
     columns: usize,
 }
 
-/// Words at the start of a text, each with the space before it, and the letters after them and after one byte of white space.
+/// Words at the start of a text, each with the space before it, and the stretch after them and after one byte of white space.
 #[derive(Clone, Copy)]
 struct FittingWords {
     bytes: usize,
     columns: usize,
-    next: Letters,
+    next: Stretch,
 }
 
-/// A rest of a text, and letters at its start, which needn't be looked for again.
+/// A rest of a text, and a stretch at its start, which needn't be looked for again.
 #[derive(Drop)]
 struct Rest<'a> {
     text: &'a str,
-    letters: Letters,
+    stretch: Stretch,
 }
 
 impl<T: Tag, M: Copy> Paragraph<T, M> {
@@ -153,6 +154,31 @@ impl<T: Tag, M: Copy> Paragraph<T, M> {
         Ok(())
     }
 
+    /// Places the open word, if there is one, and then the characters of a text of `width` columns by themselves. The text has
+    /// at least one.
+    #[tactic(auto, using(html_render_dom_values::specs::laws::Outcome::refusals))]
+    fn add_singles(&mut self, text: &str, width: usize, style: TextStyle<T>) -> Result<(), Error>
+        requires width { width ≡ text_columns (chars text.now) }
+        requires some { 0 < length text.now }
+        ensures { Gives result (then_singles self.old style (chars text.now)) self.new }
+    {
+        self.end_word()?;
+        self.place_singles(text, width, style)
+    }
+
+    /// Feeds a stretch of `width` columns and at least one character, as [`Paragraph::add_character`] does each of them.
+    fn add_stretch(&mut self, stretch: &str, width: usize, style: TextStyle<T>) -> Result<(), Error>
+        requires width { width ≡ text_columns (chars stretch.now) }
+        requires some { 0 < length stretch.now }
+        ensures { Gives result (stretch_step self.old style (chars stretch.now)) self.new }
+    {
+        if style.mode.do_wrap() {
+            self.add_letters(stretch, width, style)
+        } else {
+            self.add_singles(stretch, width, style)
+        }
+    }
+
     /// Reports whether no word is open.
     #[inline]
     fn is_between_words(&self) -> bool
@@ -212,12 +238,12 @@ impl<T: Tag, M: Copy> Paragraph<T, M> {
         ensures waiting { 0 < result.bytes → self.now.page.waiting ≡ [] }
         ensures fed { after (with_words self.now style text.now 0) (styled style (chars (drop 1 text.now)))
             ≡ after (with_words self.now style text.now result.bytes) (styled style (chars (drop (result.bytes + 1) text.now))) }
-        ensures next { AreLetters style.mode (drop (result.bytes + 1) text.now) result.next.bytes result.next.columns }
+        ensures next { IsStretch style.mode (drop (result.bytes + 1) text.now) result.next.bytes result.next.columns }
     {
         let room = self.room_behind_space();
         let mut bytes = 0;
         let mut columns: usize = 0;
-        let mut next = letters_in_front(&text[1..], style.mode);
+        let mut next = stretch_in_front(&text[1..], style.mode);
         while text.as_bytes()[bytes] == b' '
             && next.bytes > 0
             && next.columns < room - columns
@@ -225,7 +251,7 @@ impl<T: Tag, M: Copy> Paragraph<T, M> {
         {
             bytes = bytes + 1 + next.bytes;
             columns = columns + 1 + next.columns;
-            next = letters_in_front(&text[bytes + 1..], style.mode);
+            next = stretch_in_front(&text[bytes + 1..], style.mode);
         }
         FittingWords {
             bytes,
@@ -249,14 +275,14 @@ impl<T: Tag, M: Copy> Paragraph<T, M> {
         requires due { self.old.pending ≡ Some (character_of style (slice_index text.now 0)) }
         ensures ok { IfOk result (λ rest. after self.old (styled style (chars (drop 1 text.now))) ≡ after self.new (styled style (chars rest.text.now))) }
         ensures text { IfOk result (λ rest. IsUtf8 rest.text.now) }
-        ensures letters { IfOk result (λ rest. AreLetters style.mode rest.text.now rest.letters.bytes rest.letters.columns) }
+        ensures stretch { IfOk result (λ rest. IsStretch style.mode rest.text.now rest.stretch.bytes rest.stretch.columns) }
         ensures shorter { IfOk result (λ rest. length rest.text.now < length text.now) }
     {
         let words = self.fitting_words(text, style);
         let count = words.bytes;
         let rest = Rest {
             text: &text[count + 1..],
-            letters: words.next,
+            stretch: words.next,
         };
         if count == 0 {
             return Ok(rest);
@@ -272,11 +298,11 @@ impl<T: Tag, M: Copy> Paragraph<T, M> {
     fn feed_word<'a>(
         &mut self,
         text: &'a str,
-        letters: Letters,
+        letters: Stretch,
         style: TextStyle<T>,
     ) -> Result<Rest<'a>, Error>
         requires mode { style.mode ≡ Normal }
-        requires letters { AreLetters style.mode text.now letters.bytes letters.columns }
+        requires letters { IsStretch style.mode text.now letters.bytes letters.columns }
         requires some { 0 < letters.bytes }
         requires within { letters.bytes < length text.now }
         requires byte { slice_index text.now letters.bytes < 128 }
@@ -285,7 +311,7 @@ impl<T: Tag, M: Copy> Paragraph<T, M> {
         requires word { self.old.word ≡ [] }
         ensures ok { IfOk result (λ rest. after self.old (styled style (chars text.now)) ≡ after self.new (styled style (chars rest.text.now))) }
         ensures text { IfOk result (λ rest. IsUtf8 rest.text.now) }
-        ensures letters { IfOk result (λ rest. AreLetters style.mode rest.text.now rest.letters.bytes rest.letters.columns) }
+        ensures stretch { IfOk result (λ rest. IsStretch style.mode rest.text.now rest.stretch.bytes rest.stretch.columns) }
         ensures shorter { IfOk result (λ rest. length rest.text.now < length text.now) }
         ensures err { IfErr result (λ e. Refuses e (after self.old (styled style (chars text.now)))) }
     {
@@ -295,27 +321,27 @@ impl<T: Tag, M: Copy> Paragraph<T, M> {
         Ok(self.feed_fitting_words(&text[count..], style)?)
     }
 
-    /// Feeds the letters at the start of a text. Returns the rest, with none of its letters.
-    fn feed_letters<'a>(
+    /// Feeds the stretch at the start of a text. Returns the rest, without the stretch at its start.
+    fn feed_stretch<'a>(
         &mut self,
         text: &'a str,
-        letters: Letters,
+        stretch: Stretch,
         style: TextStyle<T>,
     ) -> Result<Rest<'a>, Error>
-        requires letters { AreLetters style.mode text.now letters.bytes letters.columns }
-        requires some { 0 < letters.bytes }
+        requires stretch { IsStretch style.mode text.now stretch.bytes stretch.columns }
+        requires some { 0 < stretch.bytes }
         ensures ok { IfOk result (λ rest. after self.old (styled style (chars text.now)) ≡ after self.new (styled style (chars rest.text.now))) }
         ensures text { IfOk result (λ rest. IsUtf8 rest.text.now) }
-        ensures letters { IfOk result (λ rest. AreLetters style.mode rest.text.now rest.letters.bytes rest.letters.columns) }
+        ensures stretch { IfOk result (λ rest. IsStretch style.mode rest.text.now rest.stretch.bytes rest.stretch.columns) }
         ensures shorter { IfOk result (λ rest. length rest.text.now < length text.now) }
         ensures err { IfErr result (λ e. Refuses e (after self.old (styled style (chars text.now)))) }
     {
-        let count = letters.bytes;
-        self.add_letters(&text[..count], letters.columns, style)?;
+        let count = stretch.bytes;
+        self.add_stretch(&text[..count], stretch.columns, style)?;
         let text = &text[count..];
         Ok(Rest {
             text,
-            letters: no_letters(text, style.mode),
+            stretch: no_stretch(text, style.mode),
         })
     }
 
@@ -324,7 +350,7 @@ impl<T: Tag, M: Copy> Paragraph<T, M> {
         requires { 0 < length text.now }
         ensures ok { IfOk result (λ rest. after self.old (styled style (chars text.now)) ≡ after self.new (styled style (chars rest.text.now))) }
         ensures text { IfOk result (λ rest. IsUtf8 rest.text.now) }
-        ensures letters { IfOk result (λ rest. AreLetters style.mode rest.text.now rest.letters.bytes rest.letters.columns) }
+        ensures stretch { IfOk result (λ rest. IsStretch style.mode rest.text.now rest.stretch.bytes rest.stretch.columns) }
         ensures shorter { IfOk result (λ rest. length rest.text.now < length text.now) }
         ensures err { IfErr result (λ e. Refuses e (after self.old (styled style (chars text.now)))) }
     {
@@ -332,35 +358,35 @@ impl<T: Tag, M: Copy> Paragraph<T, M> {
         self.add_character(c, style)?;
         Ok(Rest {
             text: behind,
-            letters: letters_in_front(behind, style.mode),
+            stretch: stretch_in_front(behind, style.mode),
         })
     }
 
     /// Feeds the start of a text, and returns the rest. The start is the first of these that the text has:
     ///
     /// - while no word is open, a word and the white space after it, and then the words that fit on the line
-    /// - letters
+    /// - a stretch
     /// - a character
     fn feed_front<'a>(&mut self, front: Rest<'a>, style: TextStyle<T>) -> Result<Rest<'a>, Error>
         requires some { 0 < length front.text.now }
-        requires letters { AreLetters style.mode front.text.now front.letters.bytes front.letters.columns }
+        requires stretch { IsStretch style.mode front.text.now front.stretch.bytes front.stretch.columns }
         ensures ok { IfOk result (λ rest. after self.old (styled style (chars front.entry.text.now)) ≡ after self.new (styled style (chars rest.text.now))) }
         ensures text { IfOk result (λ rest. IsUtf8 rest.text.now) }
-        ensures letters { IfOk result (λ rest. AreLetters style.mode rest.text.now rest.letters.bytes rest.letters.columns) }
+        ensures stretch { IfOk result (λ rest. IsStretch style.mode rest.text.now rest.stretch.bytes rest.stretch.columns) }
         ensures shorter { IfOk result (λ rest. length rest.text.now < length front.entry.text.now) }
         ensures err { IfErr result (λ e. Refuses e (after self.old (styled style (chars front.entry.text.now)))) }
     {
-        let Rest { text, letters } = front;
-        if letters.bytes == 0 {
+        let Rest { text, stretch } = front;
+        if stretch.bytes == 0 {
             return self.feed_character(text, style);
         }
         if style.mode == WhiteSpace::Normal
-            && has_space_at(text.as_bytes(), letters.bytes)
+            && has_space_at(text.as_bytes(), stretch.bytes)
             && self.is_between_words()
         {
-            return self.feed_word(text, letters, style);
+            return self.feed_word(text, stretch, style);
         }
-        self.feed_letters(text, letters, style)
+        self.feed_stretch(text, stretch, style)
     }
 
     /// Feeds the characters of a text.
@@ -369,7 +395,7 @@ impl<T: Tag, M: Copy> Paragraph<T, M> {
     {
         let mut rest = Rest {
             text,
-            letters: letters_in_front(text, style.mode),
+            stretch: stretch_in_front(text, style.mode),
         };
         while !rest.text.is_empty() {
             rest = self.feed_front(rest, style)?;
@@ -392,123 +418,156 @@ fn has_space_at(text: &[u8], at: usize) -> bool
 /// Number of bytes that are tested at once. Most words are shorter.
 const LANES: usize = 8;
 
-/// Returns the number of printable ASCII characters, the space excluded, at the start of a text, if it is less than `LANES`.
+/// Returns the number of bytes from `least` to `~` at the start of a text, at most `LANES`.
 #[inline(always)]
-fn few_plain_in_front(text: &[u8]) -> Option<usize>
+fn ascii_in_block(text: &[u8], least: u8) -> usize
     requires { LANES ≤ length text.now }
-    ensures within { IfSome result (λ count. count ≤ length text.now) }
-    ensures plain { IfSome result (λ count. list_all is_plain (take count text.now) ≡ true) }
+    ensures within { result ≤ LANES }
+    ensures ascii { list_all (is_ascii_from least) (take result text.now) ≡ true }
 {
     let block = u8x8::from_slice(text);
-    let others = block.simd_lt(u8x8::splat(b'!')) | block.simd_gt(u8x8::splat(b'~'));
+    let others = block.simd_lt(u8x8::splat(least)) | block.simd_gt(u8x8::splat(b'~'));
     let others = others.to_bitmask();
     if others == 0 {
-        return None;
+        return LANES;
     }
-    Some(others.trailing_zeros() as usize)
+    others.trailing_zeros() as usize
 }
 
-/// Returns the number of printable ASCII characters, the space excluded, at the start of a text. Each has one byte and
-/// one column.
-#[inline]
-pub(super) fn plain_in_front(text: &[u8]) -> usize
+/// Returns the number of bytes from `least` to `~` at the start of a text, the first `known` of which are known to be such.
+#[inline(always)]
+fn ascii_after(text: &[u8], known: usize, least: u8) -> usize
+    requires within { known ≤ length text.now }
+    requires known { list_all (is_ascii_from least) (take known text.now) ≡ true }
     ensures within { result ≤ length text.now }
-    ensures plain { list_all is_plain (take result text.now) ≡ true }
+    ensures ascii { list_all (is_ascii_from least) (take result text.now) ≡ true }
 {
-    if text.len() >= LANES {
-        if let Some(count) = few_plain_in_front(text) {
-            return count;
-        }
-    }
-    let mut count = 0;
-    while count < text.len() && matches!(text[count], b'!'..=b'~') {
+    let mut count = known;
+    while count < text.len() && text[count] >= least && text[count] <= b'~' {
         count += 1;
     }
     count
 }
 
-/// Returns none of the letters at the start of a text.
+/// Returns the number of printable ASCII characters, the space excluded, at the start of a text. Each has one byte and
+/// one column.
 #[inline]
-fn no_letters(text: &str, mode: WhiteSpace) -> Letters
-    ensures { AreLetters mode text.now result.bytes result.columns }
+fn plain_in_front(text: &[u8]) -> usize
+    ensures within { result ≤ length text.now }
+    ensures plain { list_all (is_ascii_from 0x21) (take result text.now) ≡ true }
+{
+    if text.len() < LANES {
+        return ascii_after(text, 0, b'!');
+    }
+    let count = ascii_in_block(text, b'!');
+    if count < LANES {
+        return count;
+    }
+    ascii_after(text, count, b'!')
+}
+
+/// Returns the number of printable ASCII characters at the start of a text. Each has one byte and one column.
+#[inline]
+pub(super) fn printable_in_front(text: &[u8]) -> usize
+    ensures within { result ≤ length text.now }
+    ensures printable { list_all (is_ascii_from 0x20) (take result text.now) ≡ true }
+{
+    let mut count = 0;
+    while text.len() - count >= LANES {
+        let more = ascii_in_block(&text[count..], b' ');
+        count += more;
+        if more < LANES {
+            return count;
+        }
+    }
+    ascii_after(text, count, b' ')
+}
+
+/// Returns an empty stretch at the start of a text.
+#[inline]
+fn no_stretch(text: &str, mode: WhiteSpace) -> Stretch
+    ensures { IsStretch mode text.now result.bytes result.columns }
 {
     let _ = text;
     let _ = mode;
-    Letters {
+    Stretch {
         bytes: 0,
         columns: 0,
     }
 }
 
-/// Returns the printable ASCII characters, the space excluded, at the start of a text. Returns none under `Pre`, where
-/// no character is a letter.
+/// Returns the printable ASCII characters at the start of a text; the space is one of them only under `Pre`.
 #[inline]
-fn plain_letters(text: &str, mode: WhiteSpace) -> Letters
-    ensures { AreLetters mode text.now result.bytes result.columns }
+fn ascii_stretch(text: &str, mode: WhiteSpace) -> Stretch
+    ensures { IsStretch mode text.now result.bytes result.columns }
 {
     if mode.do_wrap() {
         let count = plain_in_front(text.as_bytes());
-        Letters {
+        Stretch {
             bytes: count,
             columns: count,
         }
     } else {
-        no_letters(text, mode)
+        let count = printable_in_front(text.as_bytes());
+        Stretch {
+            bytes: count,
+            columns: count,
+        }
     }
 }
 
-/// Returns the first character of a text if it is a letter, and none otherwise.
-fn first_letter(text: &str, mode: WhiteSpace) -> Letters
+/// Returns the first character of a text if it is in a stretch, and an empty one otherwise.
+fn first_stretch(text: &str, mode: WhiteSpace) -> Stretch
     requires { 0 < length text.now }
-    ensures { AreLetters mode text.now result.bytes result.columns }
+    ensures { IsStretch mode text.now result.bytes result.columns }
 {
     let (c, rest) = split_first_character(text);
     let class = class_of(mode, c);
     match class.kind {
-        Kind::Letter => Letters {
+        Kind::Letter | Kind::Preserved => Stretch {
             bytes: text.len() - rest.len(),
             columns: class.width,
         },
-        _ => no_letters(text, mode),
+        _ => no_stretch(text, mode),
     }
 }
 
-/// Returns some letters at the start of a text; none only if its first character isn't a letter.
+/// Returns a stretch at the start of a text. It is empty only if the first character is in none.
 #[inline]
-fn next_letters(text: &str, mode: WhiteSpace) -> Letters
+fn next_stretch(text: &str, mode: WhiteSpace) -> Stretch
     requires { 0 < length text.now }
-    ensures { AreLetters mode text.now result.bytes result.columns }
+    ensures { IsStretch mode text.now result.bytes result.columns }
 {
     if text.as_bytes()[0] >= 0x80 {
-        return first_letter(text, mode);
+        return first_stretch(text, mode);
     }
-    plain_letters(text, mode)
+    ascii_stretch(text, mode)
 }
 
-/// Returns the letters at the start of a text: the printable ASCII characters and, if a character outside ASCII follows
-/// them, the letters from there on.
+/// Returns the stretch at the start of a text: the printable ASCII characters and, if a character outside ASCII follows
+/// them, the characters from there on.
 #[inline]
-fn letters_in_front(text: &str, mode: WhiteSpace) -> Letters
-    ensures { AreLetters mode text.now result.bytes result.columns }
+fn stretch_in_front(text: &str, mode: WhiteSpace) -> Stretch
+    ensures { IsStretch mode text.now result.bytes result.columns }
 {
-    let plain = plain_letters(text, mode);
-    match text.as_bytes().get(plain.bytes) {
-        Some(byte) if *byte >= 0x80 => more_letters(text, plain, mode),
-        _ => plain,
+    let ascii = ascii_stretch(text, mode);
+    match text.as_bytes().get(ascii.bytes) {
+        Some(byte) if *byte >= 0x80 => longer_stretch(text, ascii, mode),
+        _ => ascii,
     }
 }
 
-/// Returns all letters at the start of a text, of which some are known. Stops early if their columns pass a machine
+/// Returns the whole stretch at the start of a text, of which a part is known. Stops early if its columns pass a machine
 /// word.
 #[inline(never)]
-fn more_letters(text: &str, known: Letters, mode: WhiteSpace) -> Letters
-    requires { AreLetters mode text.now known.bytes known.columns }
-    ensures { AreLetters mode text.now result.bytes result.columns }
+fn longer_stretch(text: &str, known: Stretch, mode: WhiteSpace) -> Stretch
+    requires { IsStretch mode text.now known.bytes known.columns }
+    ensures { IsStretch mode text.now result.bytes result.columns }
 {
     let mut bytes = known.bytes;
     let mut columns = known.columns;
     while bytes < text.len() {
-        let next = next_letters(&text[bytes..], mode);
+        let next = next_stretch(&text[bytes..], mode);
         let Some(sum) = columns.checked_add(next.columns) else {
             break;
         };
@@ -518,5 +577,5 @@ fn more_letters(text: &str, known: Letters, mode: WhiteSpace) -> Letters
         bytes += next.bytes;
         columns = sum;
     }
-    Letters { bytes, columns }
+    Stretch { bytes, columns }
 }

@@ -1,6 +1,6 @@
 //! Placing on a line buffer: characters with the marks that wait for them, pending spaces, and ends of lines.
 
-ghost use Rattle.std.specs.Prelude.{IfErr, fold, map, replicate, ◌≡◌, ◌+◌, ◌-◌, ◌%◌, [], ◌∷◌, ◌++◌, Some, None, OnOk, if◌then◌else◌};
+ghost use Rattle.std.specs.Prelude.{IfErr, fold, map, replicate, ◌≡◌, ◌≤◌, ◌+◌, ◌-◌, ◌%◌, [], ◌∷◌, ◌++◌, Some, None, OnOk, if◌then◌else◌};
 ghost use Rattle.html_render_dom_values.specs.Outcome.{Gives, Refuses};
 ghost use Rattle.html_render_layout_lines.specs.Character.{width_of, tag_on};
 ghost use Rattle.html_render_layout_lines.specs.Line.{columns};
@@ -14,7 +14,7 @@ use crate::paragraph::Paragraph;
 use crate::word::tag_on;
 use html_render_dom_values::Error;
 use html_render_dom_values::room::{fits_after_gap, is_allowed_on_line};
-use html_render_layout_lines::character::{Character, Class, Item, Kind, width_of};
+use html_render_layout_lines::character::{Character, Class, Item, Kind, TextStyle, width_of};
 use html_render_layout_lines::line::Element;
 use html_render_layout_lines::tag::Tag;
 use std::alloc::AllocError;
@@ -107,7 +107,7 @@ impl<T: Tag, M: Copy> Paragraph<T, M> {
 
     /// Appends the pending space before a character of this kind, which is placed by itself. Drops the space instead
     /// before a newline or if it doesn't fit.
-    fn settle_for(&mut self, kind: Kind) -> Result<(), AllocError>
+    pub(super) fn settle_for(&mut self, kind: Kind) -> Result<(), AllocError>
         ensures { OnOk result (self.new ≡ record self.old { page = page_for_single self.old.setting self.old.page self.old.pending kind; pending = None }) }
     {
         if kind != Kind::Newline && self.fits_behind_gap(0) {
@@ -211,22 +211,6 @@ impl<T: Tag, M: Copy> Paragraph<T, M> {
         8 - self.lines.past_tab_stop()
     }
 
-    /// Places a character `count` times, each time on the open line if it fits there, and otherwise on a continuation
-    /// line.
-    #[tactic(auto, using(html_render_dom_values::specs::laws::Outcome::refusals, crate::proofs::Copies::copies_left))]
-    fn put_copies(&mut self, character: Character<T>, count: usize) -> Result<(), Error>
-        ensures ok { OnOk result (
-            on_page self.old (put_items self.old.setting self.old.page (map (λ d. Item.Character d) (replicate count character))) ≡ Some self.new) }
-        ensures err { IfErr result (λ e.
-            Refuses e (put_items self.old.setting self.old.page (map (λ d. Item.Character d) (replicate count character)))) }
-    {
-        let width = width_of(character.code);
-        for _k in 0..count {
-            self.put_character(character, width)?;
-        }
-        Ok(())
-    }
-
     /// Places a character up to `count` times: on the open line, while it fits there.
     #[tactic(auto, using(crate::proofs::Copies::copies_left))]
     fn put_fitting_copies(
@@ -244,17 +228,20 @@ impl<T: Tag, M: Copy> Paragraph<T, M> {
     }
 
     /// Places a tab: spaces to the next multiple of 8 columns. Those that don't fit are placed on continuation lines.
+    #[tactic(auto, using(crate::proofs::Tabs::tabs))]
     fn put_tab(&mut self, character: Character<T>) -> Result<(), Error>
         ensures ok { OnOk result (
             on_page self.old (put_items self.old.setting self.old.page (map (λ d. Item.Character d) (tab_spaces self.old.page character))) ≡ Some self.new) }
         ensures err { IfErr result (λ e.
             Refuses e (put_items self.old.setting self.old.page (map (λ d. Item.Character d) (tab_spaces self.old.page character)))) }
     {
-        let space = Character {
-            code: ' ',
-            ..character
+        let style = TextStyle {
+            mode: character.mode,
+            tag: character.tag,
+            continuation_tag: character.continuation_tag,
         };
-        self.put_copies(space, self.tab_count())
+        let count = self.tab_count();
+        self.put_text(few_spaces(TAB, count), count, style)
     }
 
     /// Places a tab: those of the spaces to the next multiple of 8 columns that fit. The others are dropped.
@@ -306,4 +293,16 @@ impl<T: Tag, M: Copy> Paragraph<T, M> {
         self.settle_for(class.kind)?;
         self.put_single(class, character)
     }
+}
+
+/// Spaces of the widest tab.
+const TAB: &str = "        ";
+
+/// Returns the first `count` of 8 spaces.
+fn few_spaces(text: &'static str, count: usize) -> &'static str
+    requires text { text.now ≡ replicate 8 32 }
+    requires few { count ≤ 8 }
+    ensures { result.now ≡ replicate count 32 }
+{
+    &text[..count]
 }

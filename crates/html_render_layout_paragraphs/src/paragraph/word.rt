@@ -8,16 +8,18 @@ ghost use Rattle.html_render_layout_lines.specs.Character.{width_of, character_o
 ghost use Rattle.html_render_layout_lines.specs.Line.{columns, word_columns};
 ghost use Rattle.html_render_layout_paragraphs.specs.Paragraph.{fits, with_due_space, put_items};
 ghost use Rattle.html_render_layout_paragraphs.specs.Placing.{put_word};
-ghost use Rattle.html_render_layout_paragraphs.specs.Stream.{on_page, placed_word, end_word, styled};
+ghost use Rattle.html_render_layout_paragraphs.specs.Stream.{on_page, placed_word, end_word, singles_step, styled};
 ghost use Rattle.html_render_layout_lines.specs.TaggedText.{Cuts, open_elements, items_of, text_columns, style_tag, under};
 ghost use Rattle.html_render_layout_paragraphs.specs.Word.{with_word, EndsInCharacter};
 ghost use Rattle.html_render_layout_paragraphs.specs.Feeding.{IsFront, placed_text, put_runs};
 
-use crate::paragraph::feeding::plain_in_front;
+use crate::paragraph::feeding::printable_in_front;
 use crate::paragraph::{OpenWord, Paragraph};
 use crate::word::{Word, push_word};
 use html_render_dom_values::Error;
-use html_render_layout_lines::character::{Character, TextStyle, split_first_character, width_of};
+use html_render_layout_lines::character::{
+    Character, Kind, TextStyle, split_first_character, width_of,
+};
 use html_render_layout_lines::line::{Element, Run, style_tag};
 use html_render_layout_lines::tag::Tag;
 use std::alloc::AllocError;
@@ -302,7 +304,12 @@ impl<T: Tag, M: Copy> Paragraph<T, M> {
     /// Places a text of `width` columns and at least one character: as a whole if it fits on the line, otherwise
     /// character by character.
     #[tactic(auto, using(html_render_dom_values::specs::laws::Outcome::refusals, crate::proofs::WholeWords::text_words))]
-    fn put_text(&mut self, text: &str, width: usize, style: TextStyle<T>) -> Result<(), Error>
+    pub(super) fn put_text(
+        &mut self,
+        text: &str,
+        width: usize,
+        style: TextStyle<T>,
+    ) -> Result<(), Error>
         requires width { width ≡ text_columns (chars text.now) }
         requires some { 0 < length text.now }
         ensures ok { OnOk result (on_page self.old (put_items self.old.setting self.old.page (styled style (chars text.now))) ≡ Some self.new) }
@@ -314,6 +321,23 @@ impl<T: Tag, M: Copy> Paragraph<T, M> {
         } else {
             self.put_characters(text, style)
         }
+    }
+
+    /// Places the characters of a text of `width` columns by themselves, after the pending space if that fits. The text has at
+    /// least one. It is called while no word is open.
+    #[tactic(auto, using(html_render_dom_values::specs::laws::Outcome::refusals))]
+    pub(super) fn place_singles(
+        &mut self,
+        text: &str,
+        width: usize,
+        style: TextStyle<T>,
+    ) -> Result<(), Error>
+        requires width { width ≡ text_columns (chars text.now) }
+        requires some { 0 < length text.now }
+        ensures { Gives result (singles_step self.old style (chars text.now)) self.new }
+    {
+        self.settle_for(Kind::Preserved)?;
+        self.put_text(text, width, style)
     }
 
     /// Places a text of `width` columns and at least one character as a word, after the pending space or on a
@@ -347,14 +371,14 @@ pub(super) fn character_of<T: Copy>(c: char, style: TextStyle<T>) -> Character<T
     }
 }
 
-/// Returns the number of printable ASCII characters, the space excluded, at the start of a text, at most `room`.
+/// Returns the number of printable ASCII characters at the start of a text, at most `room`.
 #[inline]
-fn plain_front(text: &str, room: usize) -> usize
+fn printable_front(text: &str, room: usize) -> usize
     ensures front { IsFront text.now result result }
     ensures fits { result ≤ room }
 {
     let bytes = text.as_bytes();
-    plain_in_front(&bytes[..room.min(bytes.len())])
+    printable_in_front(&bytes[..room.min(bytes.len())])
 }
 
 /// Returns the first character of a text as a leading part. The part is empty if the character has more than `room`
@@ -378,20 +402,20 @@ fn first_front(text: &str, room: usize) -> Front
     }
 }
 
-/// Returns a leading part of a text of at most `room` columns: its printable ASCII characters, the space excluded, or
-/// else its first character. The part is empty if that is wider.
+/// Returns a leading part of a text of at most `room` columns: its printable ASCII characters, or else its first character.
+/// The part is empty if that is wider.
 fn next_front(text: &str, room: usize) -> Front
     requires { 0 < length text.now }
     ensures front { IsFront text.now result.bytes result.columns }
     ensures fits { result.columns ≤ room }
 {
-    let plain = plain_front(text, room);
-    if plain == 0 {
+    let count = printable_front(text, room);
+    if count == 0 {
         return first_front(text, room);
     }
     Front {
-        bytes: plain,
-        columns: plain,
+        bytes: count,
+        columns: count,
     }
 }
 

@@ -1,6 +1,6 @@
 use Rattle.std.proofs.Common.{◌≡◌, length}
 use Rattle.std.specs.Str.{chars, IsUtf8}
-use Rattle.html_render_layout_paragraphs.specs.Feeding.{AreLetters}
+use Rattle.html_render_layout_paragraphs.specs.Feeding.{IsStretch}
 use Rattle.html_render_layout_paragraphs.specs.Stream.{after, styled}
 use Rattle.html_render_layout_paragraphs.proofs.paragraph.Paragraph.feed.Given as goal
 
@@ -9,7 +9,7 @@ abbrev pub invariant-loop-rest : goal.invariant-loop-rest
 invariant-loop-rest g l = record {
   fed : after l.initial.self (styled l.style (chars l.text)) ≡ after l.self (styled l.style (chars l.rest.text.now));
   utf8 : IsUtf8 l.rest.text.now;
-  letters : AreLetters l.style.mode l.rest.text.now l.rest.letters.bytes l.rest.letters.columns;
+  stretch : IsStretch l.style.mode l.rest.text.now l.rest.stretch.bytes l.rest.stretch.columns;
 }
 
 abbrev pub decreases-loop-rest : goal.decreases-loop-rest

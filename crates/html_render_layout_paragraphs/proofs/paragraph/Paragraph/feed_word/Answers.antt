@@ -6,7 +6,7 @@ use Rattle.html_render_dom_values.specs.laws.Outcome.{Refuses-then, Refuses-same
 use Rattle.html_render_layout_paragraphs.specs.Feeding.{placed_text_and_space}
 use Rattle.html_render_layout_paragraphs.specs.Stream.{after, styled}
 use Rattle.html_render_layout_lines.specs.Character.{character_of}
-use Rattle.html_render_layout_paragraphs.proofs.Letters.{after-word}
+use Rattle.html_render_layout_paragraphs.proofs.Stretches.{after-word}
 use Rattle.html_render_layout_paragraphs.proofs.SpacedWords.{after-placed}
 use Rattle.html_render_layout_paragraphs.proofs.paragraph.Paragraph.feed_word.Goals as goal
 

@@ -13,7 +13,7 @@ loop-bytes-init g c = record {
   byte = c.requires.byte;
   room = omega arith;
   no_mark = λ h. absurd (omega arith);
-  next = rw c.range_from.ensures.value at c.letters_in_front-next.ensures;
+  next = rw c.range_from.ensures.value at c.stretch_in_front-next.ensures;
   fed = refl;
 }
 
@@ -42,7 +42,7 @@ loop-bytes-preserved g c =
       byte = byte;
       room = omega arith;
       no_mark = λ h. has.no_mark;
-      next = rw c.range_from-in-loop-bytes.ensures.value at c.letters_in_front-next-in-loop-bytes.ensures;
+      next = rw c.range_from-in-loop-bytes.ensures.value at c.stretch_in_front-next-in-loop-bytes.ensures;
       fed = inv.fed
           ∙ next-fed c.args.self.now c.args.style text n c.loop-bytes.columns k v c.utf8.text c.requires.mode inv.front inv.within space inv.next
           (omega arith) within byte behind c.requires.closed c.requires.word has.some has.no_mark

@@ -1,6 +1,6 @@
 use Rattle.std.proofs.Common.{◌≡◌, ◌+◌, ◌-◌, ◌<◌, ◌≤◌, [], length, drop, get_or}
 use Rattle.std.specs.Str.{chars}
-use Rattle.html_render_layout_paragraphs.specs.Feeding.{AreLetters, IsFront, with_words}
+use Rattle.html_render_layout_paragraphs.specs.Feeding.{IsStretch, IsFront, with_words}
 use Rattle.html_render_layout_paragraphs.specs.Stream.{after, styled}
 use Rattle.html_render_layout_paragraphs.proofs.paragraph.Paragraph.fitting_words.Given as goal
 
@@ -12,7 +12,7 @@ invariant-loop-bytes g l = record {
   byte : get_or l.text l.bytes 0 < 128;
   room : l.columns ≤ l.room;
   no_mark : 0 < l.bytes → l.self.page.waiting ≡ [];
-  next : AreLetters l.style.mode (drop (l.bytes + 1) l.text) l.next.bytes l.next.columns;
+  next : IsStretch l.style.mode (drop (l.bytes + 1) l.text) l.next.bytes l.next.columns;
   fed : after (with_words l.self l.style l.text 0) (styled l.style (chars (drop 1 l.text)))
       ≡ after (with_words l.self l.style l.text l.bytes) (styled l.style (chars (drop (l.bytes + 1) l.text)));
 }

@@ -3,7 +3,7 @@ use Rattle.std.proofs.lemmas.List.{length-take}
 use Rattle.std.specs.Str.{chars, IsUtf8}
 use Rattle.html_render_layout_paragraphs.specs.Stream.{on_page}
 use Rattle.html_render_layout_paragraphs.proofs.SpacedWords.{put_items-front}
-use Rattle.html_render_layout_paragraphs.proofs.Letters.{some-chars}
+use Rattle.html_render_layout_paragraphs.proofs.Stretches.{some-chars}
 use Rattle.html_render_layout_paragraphs.proofs.paragraph.Paragraph.put_front.Goals as goal
 
 pub returns-then-front-gt0-clause-ok : goal.returns-then-front-gt0-clause-ok
