@@ -1,12 +1,11 @@
 -- A declaration changes its own property, and nothing else.
-use Rattle.std.proofs.Common.{◌≡◌, ℕ, ◌+◌, ◌<◌, Bool, true, false, List, [], ◌∷◌, ◌++◌, length, get_or, take, map, filter, Option, Some, None}
-use Rattle.std.proofs.Common.{codes, option_map, option_to_list, String, refl, sym, ap, ◌∙◌, append_assoc, Global}
+use Rattle.std.proofs.Common.{◌≡◌, ℕ, ◌+◌, ◌<◌, Bool, true, false, List, [], ◌∷◌, ◌++◌, length, get_or, take, map, filter, Option, Some, option_to_list, String, refl, sym, ap, ◌∙◌, append_assoc, Global}
 use Rattle.std.proofs.lemmas.List.{append-nil, flat_map_more, take_more}
 use Rattle.std.proofs.lemmas.List.Concat.{flat_map_single}
 use Rattle.std.proofs.lemmas.List.Folds.{flat_map-map}
 use Rattle.std.proofs.lemmas.List.Elements.{filter-append, filter_map-append}
 use Rattle.std.proofs.lemmas.Grind.{flat_map-append}
-use Rattle.std.specs.List.{cons_option, filter_map, flat_map}
+use Rattle.std.specs.List.{flat_map}
 use Rattle.html_render_dom_styles.specs.declared.updates.Update.{Update}
 use Rattle.html_render_dom_styles.specs.Cascade.{winner}
 use Rattle.html_render_dom_styles.specs.Keeping.{key_of, yields_to}
@@ -19,13 +18,9 @@ use Rattle.html_render_dom_styles.specs.declared.rules.Style.TheVariants.{Conten
 use Rattle.html_render_dom_styles.specs.declared.rules.Declaration.{Declaration}
 use Rattle.html_render_dom_styles.specs.declared.rules.StyleRule.{StyleRule}
 use Rattle.html_render_dom_styles.specs.Selectors.{selects, specificity_of}
-use Rattle.html_render_dom_nodes.specs.Content.{Property}
-use Rattle.html_render_dom.specs.Attributes.{first_value}
 use Rattle.html_render_dom_styles.specs.Rules.{Declared, Rule, StyleValue, declared_of, rule_of, style_value_of}
 use Rattle.html_render_dom.specs.declared.style.computed.ComputedStyle.{ComputedStyle}
-use Rattle.html_render_dom.specs.Applying.{Applied, applied, style_by, updates, with_more, with_declarations}
-use Rattle.html_render_dom.specs.ElementStyle.{element_style, updates_by, colour_in, bg_colour_in}
-use Rattle.html_render_dom.specs.ElementStyle.{display_in, white_space_value, content_in}
+use Rattle.html_render_dom.specs.Applying.{Applied, applied, updates, each_property, with_more, with_declarations}
 use Rattle.html_render_dom_styles.specs.laws.Winners.{winner-one, winner-front}
 use Rattle.html_render_dom_styles.specs.laws.Keeps.{winner-left}
 
@@ -54,29 +49,11 @@ with_more-append property kept front behind =
 
 pub with_declarations-append : (s : ComputedStyle) (front behind : List Applied) →
     with_declarations (with_declarations s front) behind ≡ with_declarations s (front ++ behind)
-with_declarations-append s front behind = λ i. record {
-  colour = with_more-append colour_in s.colour front behind i;
-  bg_colour = with_more-append bg_colour_in s.bg_colour front behind i;
-  display = with_more-append display_in s.display front behind i;
-  white_space = with_more-append white_space_value s.white_space front behind i;
-  content = with_more-append (content_in None) s.content front behind i;
-  content_before = with_more-append (content_in (Some Before)) s.content_before front behind i;
-  content_after = with_more-append (content_in (Some After)) s.content_after front behind i;
-  internal_pre = s.internal_pre;
-}
+with_declarations-append s front behind = λ i. each_property (λ T property kept. with_more-append property kept front behind i) s
 
 -- no declarations leave the style unchanged
 pub still : (s : ComputedStyle) → s ≡ with_declarations s []
-still s = λ i. record {
-  colour = untouched s.colour i;
-  bg_colour = untouched s.bg_colour i;
-  display = untouched s.display i;
-  white_space = untouched s.white_space i;
-  content = untouched s.content i;
-  content_before = untouched s.content_before i;
-  content_after = untouched s.content_after i;
-  internal_pre = s.internal_pre;
-}
+still s = λ i. each_property (λ T property kept. untouched kept i) s
 
 -- declarations of a pseudo-element that aren't content leave the style unchanged
 pub other_beside : (s : ComputedStyle) (important : Bool) (origin : StyleOrigin) (specificity : Specificity) (place : PseudoElement) (style : Style) →
@@ -127,38 +104,5 @@ said_to-selected selects rule e = rw e (sym (append-nil (applied rule)))
 
 pub said_to-other : (selects : Rule → Bool) (rule : Rule) (s : ComputedStyle) → selects rule ≡ false → s ≡ with_declarations s (said_to selects rule)
 said_to-other selects rule s e = rw e (still s)
-
-filter_map-map : {X Y Z : Type 0} (h : Y → Option Z) (f : X → Y) (xs : List X) → filter_map h (map f xs) ≡ filter_map (λ x. h (f x)) xs
-filter_map-map h f [] = refl
-filter_map-map h f (x ∷ xs) = ap (cons_option (h (f x))) (filter_map-map h f xs)
-
-abbrev updates_by_rule : {T : Type 0} → (Option PseudoElement → StyleValue → Option T) → Rule → List (Update T)
-updates_by_rule property rule = filter_map (λ d.
-    option_map (λ x. record { important = d.important; origin = rule.origin; specificity = specificity_of rule; value = x })
-    (property rule.pseudo d.style)) rule.declarations
-
--- the updates by rules are those by their declarations
-updates_by-applied : {T : Type 0} (property : Option PseudoElement → StyleValue → Option T) (rules : List Rule) →
-    updates property (flat_map applied rules) ≡ updates_by property rules
-updates_by-applied property [] = refl
-updates_by-applied property (r ∷ rules) =
-    filter_map-append _ (applied r) (flat_map applied rules)
-    ∙ ap (λ us. us ++ updates property (flat_map applied rules)) (filter_map-map _ _ r.declarations)
-    ∙ ap (λ us. updates_by_rule property r ++ us) (updates_by-applied property rules)
-
--- the style of an element is that by the declarations of the rules that select it
-pub element_style-applied : (rules : List Rule) (name : List ℕ) (ps : List Property) →
-    style_by (flat_map applied (filter (selects name (first_value (codes "id") ps) (first_value (codes "class") ps)) rules)) ≡ element_style rules name ps
-element_style-applied rules name ps =
-    let selected = filter (selects name (first_value (codes "id") ps) (first_value (codes "class") ps)) rules in λ i. record {
-      colour = winner (updates_by-applied colour_in selected i);
-      bg_colour = winner (updates_by-applied bg_colour_in selected i);
-      display = winner (updates_by-applied display_in selected i);
-      white_space = winner (updates_by-applied white_space_value selected i);
-      content = winner (updates_by-applied (content_in None) selected i);
-      content_before = winner (updates_by-applied (content_in (Some Before)) selected i);
-      content_after = winner (updates_by-applied (content_in (Some After)) selected i);
-      internal_pre = false;
-    }
 
 pub ruleset contents = (taken, left)

@@ -9,6 +9,7 @@ use Rattle.std.proofs.lemmas.Map.Keys.{IsDistinct-IsPermutation}
 use Rattle.html_render_dom.proofs.Lists.{IsDistinct-fresh}
 use Rattle.html_render_dom_nodes.specs.Content.{Content, document}
 use Rattle.html_render_dom_nodes.specs.Elements.{contents_in}
+use Rattle.html_render_dom_nodes.specs.Nodes.{Node}
 use Rattle.html_render_dom_values.specs.Forest.{Forest, none, node}
 use Rattle.html_render_dom.specs.Dom.{Dom, node_count, IsNode, content_at, children_at, parent_at, IsInclusiveAncestor, itself, above, HaveTrees, IsForest}
 use Rattle.html_render_dom.specs.laws.Changes.{SameShape, Rewrites}
@@ -19,6 +20,14 @@ use Rattle.html_render_dom.specs.laws.Members.{Contains-nil, Contains-head, Cont
 pub descend : (dom : Dom) (h k : ℕ) → parent_at dom k ≡ Some h → {x : ℕ} → IsInclusiveAncestor dom k x → IsInclusiveAncestor dom h x
 descend dom h k e itself = above h e itself
 descend dom h k e (above p q r) = above p q (descend dom h k e r)
+
+-- a change of a document's nodes leaves a forest if the same change of an equal document does
+pub IsForest-changed : (change : List Node → List Node) {dom now : Dom} → dom ≡ now → IsForest dom →
+    (IsForest now → IsForest (record now { nodes = change now.nodes })) → (nodes : List Node) → nodes ≡ change dom.nodes →
+    IsForest (record dom { nodes = nodes })
+IsForest-changed change {dom} {now} same f forest nodes e =
+    subst (λ ns. IsForest (record dom { nodes = ns })) (sym e)
+    (subst (λ d. IsForest (record d { nodes = change d.nodes })) (sym same) (forest (subst IsForest same f)))
 
 -- ---- a forest after some nodes moved
 

@@ -1,6 +1,5 @@
 -- The rest of a dump after each step.
-use Rattle.std.proofs.Common.{◌≡◌, ℕ, ◌<◌, ◌≤◌, ◌+◌, ◌-◌, ◌*◌, List, [], ◌∷◌, ◌++◌, length, drop, slice_index_or, Option}
-use Rattle.std.proofs.Common.{All, Bool, Contains, refl, sym, ap, ◌∙◌, subst, arith, append_assoc}
+use Rattle.std.proofs.Common.{◌≡◌, ℕ, ◌<◌, ◌≤◌, ◌+◌, ◌-◌, ◌*◌, List, [], ◌∷◌, ◌++◌, length, drop, slice_index_or, Option, Result, Ok, Err, OnOk, All, Bool, Contains, refl, sym, ap, ◌∙◌, subst, arith, append_assoc}
 use Rattle.std.proofs.lemmas.List.{append-nil, at_drop_more}
 use Rattle.std.proofs.lemmas.List.Elements.{All-push, Contains-get_or}
 use Rattle.std.proofs.lemmas.List.Sums.{sum_by-append}
@@ -10,7 +9,7 @@ use Rattle.html_render_dom_values.specs.Forest.{Forest, none, node, count, depth
 use Rattle.html_render_dom.specs.Dom.{Dom, node_count, IsNode, content_at, children_at, trees_of, tree_of, IsForest}
 use Rattle.html_render_dom.specs.laws.Trees.{trees_of-cons}
 use Rattle.html_render_dom.specs.Dump.{dump, start_line, end_line}
-use Rattle.html_render_dom.specs.Frames.{left_of, closing_line, rest_of, rest, FrameFits, steps_of, steps}
+use Rattle.html_render_dom.specs.Frames.{left_of, closing_line, rest_of, rest, FrameFits, Starts, steps_of, steps}
 
 -- the dump of a forest is the dump of its first tree, then that of the others
 pub dump-beside : (i : ℕ) (c : Content) (k b : Forest Content) → dump i (node c k b) ≡ dump i (node c k none) ++ dump i b
@@ -51,14 +50,6 @@ rest-child dom g f x lt e at =
     ap (λ t. dump f.indent t ++ ending) (left-child dom g f x lt e at) ∙ ap (λ d. d ++ ending) (dump-beside f.indent c kids later)
     ∙ append_assoc (dump f.indent (node c kids none)) (dump f.indent later) ending
     ∙ ap (λ t. dump f.indent t ++ (dump f.indent later ++ ending)) (sym (tree-node dom g x at))
-
--- writing the start a of a node and pushing a frame f adds the node's dump d, if d is a and the rest of f
-pub opened : (dom : Dom) (out out' a d : List ℕ) (fs fs' : List Frame) (f : Frame) → out' ≡ out ++ a → fs' ≡ fs ++ f ∷ [] →
-    d ≡ a ++ rest_of dom f → out' ++ rest dom fs' ≡ out ++ (d ++ rest dom fs)
-opened dom out out' a d fs fs' f e g h =
-    let pushed = ap (rest dom) g ∙ rest-push dom fs f in
-    ap (λ o. o ++ rest dom fs') e ∙ ap (λ r. (out ++ a) ++ r) pushed ∙ append_assoc out a (rest_of dom f ++ rest dom fs)
-    ∙ ap (λ r. out ++ r) (sym (append_assoc a (rest_of dom f) (rest dom fs)) ∙ ap (λ x. x ++ rest dom fs) (sym h))
 
 -- an open node without a started child
 abbrev pub fresh_frame : (h indent : ℕ) → Frame
@@ -116,15 +107,22 @@ stepped dom g f x p out fs fs' e =
     ∙ ap (λ r. out ++ r) (sym (append_assoc d (rest_of dom (after_child f)) (rest dom fs))
     ∙ ap (λ r. r ++ rest dom fs) (sym (rest-child dom g f x p.0 p.1 p.2)))
 
-pub fits-fresh : (dom : Dom) → IsForest dom → (h indent i : ℕ) → IsNode dom h → i ≤ indent + 1 → indent + depth (tree_of dom h) ≤ node_count dom →
-    (fs fs' : List Frame) → All (FrameFits dom) fs → fs' ≡ fs ++ fresh_frame h i ∷ [] → All (FrameFits dom) fs'
-fits-fresh dom g h indent i at le fits fs fs' all e =
-    let deep = ap depth (tree-node dom g h at) in
-    rw e (All-push (FrameFits dom) fs (fresh_frame h i) all (at, omega (arith, deep, fits, le)))
-
-pub steps-fresh : (dom : Dom) → IsForest dom → (h i : ℕ) → IsNode dom h → (fs fs' : List Frame) → fs' ≡ fs ++ fresh_frame h i ∷ [] →
-    steps dom fs' < 2 * count (tree_of dom h) + steps dom fs
-steps-fresh dom g h i at fs fs' e =
-    let a = ap count (tree-node dom g h at) in
-    let s = ap (steps dom) e ∙ steps-push dom fs (fresh_frame h i) in
-    omega (arith, a, s)
+-- writing the start a of a node and pushing a frame for its children adds the node's dump, if that is a and the rest of the frame
+pub opened : {X E : Type 0} (result : Result X E) (dom : Dom) → IsForest dom → (h indent i : ℕ) → IsNode dom h → i ≤ indent + 1 →
+    indent + depth (tree_of dom h) ≤ node_count dom → (out out' a : List ℕ) (fs fs' : List Frame) → All (FrameFits dom) fs → out' ≡ out ++ a →
+    dump indent (tree_of dom h) ≡ a ++ rest_of dom (fresh_frame h i) → OnOk result (fs' ≡ fs ++ fresh_frame h i ∷ []) →
+    Starts result dom out out' (dump indent (tree_of dom h)) fs fs' (2 * count (tree_of dom h))
+opened (Err error) dom g h indent i at le fits out out' a fs fs' all e d made = record { text = tt; fit = tt; fewer = tt }
+opened (Ok x) dom g h indent i at le fits out out' a fs fs' all e d made =
+    let f = fresh_frame h i in
+    let pushed = ap (rest dom) made ∙ rest-push dom fs f in
+    let tree = tree-node dom g h at in
+    let deep = ap depth tree in
+    let counted = ap count tree in
+    let more = ap (steps dom) made ∙ steps-push dom fs f in
+    record {
+      text = ap (λ o. o ++ rest dom fs') e ∙ ap (λ r. (out ++ a) ++ r) pushed ∙ append_assoc out a (rest_of dom f ++ rest dom fs)
+          ∙ ap (λ r. out ++ r) (sym (append_assoc a (rest_of dom f) (rest dom fs)) ∙ ap (λ x. x ++ rest dom fs) (sym d));
+      fit = rw made (All-push (FrameFits dom) fs f all (at, omega (arith, deep, fits, le)));
+      fewer = omega (arith, counted, more);
+    }

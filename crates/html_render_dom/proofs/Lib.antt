@@ -5,8 +5,5 @@ pub mod Dumps
 pub mod Forests
 pub mod Lists
 pub mod Moves
-pub mod Outcomes
 pub mod RuleIndex
 pub mod Words
-pub mod Nearby
-pub mod FirstBytes

@@ -1,6 +1,5 @@
 -- An index has each rule that is added to it, and finds each rule that selects an element.
-use Rattle.std.proofs.Common.{◌≡◌, ◌⊎◌, ℕ, suc, ◌+◌, ◌-◌, ◌<◌, ◌≤◌, Bool, true, false, ◌&&◌, ◌||◌, if◌then◌else◌, List, [], ◌∷◌, ◌++◌, length, get_or, set, take}
-use Rattle.std.proofs.Common.{find, string_bytes, Option, Some, None, is_some, codes, cond, map, filter, option_to_list, slice_get, refl, sym, ap, subst, ◌∙◌, inl, inr, arith, Bor}
+use Rattle.std.proofs.Common.{◌≡◌, ◌⊎◌, ℕ, suc, ◌+◌, ◌-◌, ◌<◌, ◌≤◌, Bool, true, false, ◌&&◌, ◌||◌, if◌then◌else◌, List, [], ◌∷◌, ◌++◌, length, get_or, set, take, find, string_bytes, Option, Some, None, is_some, codes, cond, map, filter, option_to_list, slice_get, refl, sym, ap, subst, ◌∙◌, inl, inr, arith, Bor}
 use Rattle.std.proofs.lemmas.Bool.{and_parts, cases_Bool, cases_lt, or_parts}
 use Rattle.std.proofs.lemmas.List.{get_or-set_same}
 use Rattle.std.proofs.lemmas.List.Elements.{All-nil, All-cons, All-head, All-tail, All-map, All-contains, Contains-append_left, Contains-append_right, Contains-push}
@@ -16,10 +15,10 @@ use Rattle.std.specs.Option.{unwrap_or}
 use Rattle.std.specs.Str.{bytes_eq}
 use Rattle.html_render_dom.specs.declared.style.index.PlainStyle.{PlainStyle}
 use Rattle.html_render_dom.specs.declared.style.index.RuleIndex.{RuleIndex}
-use Rattle.html_render_dom.proofs.Applies.{element_style-applied, said_to-all}
+use Rattle.html_render_dom.proofs.Applies.{said_to-all}
 use Rattle.html_render_dom.specs.laws.Members.{All-unfiltered, Contains-cons_cases, Contains-head, Contains-tail}
 use Rattle.html_render_dom.specs.Applying.{applied, style_by}
-use Rattle.html_render_dom.specs.ElementStyle.{element_style, style_of}
+use Rattle.html_render_dom.specs.ElementStyle.{element_style}
 use Rattle.html_render_dom.specs.RuleIndex.{asks_attributes, Finds, Indexes, IsFound, IsPlain, is_told, said_at, text_key, numbers_under, stated_text, text_stated, texts_of}
 use Rattle.html_render_dom_nodes.specs.declared.names.Attribute.{Attribute}
 use Rattle.html_render_dom_nodes.specs.Content.{property_of}
@@ -223,8 +222,7 @@ pub none_selects : (index : RuleIndex) (name : List ℕ) (attrs : List Attribute
 none_selects index name attrs none rules finds =
     let parts = or_parts (is_told index.keys.items name || is_filled index.general.items) (index.asks_attributes && is_filled attrs) none in
     let untold = or_parts (is_told index.keys.items name) (is_filled index.general.items) parts.0 in
-    sym (element_style-applied rules name (map property_of attrs))
-    ∙ ap style_by (alone index.asks_attributes attrs finds.0.2 parts.1 ∙ sym (offered index rules name None None [] [] finds.0 (rw untold.0 refl)
+    ap style_by (alone index.asks_attributes attrs finds.0.2 parts.1 ∙ sym (offered index rules name None None [] [] finds.0 (rw untold.0 refl)
     (All-nil (λ text. All (Contains []) (numbers_under index text.now))) (empty index.general.items untold.1) (λ k lt. absurd (omega (arith, lt)))))
   where
     alone : (asks : Bool) (ps : List Attribute) → asks ≡ list_any asks_attributes rules → asks && is_filled ps ≡ false →
@@ -244,13 +242,13 @@ none_selects index name attrs none rules finds =
 
 -- a style that is found is that of its name
 pub plain-found : (rules : List Rule) (name : List ℕ) (ps : List PlainStyle) (p : PlainStyle) → All (IsPlain rules) ps →
-    find (λ (q : PlainStyle). bytes_eq (string_bytes q.name) name) ps ≡ Some p → style_of p.style ≡ element_style rules name []
+    find (λ (q : PlainStyle). bytes_eq (string_bytes q.name) name) ps ≡ Some p → p.style ≡ element_style rules name []
 plain-found rules name [] p all is = cc
 plain-found rules name (q ∷ qs) p all is = elim (cases_Bool (bytes_eq (string_bytes q.name) name)) [
   | inl h ↦ (
       let same : string_bytes q.name ≡ name = (bytes_eq-Decides (string_bytes q.name) name).0 h in
       let found : q ≡ p = cc in
-      subst (λ (x : PlainStyle). style_of x.style ≡ element_style rules name []) found
+      subst (λ (x : PlainStyle). x.style ≡ element_style rules name []) found
       (All-head (IsPlain rules) q qs all ∙ ap (λ n. element_style rules n []) same)
       )
   | inr h ↦ plain-found rules name qs p (All-tail (IsPlain rules) q qs all) (rw h at is)

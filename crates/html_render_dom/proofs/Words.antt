@@ -1,18 +1,16 @@
 -- The words of a text, from the first to the last.
-use Rattle.std.proofs.Common.{◌≡◌, ℕ, suc, ◌<◌, inl, inr, false, nat_lt, List, [], ◌∷◌, ◌++◌, length, filter, get_or}
-use Rattle.std.proofs.Common.{refl, sym, ap, ◌∙◌, arith}
+use Rattle.std.proofs.Common.{◌≡◌, ℕ, suc, ◌<◌, inl, inr, false, nat_lt, List, [], ◌∷◌, ◌++◌, length, filter, get_or, refl, sym, ap, ◌∙◌, arith}
 use Rattle.std.proofs.lemmas.List.{append-nil}
 use Rattle.std.proofs.lemmas.Str.{NoCharPasses-byte}
 use Rattle.std.proofs.lemmas.List.Elements.{All-from_get_or}
 use Rattle.std.proofs.lemmas.List.Splits.{slice_split_at, slice_split_none}
-use Rattle.std.specs.List.{All, AllPass}
+use Rattle.std.specs.List.{All, AllPass, slice_split}
 use Rattle.std.specs.Str.{NoCharPasses}
 use Rattle.std.specs.Str.Iter.{IsAsciiSeparator}
 use Rattle.std.proofs.lemmas.Bool.{cases_Bool}
 use Rattle.std.proofs.lemmas.Bool.Decides.{nat_tests}
 use Rattle.std.specs.Char.{is_ascii_whitespace}
 use Rattle.html_render_dom_styles.specs.Selectors.{is_filled, words}
-use Rattle.std.specs.List.{slice_split}
 
 -- white space at the start of a text has no words
 gap_passed : (gap text : List ℕ) → AllPass is_ascii_whitespace gap → words (gap ++ text) ≡ words text

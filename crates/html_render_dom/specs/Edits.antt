@@ -1,14 +1,32 @@
--- The document after each call that appends a node, and the conditions of these calls.
-use Rattle.std.specs.Prelude.{◌≡◌, ℕ, false, List, [], None, string_bytes}
+-- The document after each call that appends a node, the conditions of these calls, and the outcome of a call that changes a document.
+use Rattle.std.specs.Prelude.{◌≡◌, ℕ, ◌≤◌, false, List, [], None, Result, IfOk, OnOk, OnErr, string_bytes}
+use Rattle.html_render_dom_values.specs.declared.errors.Error.{Error}
+use Rattle.html_render_dom_values.specs.Outcome.{OnlyOutOfMemory}
 use Rattle.html_render_dom_nodes.specs.declared.contents.NodeOrText.{NodeOrText}
 use Rattle.html_render_dom_nodes.specs.declared.contents.NodeOrText.TheVariants.{AppendNode, AppendText}
-use Rattle.html_render_dom.specs.Dom.{Dom, IsNode, parent_at, IsInclusiveAncestor}
+use Rattle.html_render_dom.specs.Dom.{Dom, IsNode, node_count, parent_at, IsInclusiveAncestor}
 use Rattle.html_render_dom_nodes.specs.Content.{Name, html, element}
 use Rattle.html_render_dom_nodes.specs.Edits.{attached, attached_new, last_text, text_put}
 
+-- outcome of a call that makes `wanted` of the document `old`: on an error `old` is unchanged; no node is removed
+pub record Edits {X : Type 0} (result : Result X Error) (old wanted new : Dom) : Type 0 where
+  pub ok : OnOk result (new ≡ wanted)
+  pub unchanged : OnErr result (new ≡ old)
+  pub err : OnlyOutOfMemory result
+  pub grows : node_count old ≤ node_count new
+
+-- outcome of an edit that creates a node, which has the next number
+pub record Creates (result : Result ℕ Error) (old wanted new : Dom) : Type 0 where
+  pub number : IfOk result (λ made. made ≡ node_count old)
+  pub edit : Edits result old wanted new
+
+-- the document with a text joined to the last child of the parent, if that is a text node, or else in a new text node
+abbrev pub text_appended : Dom → (parent : ℕ) → List ℕ → Dom
+text_appended dom parent more = record dom { nodes = text_put dom.nodes parent (last_text dom.nodes parent) more }
+
 abbrev pub appended : Dom → (parent : ℕ) → NodeOrText → Dom
 appended dom parent (AppendNode child) = record dom { nodes = attached dom.nodes parent child }
-appended dom parent (AppendText more) = record dom { nodes = text_put dom.nodes parent (last_text dom.nodes parent) (string_bytes more) }
+appended dom parent (AppendText more) = text_appended dom parent (string_bytes more)
 
 -- the document with a new element without attributes, the last child of the parent
 abbrev pub element_appended : Dom → (parent : ℕ) → Name → Dom

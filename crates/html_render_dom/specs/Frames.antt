@@ -1,7 +1,7 @@
 -- The rest of a dump that is being written: for each open node, the children that aren't started, and its end.
-use Rattle.std.specs.Prelude.{ℕ, ◌+◌, ◌-◌, ◌*◌, ◌≤◌, List, [], ◌∷◌, ◌++◌, sum_by, drop}
+use Rattle.std.specs.Prelude.{◌≡◌, ℕ, ◌+◌, ◌-◌, ◌*◌, ◌<◌, ◌≤◌, List, [], ◌∷◌, ◌++◌, All, OnOk, Result, sum_by, drop}
 use Rattle.html_render_dom.specs.declared.dom.dump.Frame.{Frame}
-use Rattle.html_render_dom_nodes.specs.Content.{Content, document, doctype, text, comment, element, instruction}
+use Rattle.html_render_dom_nodes.specs.Content.{Content, element}
 use Rattle.html_render_dom_values.specs.Forest.{Forest, count, depth}
 use Rattle.html_render_dom.specs.Dom.{Dom, node_count, IsNode, content_at, children_at, trees_of}
 use Rattle.html_render_dom.specs.Dump.{dump, end_line}
@@ -12,12 +12,8 @@ left_of dom f = trees_of dom (drop f.passed (children_at dom f.node))
 
 -- the end of a node whose children have this indent: a line for an element, one space less deep; nothing for others
 abbrev pub closing_line : (indent : ℕ) → Content → List ℕ
-closing_line indent document = []
-closing_line indent (doctype name public_id system_id) = []
-closing_line indent (text contents) = []
-closing_line indent (comment contents) = []
 closing_line indent (element name properties template_contents integration_point) = end_line (indent - 1) name.local
-closing_line indent (instruction target contents) = []
+closing_line indent _ = []
 
 -- the rest of the dump of one open node
 abbrev pub rest_of : Dom → Frame → List ℕ
@@ -38,3 +34,10 @@ steps_of dom f = 1 + 2 * count (left_of dom f)
 
 abbrev pub steps : Dom → List Frame → ℕ
 steps dom fs = sum_by (steps_of dom) fs
+
+-- outcome of a start that is written: the text is longer by the dump `wanted`, up to the rest of the open nodes, which exist and take
+-- fewer than `most` more steps
+pub record Starts {X E : Type 0} (result : Result X E) (dom : Dom) (old new wanted : List ℕ) (frames left : List Frame) (most : ℕ) : Type 0 where
+  pub text : OnOk result (new ++ rest dom left ≡ old ++ (wanted ++ rest dom frames))
+  pub fit : OnOk result (All (FrameFits dom) left)
+  pub fewer : OnOk result (steps dom left < most + steps dom frames)

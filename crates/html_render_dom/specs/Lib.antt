@@ -8,8 +8,8 @@ pub mod Edits
 pub mod Moves
 -- computed styles
 pub mod Attributes
-pub mod ElementStyle
 pub mod Applying
+pub mod ElementStyle
 pub mod RuleIndex
 -- faults of single calls
 pub mod Faults

@@ -4,7 +4,7 @@ use Rattle.std.specs.BTreeMap.{get_by_text}
 use Rattle.std.specs.List.{Contains, flat_map, list_any}
 use Rattle.std.specs.Option.{option_map_or, unwrap_or}
 use Rattle.html_render_dom.specs.Applying.{Applied, applied}
-use Rattle.html_render_dom.specs.ElementStyle.{element_style, style_of}
+use Rattle.html_render_dom.specs.ElementStyle.{element_style}
 use Rattle.html_render_dom.specs.declared.style.index.PlainStyle.{PlainStyle}
 use Rattle.html_render_dom.specs.declared.style.index.RuleIndex.{RuleIndex}
 use Rattle.html_render_dom_styles.specs.Rules.{Rule}
@@ -52,7 +52,7 @@ Indexes index rules = (length index.keys.items ≡ 64) × ((number : ℕ) (rule 
 
 -- whether a style is that of the elements of its name that have no attributes
 abbrev pub IsPlain : List Rule → PlainStyle → Type 0
-IsPlain rules p = style_of p.style ≡ element_style rules (string_bytes p.name) []
+IsPlain rules p = p.style ≡ element_style rules (string_bytes p.name) []
 
 -- whether an index is that of these rules, with styles of elements without attributes
 abbrev pub Finds : RuleIndex → List Rule → Type 0

@@ -5,23 +5,14 @@ use Rattle.html_render_dom.specs.declared.faults.Fault.{Fault}
 use Rattle.html_render_dom.specs.declared.faults.Fault.TheVariants.{Refused, Faulty}
 use Rattle.html_render_dom.specs.declared.steps.step.Step.{Step}
 use Rattle.html_render_dom.specs.declared.steps.step.StepKind.{StepKind}
-use Rattle.html_render_dom.specs.Steps.{Built, Does, DoesKind}
+use Rattle.html_render_dom.specs.Steps.{Allows, Built, step_result}
 
 -- whether a fault denies a claim: a faulty step does; out of memory states nothing about it
 abbrev pub Denies : Fault → (wanted : Type 0) → Type 0
 Denies (Refused e) wanted = e ≡ OutOfMemory
 Denies Faulty wanted = ¬ wanted
 
--- whether a step of a kind can be taken from what was built before
-abbrev pub CanDo : (text : List ℕ) → Step → StepKind → Built → Type 0
-CanDo text step kind old = (new : Built) × Does text step kind old new
-
 -- outcome of a step of a kind over a text: what it makes of `old`, or a fault
-pub record Performs {X : Type 0} (result : Result X Fault) (text : List ℕ) (step : Step) (kind : StepKind) (old new : Built) : Type 0 where
-  pub ok : OnOk result (Does text step kind old new)
-  pub err : IfErr result (λ fault. Denies fault (CanDo text step kind old))
-
--- outcome of a step, whose kind may be unknown
-pub record PerformsKind {X : Type 0} (result : Result X Fault) (text : List ℕ) (step : Step) (kind : Option StepKind) (old new : Built) : Type 0 where
-  pub ok : OnOk result (DoesKind text step kind old new)
-  pub err : IfErr result (λ fault. Denies fault ((new : Built) × DoesKind text step kind old new))
+pub record Performs {X : Type 0} (result : Result X Fault) (text : List ℕ) (step : Step) (kind : Option StepKind) (old new : Built) : Type 0 where
+  pub ok : OnOk result (Allows text step kind old × (new ≡ step_result text step kind old))
+  pub err : IfErr result (λ fault. Denies fault (Allows text step kind old))

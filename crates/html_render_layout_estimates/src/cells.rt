@@ -1,7 +1,6 @@
 //! Cells of a table: their columns on the table's grid, and the widths that they need there.
 
 ghost use Rattle.std.specs.Prelude.{◌≡◌, ◌++◌, OnOk};
-ghost use Rattle.html_render_dom_values.specs.Outcome.{OnlyOutOfMemory};
 ghost use Rattle.html_render_layout_nodes.specs.Preorder.{flatten, forest_of};
 ghost use Rattle.html_render_parts_widths.specs.Needs.{AreCells};
 ghost use Rattle.html_render_parts.specs.TableCells.{columns_of};
@@ -9,7 +8,6 @@ ghost use Rattle.html_render_layout_estimates.specs.Cells.{cell_needs};
 ghost use Rattle.html_render_layout_estimates.specs.CellSteps.{row_needs};
 
 use crate::trees::first_tree;
-use html_render_dom_values::Error;
 use html_render_layout_nodes::tree::{Entry, RenderNode};
 use html_render_parts::table::cells::{GridCell, TableCells};
 use html_render_parts::table::row_list::RowList;
@@ -76,16 +74,15 @@ fn cell_count(rows: &RowList<GridCell>) -> usize {
 ///
 /// # Errors
 ///
-/// `OutOfMemory` if an allocation is refused.
+/// `AllocError` if an allocation is refused.
 pub fn put_cell_needs(
     needs: &mut Vec<CellNeed>,
     grid: &TableCells,
     rows: &[Entry<RenderNode>],
-) -> Result<(), Error>
+) -> Result<(), AllocError>
     requires { flatten (forest_of rows.now) ≡ rows.now }
     ensures ok { OnOk result (needs.new.items ≡ cell_needs grid.now.rows (forest_of rows.now)) }
     ensures cells { OnOk result (AreCells (columns_of grid.now) needs.new.items) }
-    ensures err { OnlyOutOfMemory result }
 {
     let cells = grid.rows();
     needs.clear();

@@ -23,7 +23,7 @@ use crate::whole_words::add_words;
 use html_render_dom_values::Error;
 use html_render_layout_nodes::tree::{Entry, Estimate, NodeKind, PreorderForest, RenderNode};
 use html_render_parts::decorate::TextDecorator;
-use std::alloc::Global;
+use std::alloc::{AllocError, Global};
 
 /// Totals of the trees beside each other in a slice.
 #[derive(Clone, Copy)]
@@ -270,12 +270,11 @@ fn table_measure<D: TextDecorator>(
     settings: &LayoutSettings,
     kind: &NodeKind,
     below: &[Entry<RenderNode>],
-) -> Result<Measure, Error>
+) -> Result<Measure, AllocError>
     requires kept { flatten (forest_of below.now) ≡ below.now }
     requires table { is_table kind.now ≡ true }
     ensures estimate { IfOk result (λ m. m.estimate ≡ estimate_of D.decoration decorator.now settings.now kind.now (forest_of below.now)) }
     ensures needs { IfOk result (λ m. with_needs m.needs.items kind.now ≡ measured_kind kind.now (forest_of below.now)) }
-    ensures err { OnlyOutOfMemory result }
 {
     let NodeKind::Table(grid) = kind else {
         unreachable!();
@@ -360,10 +359,9 @@ fn add_needed_words(
     alloc: Global,
     settings: &LayoutSettings,
     entries: &mut Vec<Entry<RenderNode>>,
-) -> Result<(), Error>
+) -> Result<(), AllocError>
     requires { flatten (forest_of entries.old.items) ≡ entries.old.items }
-    ensures ok { OnOk result (entries.new.items ≡ flatten (with_words settings.now (forest_of entries.old.items))) }
-    ensures err { OnlyOutOfMemory result }
+    ensures { OnOk result (entries.new.items ≡ flatten (with_words settings.now (forest_of entries.old.items))) }
 {
     if settings.whole_words && any_table(entries) {
         add_words(alloc, settings, entries)?;

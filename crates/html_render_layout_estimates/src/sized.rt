@@ -1,7 +1,6 @@
 //! Estimates of tables.
 
 ghost use Rattle.std.specs.Prelude.{◌≡◌, ◌*◌, ◌/◌, sum_by, IfOk};
-ghost use Rattle.html_render_dom_values.specs.Outcome.{OnlyOutOfMemory};
 ghost use Rattle.html_render_parts_widths.specs.Needs.{AreSome, column_needs};
 ghost use Rattle.html_render_parts.specs.TableCells.{columns_of};
 ghost use Rattle.html_render_layout_nodes.specs.Preorder.{flatten, forest_of};
@@ -10,11 +9,10 @@ ghost use Rattle.html_render_layout_estimates.specs.Cells.{cell_needs};
 ghost use Rattle.html_render_layout_estimates.specs.Estimates.{table_estimate};
 
 use crate::cells::put_cell_needs;
-use html_render_dom_values::Error;
 use html_render_layout_nodes::tree::{Entry, Estimate, RenderNode};
 use html_render_parts::table::cells::TableCells;
 use html_render_parts_widths::{CellNeed, ColumnNeed, NeedsMemory, column_needs};
-use std::alloc::Global;
+use std::alloc::{AllocError, Global};
 
 /// Returns the sum of the cells' preferred widths, each rounded down to a multiple of the cell's number of columns; at most
 /// `usize::MAX`.
@@ -73,22 +71,17 @@ impl TableMemory {
 /// Measures a table on its grid over its measured rows.
 ///
 /// `children` is the number of its children.
-///
-/// # Errors
-///
-/// `OutOfMemory` if an allocation is refused.
 pub fn measure_table(
     alloc: Global,
     memory: &mut TableMemory,
     grid: &TableCells,
     children: usize,
     rows: &[Entry<RenderNode>],
-) -> Result<Measure, Error>
+) -> Result<Measure, AllocError>
     requires { flatten (forest_of rows.now) ≡ rows.now }
     ensures estimate { IfOk result (λ m. m.estimate
         ≡ table_estimate (columns_of grid.now) (cell_needs grid.now.rows (forest_of rows.now)) 0 children) }
     ensures needs { IfOk result (λ m. m.needs.items ≡ column_needs (columns_of grid.now) (cell_needs grid.now.rows (forest_of rows.now))) }
-    ensures err { OnlyOutOfMemory result }
 {
     let columns = grid.columns();
     let TableMemory {

@@ -1,7 +1,6 @@
 //! Longest words of the columns of each table, in a measured tree.
 
 ghost use Rattle.std.specs.Prelude.{◌≡◌, ◌++◌, ◌<◌, length, slice_set, IfOk, OnOk};
-ghost use Rattle.html_render_dom_values.specs.Outcome.{OnlyOutOfMemory};
 ghost use Rattle.html_render_parts_widths.specs.Spans.{AreOver};
 ghost use Rattle.html_render_parts.specs.TableCells.{columns_of};
 ghost use Rattle.html_render_layout_nodes.specs.Preorder.{flatten, forest_of};
@@ -13,7 +12,6 @@ use crate::estimate::is_table;
 use crate::settings::LayoutSettings;
 use crate::trees::first_tree;
 use crate::words::{WordShape, node_shape};
-use html_render_dom_values::Error;
 use html_render_layout_nodes::tree::{Entry, NodeKind, RenderNode};
 use html_render_parts::table::cells::{GridCell, TableCells};
 use html_render_parts::table::row_list::RowList;
@@ -85,14 +83,12 @@ fn column_words(
     alloc: Global,
     grid: &TableCells,
     rows: &[Entry<WordShape>],
-) -> Result<Vec<usize>, Error>
+) -> Result<Vec<usize>, AllocError>
     requires { flatten (forest_of rows.now) ≡ rows.now }
-    ensures ok { IfOk result (λ words. words.items ≡ column_words grid.now (forest_of rows.now)) }
-    ensures err { OnlyOutOfMemory result }
+    ensures { IfOk result (λ words. words.items ≡ column_words grid.now (forest_of rows.now)) }
 {
     let spans = cell_words(alloc, grid, rows)?;
-    let words = greatest_values(alloc, grid.columns(), spans.as_slice())?;
-    Ok(words)
+    greatest_values(alloc, grid.columns(), spans.as_slice())
 }
 
 /// Returns needs of columns with these longest words.
@@ -120,10 +116,13 @@ fn with_longest(
 }
 
 /// Sets the longest word of each column of a node, if it is a table.
-fn set_words(alloc: Global, kind: &mut NodeKind, below: &[Entry<WordShape>]) -> Result<(), Error>
+fn set_words(
+    alloc: Global,
+    kind: &mut NodeKind,
+    below: &[Entry<WordShape>],
+) -> Result<(), AllocError>
     requires { flatten (forest_of below.now) ≡ below.now }
-    ensures ok { OnOk result (kind.new ≡ worded_kind kind.old (forest_of below.now)) }
-    ensures err { OnlyOutOfMemory result }
+    ensures { OnOk result (kind.new ≡ worded_kind kind.old (forest_of below.now)) }
 {
     if let NodeKind::Table(grid) = kind {
         let words = column_words(alloc, grid.cells(), below)?;
@@ -139,11 +138,10 @@ fn add_node_words(
     settings: &LayoutSettings,
     node: &mut RenderNode,
     below: &[Entry<WordShape>],
-) -> Result<WordShape, Error>
+) -> Result<WordShape, AllocError>
     requires { flatten (forest_of below.now) ≡ below.now }
     ensures node { OnOk result (node.new ≡ worded_node node.old (forest_of below.now)) }
     ensures shape { IfOk result (λ s. s ≡ node_shape settings.now (worded_node node.old (forest_of below.now)) (forest_of below.now)) }
-    ensures err { OnlyOutOfMemory result }
 {
     set_words(alloc, &mut node.kind, below)?;
     Ok(node_shape(settings, node, below))
@@ -181,10 +179,9 @@ fn add_tree_words(
     alloc: Global,
     settings: &LayoutSettings,
     tree: &mut [Entry<RenderNode>],
-) -> Result<(), Error>
+) -> Result<(), AllocError>
     requires { flatten (forest_of tree.old) ≡ tree.old }
-    ensures ok { OnOk result (tree.new ≡ flatten (worded settings.now (forest_of tree.old))) }
-    ensures err { OnlyOutOfMemory result }
+    ensures { OnOk result (tree.new ≡ flatten (worded settings.now (forest_of tree.old))) }
 {
     let mut at = tree.len();
     let mut shapes = unknown_shapes(alloc, at)?;
@@ -202,18 +199,13 @@ fn add_tree_words(
 /// Sets the longest words of the columns of each table.
 ///
 /// Computes shapes only inside tables: a table inside no other table gets its words together with all nodes below it.
-///
-/// # Errors
-///
-/// `OutOfMemory` if an allocation is refused.
 pub fn add_words(
     alloc: Global,
     settings: &LayoutSettings,
     entries: &mut Vec<Entry<RenderNode>>,
-) -> Result<(), Error>
+) -> Result<(), AllocError>
     requires { flatten (forest_of entries.old.items) ≡ entries.old.items }
-    ensures ok { OnOk result (entries.new.items ≡ flatten (worded settings.now (forest_of entries.old.items))) }
-    ensures err { OnlyOutOfMemory result }
+    ensures { OnOk result (entries.new.items ≡ flatten (worded settings.now (forest_of entries.old.items))) }
 {
     let nodes = entries.as_mut_slice();
     let mut at = 0;

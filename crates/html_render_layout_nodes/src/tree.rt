@@ -1,17 +1,15 @@
 //! Render trees: forests as one vector of nodes in pre-order.
 
 ghost use Rattle.std.specs.Prelude.{◌≡◌, IfOk};
-ghost use Rattle.html_render_dom_values.specs.Outcome.{OnlyOutOfMemory};
 ghost use Rattle.html_render_layout_nodes.specs.Preorder.{flatten, forest_of};
 ghost use Rattle.html_render_layout_nodes.specs.Tables.{unmeasured_table};
 
 use crate::text::NodeText;
-use html_render_dom_values::Error;
 use html_render_dom_values::colours::Colour;
 use html_render_dom_values::white_space::WhiteSpace;
 use html_render_parts::table::cells::TableCells;
 use html_render_parts_widths::ColumnNeed;
-use std::alloc::Global;
+use std::alloc::{AllocError, Global};
 use std::marker::Model;
 
 /// A node with the size of its subtree, in a vector in pre-order.
@@ -158,13 +156,8 @@ impl Model for Grid {
 
 impl Grid {
     /// Creates an unmeasured table of these cells.
-    ///
-    /// # Errors
-    ///
-    /// `OutOfMemory` if an allocation is refused.
-    pub fn new(alloc: Global, cells: TableCells) -> Result<Grid, Error>
-        ensures ok { IfOk result (λ g. g ≡ unmeasured_table cells) }
-        ensures err { OnlyOutOfMemory result }
+    pub fn new(alloc: Global, cells: TableCells) -> Result<Grid, AllocError>
+        ensures { IfOk result (λ g. g ≡ unmeasured_table cells) }
     {
         let needs = Vec::new(alloc);
         let parts = Box::new(alloc, GridParts { cells, needs })?;
@@ -218,13 +211,8 @@ impl Model for Image {
 
 impl Image {
     /// Creates an image of this source and title.
-    ///
-    /// # Errors
-    ///
-    /// `OutOfMemory` if an allocation is refused.
-    pub fn new(alloc: Global, source: NodeText, title: NodeText) -> Result<Image, Error>
-        ensures ok { IfOk result (λ i. i ≡ record { source = source; title = title }) }
-        ensures err { OnlyOutOfMemory result }
+    pub fn new(alloc: Global, source: NodeText, title: NodeText) -> Result<Image, AllocError>
+        ensures { IfOk result (λ i. i ≡ record { source = source; title = title }) }
     {
         let parts = Box::new(alloc, ImageParts { source, title })?;
         Ok(Image { parts })

@@ -59,10 +59,9 @@ fn annotations<A: Clone + Drop>(
     alloc: Global,
     stacks: &Stacks<A>,
     tag: usize,
-) -> Result<Vec<A>, Error>
+) -> Result<Vec<A>, AllocError>
     requires { ClonesAreSame A.is_clone }
-    ensures ok { IfOk result (λ annotations. annotations.items ≡ stack_at stacks.now tag) }
-    ensures err { OnlyOutOfMemory result }
+    ensures { IfOk result (λ annotations. annotations.items ≡ stack_at stacks.now tag) }
 {
     let mut annotations = Vec::with_capacity(alloc, stacks.depth(tag))?;
     let mut tag = tag;
@@ -87,11 +86,10 @@ impl<A: Eq + Clone + Drop> Progress<A> {
     }
 
     /// Finishes the last string, if it is unfinished.
-    fn close(&mut self, alloc: Global, stacks: &Stacks<A>) -> Result<(), Error>
+    fn close(&mut self, alloc: Global, stacks: &Stacks<A>) -> Result<(), AllocError>
         requires { ClonesAreSame A.is_clone }
         ensures done { OnOk result (pieces_of self.new.done.items ≡ pieces_of self.old.done.items ++ closed stacks.now self.old.last) }
         ensures last { OnOk result (self.new.last ≡ None) }
-        ensures err { OnlyOutOfMemory result }
     {
         if let Some(last) = self.last.take() {
             let tag = annotations(alloc, stacks, last.tag)?;
@@ -108,11 +106,10 @@ impl<A: Eq + Clone + Drop> Progress<A> {
         stacks: &Stacks<A>,
         text: &str,
         tag: usize,
-    ) -> Result<(), Error>
+    ) -> Result<(), AllocError>
         requires { ClonesAreSame A.is_clone }
-        ensures ok { OnOk result ((ps : List _) → pieces_with A.eq stacks.now self.new ps
+        ensures { OnOk result ((ps : List _) → pieces_with A.eq stacks.now self.new ps
             ≡ pieces_with A.eq stacks.now self.old (in_front (pointwise A.eq) (chars text.now) (stack_at stacks.now tag) ps)) }
-        ensures err { OnlyOutOfMemory result }
     {
         if let Some(last) = &mut self.last {
             if stacks.are_equal(last.tag, tag) {
@@ -133,10 +130,9 @@ impl<A: Eq + Clone + Drop> Progress<A> {
         stacks: &Stacks<A>,
         text: &str,
         tag: usize,
-    ) -> Result<(), Error>
+    ) -> Result<(), AllocError>
         requires { ClonesAreSame A.is_clone }
-        ensures ok { OnOk result ((names : List _) → Takes A.eq stacks.now names self.old (under tag (chars text.now)) self.new) }
-        ensures err { OnlyOutOfMemory result }
+        ensures { OnOk result ((names : List _) → Takes A.eq stacks.now names self.old (under tag (chars text.now)) self.new) }
     {
         if text.is_empty() {
             return Ok(());
@@ -151,10 +147,9 @@ impl<A: Eq + Clone + Drop> Progress<A> {
         stacks: &Stacks<A>,
         names: &[Text],
         mark: usize,
-    ) -> Result<(), Error>
+    ) -> Result<(), AllocError>
         requires { ClonesAreSame A.is_clone }
-        ensures ok { OnOk result (Takes A.eq stacks.now names.now self.old (Element.Mark mark ∷ []) self.new) }
-        ensures err { OnlyOutOfMemory result }
+        ensures { OnOk result (Takes A.eq stacks.now names.now self.old (Element.Mark mark ∷ []) self.new) }
     {
         self.close(alloc, stacks)?;
         let name = name_of(alloc, names, mark)?;
@@ -169,10 +164,9 @@ impl<A: Eq + Clone + Drop> Progress<A> {
         stacks: &Stacks<A>,
         names: &[Text],
         part: LinePart<'_, usize, usize>,
-    ) -> Result<(), Error>
+    ) -> Result<(), AllocError>
         requires { ClonesAreSame A.is_clone }
-        ensures ok { OnOk result (Takes A.eq stacks.now names.now self.old (part_elements part.entry) self.new) }
-        ensures err { OnlyOutOfMemory result }
+        ensures { OnOk result (Takes A.eq stacks.now names.now self.old (part_elements part.entry) self.new) }
     {
         match part {
             LinePart::Text(text, tag) => self.push_text(alloc, stacks, text, tag),
@@ -181,10 +175,9 @@ impl<A: Eq + Clone + Drop> Progress<A> {
     }
 
     /// Returns the finished line.
-    fn finish(mut self, alloc: Global, stacks: &Stacks<A>) -> Result<TaggedLine<Vec<A>>, Error>
+    fn finish(mut self, alloc: Global, stacks: &Stacks<A>) -> Result<TaggedLine<Vec<A>>, AllocError>
         requires { ClonesAreSame A.is_clone }
-        ensures ok { IfOk result (λ line. pieces_of line ≡ pieces_with A.eq stacks.now self []) }
-        ensures err { OnlyOutOfMemory result }
+        ensures { IfOk result (λ line. pieces_of line ≡ pieces_with A.eq stacks.now self []) }
     {
         self.close(alloc, stacks)?;
         Ok(TaggedLine::new(self.done))
@@ -192,12 +185,11 @@ impl<A: Eq + Clone + Drop> Progress<A> {
 }
 
 /// Returns a copy of the name with the number `mark`; an empty text if there is none.
-fn name_of(alloc: Global, names: &[Text], mark: usize) -> Result<String, Error>
-    ensures ok { IfOk result (λ name. string_bytes name ≡ get_or names.now mark []) }
-    ensures err { OnlyOutOfMemory result }
+fn name_of(alloc: Global, names: &[Text], mark: usize) -> Result<String, AllocError>
+    ensures { IfOk result (λ name. string_bytes name ≡ get_or names.now mark []) }
 {
     match names.get(mark) {
-        Some(name) => Ok(String::from_str(alloc, name.as_str())?),
+        Some(name) => String::from_str(alloc, name.as_str()),
         None => Ok(String::new(alloc)),
     }
 }
@@ -208,10 +200,9 @@ fn tagged_line<A: Eq + Clone + Drop>(
     stacks: &Stacks<A>,
     names: &[Text],
     line: LineParts<'_, usize, usize>,
-) -> Result<TaggedLine<Vec<A>>, Error>
+) -> Result<TaggedLine<Vec<A>>, AllocError>
     requires { ClonesAreSame A.is_clone }
-    ensures ok { IfOk result (λ l. pieces_of l ≡ grouped (pointwise A.eq) names.now (line_with (stack_at stacks.now) line.entry)) }
-    ensures err { OnlyOutOfMemory result }
+    ensures { IfOk result (λ l. pieces_of l ≡ grouped (pointwise A.eq) names.now (line_with (stack_at stacks.now) line.entry)) }
 {
     let mut left = line;
     let mut progress = Progress::new(alloc);

@@ -8,7 +8,7 @@ ghost use Rattle.std.specs.Prelude.{◌≡◌, ◌↔◌, ◌⊎◌, ◌<◌, �
 ghost use Rattle.std.specs.List.Sorted.{IsStrictlyIncreasing};
 ghost use Rattle.html_render_parts.specs.Placement.{lists};
 ghost use Rattle.html_render_parts.specs.Grid.{AreSideBySide, AreValid, IsLeastNumbering, IsNumbering, grid_of, rank, shown};
-ghost use Rattle.html_render_parts.specs.Refusal.{Fails};
+ghost use Rattle.html_render_parts.specs.Refusal.{Builds};
 
 pub mod cells;
 mod gathering;
@@ -101,8 +101,7 @@ pub fn spans_are_valid(rows: &[Vec<Span>]) -> bool
 /// - `OutOfMemory`.
 pub fn table_grid(alloc: Global, rows: &[Vec<Span>]) -> Result<TableGrid, Error>
     requires { AreValid (lists rows.now) }
-    ensures ok { IfOk result (λ g. grid_of (lists rows.now) ≡ Some (shown g)) }
-    ensures err { IfErr result (λ e. Fails e (grid_of (lists rows.now))) }
+    ensures grid { Builds result (grid_of (lists rows.now)) shown }
 
     // the places of a row are side by side from 0 on; each has a column, and all together no more than the table has
     ensures side_by_side { IfOk result (λ g. All (AreSideBySide 0) (lists g.rows.items)) }

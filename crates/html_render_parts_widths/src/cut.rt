@@ -50,7 +50,7 @@ pub fn column_widths(
     ensures cut { IfOk result (λ c. IsColumnCut minimums.now shares.now width c.widths.items c.level c.lowered) }
     ensures err { OnlyOutOfMemory result }
 {
-    column_widths_in(Vec::new(alloc), minimums, shares, width)
+    Ok(column_widths_in(Vec::new(alloc), minimums, shares, width)?)
 }
 
 /// Cuts like [`column_widths`]. The widths are in the memory of `memory`.
@@ -59,10 +59,9 @@ pub(crate) fn column_widths_in(
     minimums: &[usize],
     shares: &[usize],
     width: usize,
-) -> Result<ColumnCut, Error>
+) -> Result<ColumnCut, AllocError>
     requires { CutFits minimums.now shares.now width }
-    ensures cut { IfOk result (λ c. IsColumnCut minimums.now shares.now width c.widths.items c.level c.lowered) }
-    ensures err { OnlyOutOfMemory result }
+    ensures { IfOk result (λ c. IsColumnCut minimums.now shares.now width c.widths.items c.level c.lowered) }
 {
     let mut meter = Meter::default();
     metered_in(memory, minimums, shares, width, &mut meter)
@@ -94,7 +93,7 @@ pub fn column_widths_metered(
 
     ensures err { OnlyOutOfMemory result }
 {
-    metered_in(Vec::new(alloc), minimums, shares, width, meter)
+    Ok(metered_in(Vec::new(alloc), minimums, shares, width, meter)?)
 }
 
 /// Cuts like [`column_widths_metered`]. The widths are in the memory of `memory`.
@@ -104,14 +103,13 @@ fn metered_in(
     shares: &[usize],
     width: usize,
     meter: &mut Meter,
-) -> Result<ColumnCut, Error>
+) -> Result<ColumnCut, AllocError>
     requires { CutFits minimums.now shares.now width }
     ensures cut { IfOk result (λ c. IsColumnCut minimums.now shares.now width c.widths.items c.level c.lowered) }
     ensures probes { meter.new.probes ≤ 64 }
     ensures probes_least { largest_slack minimums.now shares.now + 2 ≤ 2 * 2 ^ meter.new.probes }
     ensures probes_most { 2 ^ meter.new.probes ≤ 2 * largest_slack minimums.now shares.now + 1 }
     ensures others { meter.new ≡ record meter.old { probes = meter.new.probes } }
-    ensures err { OnlyOutOfMemory result }
 {
     let totals = sum_up(minimums, shares);
     let needed = wanted(minimums, shares, width, totals);
@@ -121,8 +119,7 @@ fn metered_in(
     };
     let (found, probes) = find_level(minimums, shares, highest, needed);
     meter.probes = probes;
-    let cut = level_form(memory, minimums, shares, width, needed, found)?;
-    Ok(cut)
+    level_form(memory, minimums, shares, width, needed, found)
 }
 
 /// Returns the cut at the least level, `found`. The widths are in the memory of `memory`.

@@ -1,12 +1,10 @@
 //! Widths that the columns of a table need for its cells.
 
 ghost use Rattle.std.specs.Prelude.{◌≡◌, ◌<◌, ◌↔◌, ℕ, length, map, slice_index, slice_index_or, IfOk, IsTrue, OnOk};
-ghost use Rattle.html_render_dom_values.specs.Outcome.{OnlyOutOfMemory};
 ghost use Rattle.html_render_parts_widths.specs.Needs.{no_need, part, column_needs, AreSome, AreCells};
 
 use super::shares::ColumnNeed;
 use super::spans::{Span, put_greatest};
-use html_render_dom_values::Error;
 use std::alloc::{AllocError, Global};
 
 /// Widths that a cell needs over its columns, in columns of text.
@@ -105,17 +103,16 @@ fn together(alloc: Global, sizes: &[usize], least: &[usize]) -> Result<Vec<Colum
 ///
 /// # Errors
 ///
-/// `OutOfMemory` if an allocation is refused.
+/// `AllocError` if an allocation is refused.
 #[tactic(auto, using(crate::proofs::ColumnNeeds::are_some, crate::proofs::ColumnNeeds::sizes_over, crate::proofs::ColumnNeeds::least_over, crate::proofs::ColumnNeeds::needed))]
 pub fn column_needs(
     alloc: Global,
     memory: &mut NeedsMemory,
     columns: usize,
     cells: &[CellNeed],
-) -> Result<Vec<ColumnNeed>, Error>
+) -> Result<Vec<ColumnNeed>, AllocError>
     requires { AreCells columns cells.now }
-    ensures ok { IfOk result (λ needs. needs.items ≡ column_needs columns cells.now) }
-    ensures err { OnlyOutOfMemory result }
+    ensures { IfOk result (λ needs. needs.items ≡ column_needs columns cells.now) }
 {
     let NeedsMemory {
         parts,
@@ -126,5 +123,5 @@ pub fn column_needs(
     put_greatest(sizes, columns, parts.as_slice())?;
     put_least_parts(parts, cells)?;
     put_greatest(least, columns, parts.as_slice())?;
-    Ok(together(alloc, sizes.as_slice(), least.as_slice())?)
+    together(alloc, sizes.as_slice(), least.as_slice())
 }

@@ -10,7 +10,7 @@ ghost use Rattle.html_render_parts_widths.specs.Shares.{least_widths, share, sha
 ghost use Rattle.html_render_parts_widths.specs.Shares.{whole_widths, word_minimums, HaveShortWords};
 ghost use Rattle.html_render_parts_widths.specs.CutSteps.{greater_ones};
 
-use super::cut::{column_widths, column_widths_in};
+use super::cut::column_widths_in;
 use html_render_dom_values::Error;
 use std::alloc::{AllocError, Global};
 
@@ -111,10 +111,9 @@ fn put_word_minimums(
     minimums: &mut Vec<usize>,
     needs: &[ColumnNeed],
     width: usize,
-) -> Result<(), Error>
+) -> Result<(), AllocError>
     requires { stand_side_by_side width needs.now ≡ true }
-    ensures ok { OnOk result (minimums.new.items ≡ word_minimums width needs.now) }
-    ensures err { OnlyOutOfMemory result }
+    ensures { OnOk result (minimums.new.items ≡ word_minimums width needs.now) }
 {
     put_least_widths(minimums, needs)?;
     if !has_long_word(needs) {
@@ -122,7 +121,7 @@ fn put_word_minimums(
     }
     let alloc = *minimums.allocator();
     let whole = whole_widths(alloc, needs)?;
-    let cut = column_widths(alloc, minimums.as_slice(), whole.as_slice(), width)?;
+    let cut = column_widths_in(Vec::new(alloc), minimums.as_slice(), &whole, width)?;
     *minimums = cut.widths;
     Ok(())
 }

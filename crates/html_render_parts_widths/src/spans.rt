@@ -1,11 +1,9 @@
 //! Greatest value over each column, of values that each cover a range of columns.
 
 ghost use Rattle.std.specs.Prelude.{◌≡◌, ◌≤◌, ◌<◌, ◌+◌, ◌-◌, ◌*◌, ◌==◌, ℕ, length, max, slice_index, if◌then◌else◌, IfOk, OnOk};
-ghost use Rattle.html_render_dom_values.specs.Outcome.{OnlyOutOfMemory};
 ghost use Rattle.html_render_parts_widths.specs.Spans.{AreOver, AreGreatest};
 ghost use Rattle.html_render_parts_widths.specs.SpanSteps.{IsSpread, span_at, split_at, raised_at};
 
-use html_render_dom_values::Error;
 use std::alloc::{AllocError, Global};
 
 /// A value that covers neighbouring columns.
@@ -144,11 +142,14 @@ pub(crate) fn put_greatest(
 ///
 /// # Errors
 ///
-/// `OutOfMemory` if an allocation is refused.
-pub fn greatest_values(alloc: Global, columns: usize, spans: &[Span]) -> Result<Vec<usize>, Error>
+/// `AllocError` if an allocation is refused.
+pub fn greatest_values(
+    alloc: Global,
+    columns: usize,
+    spans: &[Span],
+) -> Result<Vec<usize>, AllocError>
     requires { AreOver columns spans.now }
-    ensures ok { IfOk result (λ values. AreGreatest columns spans.now values.items) }
-    ensures err { OnlyOutOfMemory result }
+    ensures { IfOk result (λ values. AreGreatest columns spans.now values.items) }
 {
     let mut values = Vec::new(alloc);
     put_greatest(&mut values, columns, spans)?;

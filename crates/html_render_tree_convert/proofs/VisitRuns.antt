@@ -1,5 +1,5 @@
 -- What comes on a walk, as events; what a visit does to the run of those that come; and the render tree from the nodes in pre-order.
-use Rattle.std.proofs.Common.{◌≡◌, ℕ, Bool, true, false, if◌then◌else◌, List, [], ◌∷◌, ◌++◌, All, refl, sym, ap, ◌∙◌, append_assoc, Option, Some, None, option_map, Result as Outcome, Ok, Err, IfErr, subst}
+use Rattle.std.proofs.Common.{◌≡◌, ℕ, Bool, true, false, if◌then◌else◌, List, [], ◌∷◌, ◌++◌, All, refl, sym, ap, ◌∙◌, append_assoc, Option, Some, None, option_map, Result as Outcome, Ok, Err, subst}
 use Rattle.std.proofs.lemmas.Grind.{flat_map-append}
 use Rattle.html_render_dom_styles.specs.Rules.{Rule as StyleRule}
 use Rattle.html_render_dom.specs.Dom.{Dom, IsForest, IsNode, children_at, content_at, trees_of, tree_of}
@@ -27,8 +27,9 @@ use Rattle.html_render_dom_nodes.specs.Content.{Content}
 use Rattle.html_render_dom.specs.laws.Forests.{All-children}
 use Rattle.html_render_layout_nodes.specs.Preorder.{flatten, forest_of}
 use Rattle.html_render_layout_nodes.specs.declared.tree.Entry.{Entry}
+use Rattle.html_render_layout_nodes.specs.declared.tree.RenderNode.{RenderNode}
 use Rattle.html_render_layout_nodes.specs.laws.Preorder.{forest_of-flatten}
-use Rattle.html_render_parts.specs.Refusal.{Fails}
+use Rattle.html_render_parts.specs.Refusal.{Builds, Fails}
 use Rattle.html_render_parts.specs.laws.Refusal.{Fails-same, Fails-then}
 use Rattle.html_render_tree_convert.specs.declared.plans.Plan.{Plan}
 use Rattle.html_render_tree_convert.specs.declared.plans.Plan.TheVariants.{Nothing, Alone, Over}
@@ -93,10 +94,10 @@ run-append [] ys cs = refl
 run-append (x ∷ xs) ys cs = then-then (run xs) (run ys) (run (xs ++ ys)) (run-append xs ys) (after x cs)
 
 -- an error that is handed on
-pub fails-handed : {X Y : Type 0} (r : Outcome X Error) (e : Error) (wanted : Option Y) → IsErrAnd r (λ f. f ≡ e) → Fails e wanted →
-    IfErr r (λ f. Fails f wanted)
-fails-handed (Ok x) e wanted is fails = tt
-fails-handed (Err f) e wanted is fails = subst (λ g. Fails g wanted) (sym is) fails
+pub fails-handed : {X S : Type 0} (r : Outcome X Error) (e : Error) (wanted : Option S) (built : X → S) → IsErrAnd r (λ f. f ≡ e) → Fails e wanted →
+    Builds r wanted built
+fails-handed (Ok x) e wanted built is fails = absurd is
+fails-handed (Err f) e wanted built is fails = record { ok = tt; err = subst (λ g. Fails g wanted) (sym is) fails }
 
 module _ (rules : List StyleRule) (dom : Dom) where
   -- run of all events of a document
@@ -114,10 +115,10 @@ module _ (rules : List StyleRule) (dom : Dom) where
       ap (λ l. rest_run l ds) qs_is ∙ sym (ap (λ o. o >>= rest_run (followed plan h ps)) done) ∙ all
 
   -- where a step of the run fails, the document can't be converted
-  pub fails-whole : {X : Type 0} (r : Outcome X Error) (e : Error) (step : Option State) (ps : List Position) → (step >>= rest_run ps) ≡ whole_run →
-      Fails e step → IsErrAnd r (λ f. f ≡ e) → IfErr r (λ f. Fails f (converted rules (tree_of dom 0)))
-  fails-whole r e step ps all fails is =
-      fails-handed r e _ is (Fails-then e whole_run all_written (Fails-same e whole_run _ (sym all) (Fails-then e step (rest_run ps) fails)))
+  pub fails-whole : {X : Type 0} (r : Outcome X Error) (e : Error) (built : X → List (Entry RenderNode)) (step : Option State) (ps : List Position) →
+      (step >>= rest_run ps) ≡ whole_run → Fails e step → IsErrAnd r (λ f. f ≡ e) → Builds r (converted rules (tree_of dom 0)) built
+  fails-whole r e built step ps all fails is =
+      fails-handed r e _ built is (Fails-then e whole_run all_written (Fails-same e whole_run _ (sym all) (Fails-then e step (rest_run ps) fails)))
 
   module _ (forest : IsForest dom) where
     -- a visit of a node: what is done at once, and then what comes

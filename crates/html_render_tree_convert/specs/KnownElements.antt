@@ -7,7 +7,6 @@ use Rattle.html_render_dom_values.specs.Forest.{none}
 use Rattle.html_render_dom_nodes.specs.Content.{Name, Property, html, is_html}
 use Rattle.html_render_dom_styles.specs.Rules.{Rule as StyleRule}
 use Rattle.html_render_dom.specs.Applying.{style_by}
-use Rattle.html_render_dom.specs.ElementStyle.{style_of}
 use Rattle.html_render_dom.specs.declared.style.computed.ComputedStyle.{ComputedStyle}
 use Rattle.html_render_layout_nodes.specs.RenderNodes.{no_style}
 use Rattle.html_render_layout_nodes.specs.declared.tree.NodeKind.TheVariants.{Container}
@@ -36,7 +35,7 @@ document_element = record { kind = Node Container; style = no_style; if_empty = 
 
 -- a style; the style without any declaration where there is none
 abbrev pub known_style : Option (Bor ComputedStyle) → ComputedStyle
-known_style style = option_map_or (λ s. style_of s.now) style (style_by [])
+known_style style = option_map_or (λ s. s.now) style (style_by [])
 
 -- an element without a mark
 abbrev pub known_element : KnownElement → Element

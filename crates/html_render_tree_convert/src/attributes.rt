@@ -3,7 +3,6 @@
 
 ghost use Rattle.std.specs.Prelude.{◌≡◌, ◌&&◌, IfOk, codes, find, map, option_copied, option_map, pos, reverse, string_bytes, unwrap_or};
 ghost use Rattle.std.specs.Str.{bytes_eq};
-ghost use Rattle.html_render_dom_values.specs.Outcome.{OnlyOutOfMemory};
 ghost use Rattle.html_render_dom_nodes.specs.Content.{name_of, property_of, space_of, is_html};
 ghost use Rattle.html_render_dom.specs.Attributes.{first_value};
 ghost use Rattle.html_render_tree_convert.specs.Conversion.{number_of, start_of};
@@ -15,7 +14,7 @@ use html_render_dom::Error;
 use html_render_dom::dom::{Attribute, AttributeValue, Namespace, QualName};
 use html_render_dom_nodes::is_same_name;
 use html_render_layout_nodes::text::NodeText;
-use std::alloc::Global;
+use std::alloc::{AllocError, Global};
 
 /// Returns the first attribute of a local name.
 fn attribute_named<'a>(attributes: &'a [Attribute], name: &str) -> Option<&'a Attribute>
@@ -121,15 +120,14 @@ pub(crate) fn mark_attribute<'a>(
 ///
 /// # Errors
 ///
-/// `OutOfMemory`, where the name can't be copied.
+/// `AllocError`, where the name can't be copied.
 #[tactic(auto, using(crate::proofs::Numbers::starts))]
 pub fn mark_of(
     alloc: Global,
     element: &QualName,
     attributes: &[Attribute],
-) -> Result<Option<NodeText>, Error>
-    ensures ok { IfOk result (λ mark. mark ≡ mark_of (name_of element.now) (map property_of attributes.now)) }
-    ensures err { OnlyOutOfMemory result }
+) -> Result<Option<NodeText>, AllocError>
+    ensures { IfOk result (λ mark. mark ≡ mark_of (name_of element.now) (map property_of attributes.now)) }
 {
     match mark_attribute(element, attributes) {
         Some(attribute) => {

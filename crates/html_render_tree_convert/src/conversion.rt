@@ -1,9 +1,8 @@
 //! The conversion of a document in one forward pass: what each event of a walk does to the open elements.
 
 ghost use Rattle.std.specs.Prelude.{◌≡◌, [], ◌∷◌, IfErr, IfOk, OnOk, Some};
-ghost use Rattle.html_render_dom_values.specs.Outcome.{OnlyOutOfMemory};
 ghost use Rattle.html_render_layout_nodes.specs.RenderNodes.{without_style};
-ghost use Rattle.html_render_parts.specs.Refusal.{Fails};
+ghost use Rattle.html_render_parts.specs.Refusal.{Builds};
 ghost use Rattle.html_render_tree_convert.specs.Held.{leaf};
 ghost use Rattle.html_render_tree_convert.specs.OpenElements.{root};
 ghost use Rattle.html_render_tree_convert.specs.Steps.{all_written, begun_with, closed_leaf, come, node_in, put};
@@ -15,22 +14,17 @@ use crate::mapping::IfEmpty;
 use html_render_dom_values::Error;
 use html_render_layout_nodes::text::NodeText;
 use html_render_layout_nodes::tree::{Entry, NodeKind, NodeStyle, RenderNode};
-use std::alloc::Global;
+use std::alloc::{AllocError, Global};
 use std::marker::Model;
 
 mod closing;
 mod opening;
 
 /// Writes a node without children in an open element.
-///
-/// # Errors
-///
-/// `OutOfMemory` if an allocation is refused.
 #[inline(always)]
-fn put_in(node: RenderNode, parent: &mut Open, tree: &mut Tree) -> Result<(), Error>
-    ensures ok { OnOk result (record { element = parent.new; tree = tree.new.items }
+fn put_in(node: RenderNode, parent: &mut Open, tree: &mut Tree) -> Result<(), AllocError>
+    ensures { OnOk result (record { element = parent.new; tree = tree.new.items }
         ≡ come (Some (closed_leaf node)) (record { element = parent.old; tree = tree.old.items })) }
-    ensures err { OnlyOutOfMemory result }
 {
     if parent.receive_contents(&node.kind, false, false) {
         put(node, tree)?;
@@ -39,15 +33,10 @@ fn put_in(node: RenderNode, parent: &mut Open, tree: &mut Tree) -> Result<(), Er
 }
 
 /// Writes a copy of a text in an open element. The copy is made where it is to stay, and removed if the element doesn't keep it.
-///
-/// # Errors
-///
-/// `OutOfMemory` if an allocation is refused.
 #[inline(always)]
-fn put_text_in(contents: &NodeText, parent: &mut Open, tree: &mut Tree) -> Result<(), Error>
-    ensures ok { OnOk result (record { element = parent.new; tree = tree.new.items }
+fn put_text_in(contents: &NodeText, parent: &mut Open, tree: &mut Tree) -> Result<(), AllocError>
+    ensures { OnOk result (record { element = parent.new; tree = tree.new.items }
         ≡ come (Some (closed_leaf (without_style (NodeKind.Text contents.now)))) (record { element = parent.old; tree = tree.old.items })) }
-    ensures err { OnlyOutOfMemory result }
 {
     put_text(contents, tree)?;
     if !parent.receive_contents(last_kind(tree), false, false) {
@@ -78,13 +67,8 @@ impl Model for Conversion {
 
 impl Conversion {
     /// Creates a conversion before its first event, with room for `nodes` nodes.
-    ///
-    /// # Errors
-    ///
-    /// `OutOfMemory` if an allocation is refused.
-    pub fn new(alloc: Global, nodes: usize) -> Result<Conversion, Error>
-        ensures ok { IfOk result (λ c. c ≡ root) }
-        ensures err { OnlyOutOfMemory result }
+    pub fn new(alloc: Global, nodes: usize) -> Result<Conversion, AllocError>
+        ensures { IfOk result (λ c. c ≡ root) }
     {
         Ok(Conversion {
             innermost: Open::new(OpenKind::Root, Due::none(), IfEmpty::Stands, false),
@@ -100,70 +84,48 @@ impl Conversion {
     }
 
     /// Writes a node without children.
-    ///
-    /// # Errors
-    ///
-    /// `OutOfMemory` if an allocation is refused.
     #[inline(always)]
-    pub fn put(&mut self, node: RenderNode) -> Result<(), Error>
-        ensures ok { OnOk result (self.new ≡ put node self.old) }
-        ensures err { OnlyOutOfMemory result }
+    pub fn put(&mut self, node: RenderNode) -> Result<(), AllocError>
+        ensures { OnOk result (self.new ≡ put node self.old) }
     {
         put_in(node, &mut self.innermost, &mut self.tree)
     }
 
     /// Writes a copy of a text.
-    ///
-    /// # Errors
-    ///
-    /// `OutOfMemory` if an allocation is refused.
     #[inline(always)]
-    pub fn put_text(&mut self, contents: &NodeText) -> Result<(), Error>
-        ensures ok { OnOk result (self.new ≡ put (without_style (NodeKind.Text contents.now)) self.old) }
-        ensures err { OnlyOutOfMemory result }
+    pub fn put_text(&mut self, contents: &NodeText) -> Result<(), AllocError>
+        ensures { OnOk result (self.new ≡ put (without_style (NodeKind.Text contents.now)) self.old) }
     {
         put_text_in(contents, &mut self.innermost, &mut self.tree)
     }
 
     /// Opens an element with a node of its own.
-    ///
-    /// # Errors
-    ///
-    /// `OutOfMemory` if an allocation is refused.
     #[inline(always)]
-    fn begin(&mut self, element: Open, node: RenderNode) -> Result<(), Error>
-        ensures ok { OnOk result (self.new ≡ begun_with element (leaf node ∷ []) self.old) }
-        ensures err { OnlyOutOfMemory result }
+    fn begin(&mut self, element: Open, node: RenderNode) -> Result<(), AllocError>
+        ensures { OnOk result (self.new ≡ begun_with element (leaf node ∷ []) self.old) }
     {
         self.begin_part(element)?;
-        put(node, &mut self.tree)?;
-        Ok(())
+        put(node, &mut self.tree)
     }
 
     /// Opens an element with an unmeasured node of its own.
-    ///
-    /// # Errors
-    ///
-    /// `OutOfMemory` if an allocation is refused.
     #[inline(always)]
-    fn begin_kind(&mut self, element: Open, style: NodeStyle, kind: NodeKind) -> Result<(), Error>
-        ensures ok { OnOk result (self.new ≡ begun_with element (leaf (node_in style kind) ∷ []) self.old) }
-        ensures err { OnlyOutOfMemory result }
+    fn begin_kind(
+        &mut self,
+        element: Open,
+        style: NodeStyle,
+        kind: NodeKind,
+    ) -> Result<(), AllocError>
+        ensures { OnOk result (self.new ≡ begun_with element (leaf (node_in style kind) ∷ []) self.old) }
     {
         self.begin_part(element)?;
-        put_kind(style, kind, &mut self.tree)?;
-        Ok(())
+        put_kind(style, kind, &mut self.tree)
     }
 
     /// Opens an element without a node of its own.
-    ///
-    /// # Errors
-    ///
-    /// `OutOfMemory` if an allocation is refused.
     #[inline(always)]
-    fn begin_part(&mut self, mut element: Open) -> Result<(), Error>
-        ensures ok { OnOk result (self.new ≡ begun_with element [] self.old) }
-        ensures err { OnlyOutOfMemory result }
+    fn begin_part(&mut self, mut element: Open) -> Result<(), AllocError>
+        ensures { OnOk result (self.new ≡ begun_with element [] self.old) }
     {
         element.start = self.tree.len();
         self.outer.reserve(1)?;
@@ -178,8 +140,7 @@ impl Conversion {
     ///
     /// `Fail` exactly if a part of a table is among them that is in no table.
     pub fn into_entries(self) -> Result<Vec<Entry<RenderNode>>, Error>
-        ensures ok { IfOk result (λ entries. all_written self ≡ Some entries.items) }
-        ensures err { IfErr result (λ e. Fails e (all_written self)) }
+        ensures { Builds result (all_written self) (λ entries. entries.items) }
     {
         if self.innermost.is_stray {
             return Err(Error::Fail);

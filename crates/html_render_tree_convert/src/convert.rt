@@ -1,9 +1,8 @@
 //! Conversion of a document into a render tree.
 
 ghost use Rattle.std.specs.Prelude.{◌≡◌, IfErr, IfOk, None, OnOk, Some, map, true};
-ghost use Rattle.html_render_dom_values.specs.Outcome.{OnlyOutOfMemory};
 ghost use Rattle.html_render_dom_styles.specs.Rules.{rule_of};
-ghost use Rattle.html_render_parts.specs.Refusal.{Fails};
+ghost use Rattle.html_render_parts.specs.Refusal.{Builds, Makes};
 ghost use Rattle.html_render_dom.specs.Dom.{IsForest, IsNode, tree_of};
 ghost use Rattle.html_render_dom.specs.RuleIndex.{Finds};
 ghost use Rattle.html_render_tree_convert.specs.Plans.{plan_at};
@@ -25,7 +24,7 @@ use html_render_dom::style::{RuleIndex, StyleRule};
 use html_render_dom_values::Error;
 use html_render_layout_nodes::tree::{Entry, NodeStyle, PreorderForest, RenderNode};
 use html_render_tree_walk::cursor::{Cursor, Pick, Visit};
-use std::alloc::Global;
+use std::alloc::{AllocError, Global};
 
 /// Returns the children that come first in an element.
 fn first_pick(kind: &ElementKind) -> Pick
@@ -43,8 +42,7 @@ fn first_pick(kind: &ElementKind) -> Pick
 ///
 /// Those of [`Conversion::close`].
 fn convert_alone(alloc: Global, element: Element, conversion: &mut Conversion) -> Result<(), Error>
-    ensures ok { OnOk result (run (element_events element nothing_inside) conversion.old ≡ Some conversion.new) }
-    ensures err { IfErr result (λ e. Fails e (run (element_events element nothing_inside) conversion.old)) }
+    ensures { Makes result (run (element_events element nothing_inside) conversion.old) conversion.new }
 {
     let pick = first_pick(&element.kind);
     conversion.open(alloc, element)?;
@@ -66,13 +64,12 @@ fn follow(
     cursor: &mut Cursor,
     conversion: &mut Conversion,
 ) -> Result<(), Error>
-    ensures ok { OnOk result (run (done_at_once plan) conversion.old ≡ Some conversion.new) }
+    ensures done { Makes result (run (done_at_once plan) conversion.old) conversion.new }
     ensures cursor { OnOk result (cursor.new ≡ followed plan node cursor.old) }
-    ensures err { IfErr result (λ e. Fails e (run (done_at_once plan) conversion.old)) }
 {
     match plan {
         Plan::Nothing => Ok(()),
-        Plan::Alone(alone) => conversion.put(alone),
+        Plan::Alone(alone) => Ok(conversion.put(alone)?),
         Plan::Over {
             element,
             has_children,
@@ -89,20 +86,15 @@ fn follow(
 }
 
 /// Opens an element whose plan is known by its name. Its children come next.
-///
-/// # Errors
-///
-/// `OutOfMemory` if an allocation is refused.
 #[inline(always)]
 fn enter(
     known: KnownElement<'_>,
     node: Handle,
     cursor: &mut Cursor,
     conversion: &mut Conversion,
-) -> Result<(), Error>
+) -> Result<(), AllocError>
     ensures ok { OnOk result (run (done_at_once (Plan.Over (known_element known.entry) true)) conversion.old ≡ Some conversion.new) }
     ensures cursor { OnOk result (cursor.new ≡ followed (Plan.Over (known_element known.entry) true) node cursor.old) }
-    ensures err { OnlyOutOfMemory result }
 {
     let KnownElement {
         kind,
@@ -117,20 +109,18 @@ fn enter(
         }
         Some(style) => conversion.open_styled(kind, if_empty, style)?,
     }
-    cursor.enter(node, pick)?;
-    Ok(())
+    cursor.enter(node, pick)
 }
 
 /// Opens a cell of one column and one row that has no style and inserts nothing. Its children come next.
-///
-/// # Errors
-///
-/// `OutOfMemory` if an allocation is refused.
 #[inline(always)]
-fn enter_cell(node: Handle, cursor: &mut Cursor, conversion: &mut Conversion) -> Result<(), Error>
+fn enter_cell(
+    node: Handle,
+    cursor: &mut Cursor,
+    conversion: &mut Conversion,
+) -> Result<(), AllocError>
     ensures ok { OnOk result (run (done_at_once (Plan.Over plain_cell true)) conversion.old ≡ Some conversion.new) }
     ensures cursor { OnOk result (cursor.new ≡ followed (Plan.Over plain_cell true) node cursor.old) }
-    ensures err { OnlyOutOfMemory result }
 {
     let alloc = conversion.allocator();
     let span = CellSpan {
@@ -139,26 +129,20 @@ fn enter_cell(node: Handle, cursor: &mut Cursor, conversion: &mut Conversion) ->
     };
     let cell = ElementKind::Part(Part::Cell(span));
     conversion.open_plain(alloc, cell, NodeStyle::default(), IfEmpty::Stands)?;
-    cursor.enter(node, Pick::All)?;
-    Ok(())
+    cursor.enter(node, Pick::All)
 }
 
 /// Converts a node of this mapping that inserts nothing and has no style, as far as can be without its children, which come next
 /// if they are converted.
-///
-/// # Errors
-///
-/// `OutOfMemory` if an allocation is refused.
 #[inline(always)]
 fn convert_plain(
     mapping: Mapping,
     node: Handle,
     cursor: &mut Cursor,
     conversion: &mut Conversion,
-) -> Result<(), Error>
+) -> Result<(), AllocError>
     ensures ok { OnOk result (run (done_at_once (plain_plan mapping)) conversion.old ≡ Some conversion.new) }
     ensures cursor { OnOk result (cursor.new ≡ followed (plain_plan mapping) node cursor.old) }
-    ensures err { OnlyOutOfMemory result }
 {
     match mapping {
         Mapping::Nothing => Ok(()),
@@ -167,8 +151,7 @@ fn convert_plain(
             let alloc = conversion.allocator();
             let pick = first_pick(&kind);
             conversion.open_plain(alloc, kind, NodeStyle::default(), if_empty)?;
-            cursor.enter(node, pick)?;
-            Ok(())
+            cursor.enter(node, pick)
         }
     }
 }
@@ -190,9 +173,8 @@ fn convert_planned(
     requires index { Finds index.now (map rule_of rules.now) }
     requires forest { IsForest dom.now }
     requires node { IsNode dom.now node }
-    ensures ok { OnOk result (run (done_at_once (plan_at (map rule_of rules.now) dom.now node)) conversion.old ≡ Some conversion.new) }
+    ensures done { Makes result (run (done_at_once (plan_at (map rule_of rules.now) dom.now node)) conversion.old) conversion.new }
     ensures cursor { OnOk result (cursor.new ≡ followed (plan_at (map rule_of rules.now) dom.now node) node cursor.old) }
-    ensures err { IfErr result (λ e. Fails e (run (done_at_once (plan_at (map rule_of rules.now) dom.now node)) conversion.old)) }
 {
     let alloc = conversion.allocator();
     let plan = plan_of(alloc, rules, index, dom, node)?;
@@ -217,13 +199,12 @@ fn convert_other(
     requires index { Finds index.now (map rule_of rules.now) }
     requires forest { IsForest dom.now }
     requires node { IsNode dom.now node }
-    ensures ok { OnOk result (run (done_at_once (plan_at (map rule_of rules.now) dom.now node)) conversion.old ≡ Some conversion.new) }
+    ensures done { Makes result (run (done_at_once (plan_at (map rule_of rules.now) dom.now node)) conversion.old) conversion.new }
     ensures cursor { OnOk result (cursor.new ≡ followed (plan_at (map rule_of rules.now) dom.now node) node cursor.old) }
-    ensures err { IfErr result (λ e. Fails e (run (done_at_once (plan_at (map rule_of rules.now) dom.now node)) conversion.old)) }
 {
     let alloc = conversion.allocator();
     if let Some(mapping) = plain_mapping(alloc, rules, index, dom, node)? {
-        return convert_plain(mapping, node, cursor, conversion);
+        return Ok(convert_plain(mapping, node, cursor, conversion)?);
     }
     convert_planned(rules, index, dom, node, cursor, conversion)
 }
@@ -248,12 +229,11 @@ fn convert_named(
     requires forest { IsForest dom.now }
     requires node { IsNode dom.now node }
     requires name { plan_at (map rule_of rules.now) dom.now node ≡ named_plan (map rule_of rules.now) name.now }
-    ensures ok { OnOk result (run (done_at_once (plan_at (map rule_of rules.now) dom.now node)) conversion.old ≡ Some conversion.new) }
+    ensures done { Makes result (run (done_at_once (plan_at (map rule_of rules.now) dom.now node)) conversion.old) conversion.new }
     ensures cursor { OnOk result (cursor.new ≡ followed (plan_at (map rule_of rules.now) dom.now node) node cursor.old) }
-    ensures err { IfErr result (λ e. Fails e (run (done_at_once (plan_at (map rule_of rules.now) dom.now node)) conversion.old)) }
 {
     if let Some(known) = known_name(rules, index, name) {
-        return enter(known, node, cursor, conversion);
+        return Ok(enter(known, node, cursor, conversion)?);
     }
     convert_other(rules, index, dom, node, cursor, conversion)
 }
@@ -276,16 +256,15 @@ fn convert_node(
     requires index { Finds index.now (map rule_of rules.now) }
     requires forest { IsForest dom.now }
     requires node { IsNode dom.now node }
-    ensures ok { OnOk result (run (done_at_once (plan_at (map rule_of rules.now) dom.now node)) conversion.old ≡ Some conversion.new) }
+    ensures done { Makes result (run (done_at_once (plan_at (map rule_of rules.now) dom.now node)) conversion.old) conversion.new }
     ensures cursor { OnOk result (cursor.new ≡ followed (plan_at (map rule_of rules.now) dom.now node) node cursor.old) }
-    ensures err { IfErr result (λ e. Fails e (run (done_at_once (plan_at (map rule_of rules.now) dom.now node)) conversion.old)) }
 {
     if let Some(text) = text_at(dom, node) {
-        return conversion.put_text(text);
+        return Ok(conversion.put_text(text)?);
     }
     if let Some(name) = plain_name(dom, node) {
         if is_plain_cell(rules, index, name) {
-            return enter_cell(node, cursor, conversion);
+            return Ok(enter_cell(node, cursor, conversion)?);
         }
         return convert_named(rules, index, dom, node, name, cursor, conversion);
     }
@@ -303,8 +282,7 @@ fn entries_of(
     rules: &[StyleRule],
     dom: &RcDom,
 ) -> Result<Vec<Entry<RenderNode>>, Error>
-    ensures ok { IfOk result (λ entries. converted (map rule_of rules.now) (tree_of dom.now 0) ≡ Some entries.items) }
-    ensures err { IfErr result (λ e. Fails e (converted (map rule_of rules.now) (tree_of dom.now 0))) }
+    ensures { Builds result (converted (map rule_of rules.now) (tree_of dom.now 0)) (λ entries. entries.items) }
 {
     let index = RuleIndex::of(alloc, rules)?;
     let mut cursor = Cursor::new(alloc);
@@ -340,8 +318,7 @@ pub fn dom_to_render_tree(
     rules: &[StyleRule],
     dom: &RcDom,
 ) -> Result<PreorderForest<RenderNode>, Error>
-    ensures ok { IfOk result (λ tree. render_tree_of (map rule_of rules.now) dom.now ≡ Some tree) }
-    ensures err { IfErr result (λ e. Fails e (render_tree_of (map rule_of rules.now) dom.now)) }
+    ensures { Builds result (render_tree_of (map rule_of rules.now) dom.now) (λ tree. tree) }
 {
     let entries = entries_of(alloc, rules, dom)?;
     Ok(PreorderForest::from_entries(entries))
@@ -357,8 +334,7 @@ pub fn dom_into_render_tree(
     rules: &[StyleRule],
     dom: RcDom,
 ) -> Result<PreorderForest<RenderNode>, Error>
-    ensures ok { IfOk result (λ tree. render_tree_of (map rule_of rules.now) dom ≡ Some tree) }
-    ensures err { IfErr result (λ e. Fails e (render_tree_of (map rule_of rules.now) dom)) }
+    ensures { Builds result (render_tree_of (map rule_of rules.now) dom) (λ tree. tree) }
 {
     dom_to_render_tree(alloc, rules, &dom)
 }

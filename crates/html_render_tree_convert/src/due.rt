@@ -2,16 +2,14 @@
 
 ghost use Rattle.std.specs.Prelude.{◌≡◌, ◌++◌, IfOk, None, OnOk, Some};
 ghost use Rattle.std.specs.Bool.{OnTrue};
-ghost use Rattle.html_render_dom_values.specs.Outcome.{OnlyOutOfMemory};
 ghost use Rattle.html_render_layout_nodes.specs.declared.tree.NodeKind.TheVariants.{FragmentStart};
 ghost use Rattle.html_render_tree_convert.specs.Held.{due_of, held_back, held_in, insertion_in, leaves, nothing, nothing_held, text_nodes, within};
 
 use crate::builder::{Tree, put};
 use crate::plans::ElementTexts;
-use html_render_dom_values::Error;
 use html_render_layout_nodes::text::NodeText;
 use html_render_layout_nodes::tree::{NodeKind, RenderNode};
-use std::alloc::Global;
+use std::alloc::{AllocError, Global};
 use std::marker::Model;
 
 /// Nodes without children that are inserted in front of an element's children and after them.
@@ -57,14 +55,9 @@ pub struct DueParts {
 
 impl DueParts {
     /// Takes the element's own insertion. The rest stays.
-    ///
-    /// # Errors
-    ///
-    /// `OutOfMemory` if an allocation is refused.
-    fn take_own(&mut self, alloc: Global) -> Result<InsertedNodes, Error>
+    fn take_own(&mut self, alloc: Global) -> Result<InsertedNodes, AllocError>
         ensures ok { IfOk result (λ i. insertion_in i ≡ (held_in (Some self.old)).own) }
         ensures left { OnOk result (held_in (Some self.new) ≡ record (held_in (Some self.old)) { own = nothing }) }
-        ensures err { OnlyOutOfMemory result }
     {
         let InsertedNodes {
             front,
@@ -133,13 +126,8 @@ impl Due {
     }
 
     /// Creates what an element has still to write. Where that is nothing, nothing is allocated.
-    ///
-    /// # Errors
-    ///
-    /// `OutOfMemory` if an allocation is refused.
-    pub fn new(alloc: Global, parts: DueParts) -> Result<Due, Error>
-        ensures ok { IfOk result (λ d. d ≡ held_in (Some parts)) }
-        ensures err { OnlyOutOfMemory result }
+    pub fn new(alloc: Global, parts: DueParts) -> Result<Due, AllocError>
+        ensures { IfOk result (λ d. d ≡ held_in (Some parts)) }
     {
         if parts.mark.is_none()
             && parts.after.is_none()
@@ -154,18 +142,13 @@ impl Due {
 
     /// Creates what an element has still to write that leaves this mark if it vanishes, and writes this text after its children.
     /// It is in the memory of a closed element if there is any.
-    ///
-    /// # Errors
-    ///
-    /// `OutOfMemory` if an allocation is refused.
     pub fn held_back(
         alloc: Global,
         mark: Option<NodeText>,
         after: Option<NodeText>,
         spare: &mut Spare,
-    ) -> Result<Due, Error>
-        ensures ok { IfOk result (λ d. d ≡ held_back mark (text_nodes NodeKind.Text after)) }
-        ensures err { OnlyOutOfMemory result }
+    ) -> Result<Due, AllocError>
+        ensures { IfOk result (λ d. d ≡ held_back mark (text_nodes NodeKind.Text after)) }
     {
         if let Some(mut parts) = spare.parts.take() {
             parts.mark = mark;
@@ -182,17 +165,13 @@ impl Due {
     }
 
     /// Creates what rows or a row have still to write in their first cell: their own texts, and an insertion round these.
-    ///
-    /// # Errors
-    ///
-    /// `OutOfMemory` if an allocation is refused.
     pub fn carried(
         alloc: Global,
         texts: ElementTexts,
         outer: InsertedNodes,
         given: InsertedNodes,
-    ) -> Result<Due, Error>
-        ensures ok { IfOk result (λ d. d ≡ record {
+    ) -> Result<Due, AllocError>
+        ensures { IfOk result (λ d. d ≡ record {
           mark = texts.mark;
           own = within (insertion_in outer) (record {
             front = text_nodes FragmentStart texts.mark ++ text_nodes NodeKind.Text texts.before;
@@ -200,7 +179,6 @@ impl Due {
           });
           given = insertion_in given;
         }) }
-        ensures err { OnlyOutOfMemory result }
     {
         let ElementTexts {
             mark,
@@ -235,14 +213,9 @@ impl Due {
     }
 
     /// Takes what is due. The mark stays.
-    ///
-    /// # Errors
-    ///
-    /// `OutOfMemory` if an allocation is refused.
-    pub fn take(&mut self, alloc: Global) -> Result<InsertedNodes, Error>
+    pub fn take(&mut self, alloc: Global) -> Result<InsertedNodes, AllocError>
         ensures ok { IfOk result (λ i. insertion_in i ≡ due_of self.old) }
         ensures left { OnOk result (self.new ≡ record nothing_held { mark = self.old.mark }) }
-        ensures err { OnlyOutOfMemory result }
     {
         let InsertedNodes {
             mut front,
@@ -258,14 +231,9 @@ impl Due {
     }
 
     /// Takes the element's own insertion. The rest stays.
-    ///
-    /// # Errors
-    ///
-    /// `OutOfMemory` if an allocation is refused.
-    pub fn take_own(&mut self, alloc: Global) -> Result<InsertedNodes, Error>
+    pub fn take_own(&mut self, alloc: Global) -> Result<InsertedNodes, AllocError>
         ensures ok { IfOk result (λ i. insertion_in i ≡ self.old.own) }
         ensures left { OnOk result (self.new ≡ record self.old { own = nothing }) }
-        ensures err { OnlyOutOfMemory result }
     {
         match &mut self.parts {
             Some(parts) => parts.take_own(alloc),
@@ -286,14 +254,9 @@ impl Due {
     }
 
     /// Replaces the element's own insertion. The rest stays.
-    ///
-    /// # Errors
-    ///
-    /// `OutOfMemory` if an allocation is refused.
     #[inline(never)]
-    pub fn set_own(&mut self, alloc: Global, own: InsertedNodes) -> Result<(), Error>
-        ensures ok { OnOk result (self.new ≡ record self.old { own = insertion_in own }) }
-        ensures err { OnlyOutOfMemory result }
+    pub fn set_own(&mut self, alloc: Global, own: InsertedNodes) -> Result<(), AllocError>
+        ensures { OnOk result (self.new ≡ record self.old { own = insertion_in own }) }
     {
         match &mut self.parts {
             Some(parts) => {
@@ -315,14 +278,9 @@ impl Due {
     }
 
     /// Writes what is due after the children of an element that closes. Its memory becomes the spare one if nothing is left in it.
-    ///
-    /// # Errors
-    ///
-    /// `OutOfMemory` if an allocation is refused.
     #[inline(never)]
-    pub fn write_back(self, tree: &mut Tree, spare: &mut Spare) -> Result<(), Error>
-        ensures ok { OnOk result (tree.new.items ≡ tree.old.items ++ leaves self.own.back) }
-        ensures err { OnlyOutOfMemory result }
+    pub fn write_back(self, tree: &mut Tree, spare: &mut Spare) -> Result<(), AllocError>
+        ensures { OnOk result (tree.new.items ≡ tree.old.items ++ leaves self.own.back) }
     {
         let Some(mut parts) = self.parts else {
             return Ok(());
@@ -341,13 +299,8 @@ impl Due {
 }
 
 /// Returns a text as a node, if there is one.
-///
-/// # Errors
-///
-/// `OutOfMemory` if an allocation is refused.
-fn text_nodes(alloc: Global, text: Option<NodeText>) -> Result<Vec<RenderNode>, Error>
-    ensures ok { IfOk result (λ nodes. nodes.items ≡ text_nodes NodeKind.Text text) }
-    ensures err { OnlyOutOfMemory result }
+fn text_nodes(alloc: Global, text: Option<NodeText>) -> Result<Vec<RenderNode>, AllocError>
+    ensures { IfOk result (λ nodes. nodes.items ≡ text_nodes NodeKind.Text text) }
 {
     let mut nodes = Vec::new(alloc);
     if let Some(text) = text {
@@ -357,17 +310,12 @@ fn text_nodes(alloc: Global, text: Option<NodeText>) -> Result<Vec<RenderNode>, 
 }
 
 /// Writes the texts in front of an element's children: its mark, and its content.
-///
-/// # Errors
-///
-/// `OutOfMemory` if an allocation is refused.
 pub fn put_texts(
     mark: Option<NodeText>,
     before: Option<NodeText>,
     tree: &mut Tree,
-) -> Result<(), Error>
-    ensures ok { OnOk result (tree.new.items ≡ tree.old.items ++ leaves (text_nodes FragmentStart mark ++ text_nodes NodeKind.Text before)) }
-    ensures err { OnlyOutOfMemory result }
+) -> Result<(), AllocError>
+    ensures { OnOk result (tree.new.items ≡ tree.old.items ++ leaves (text_nodes FragmentStart mark ++ text_nodes NodeKind.Text before)) }
 {
     if let Some(name) = mark {
         put(RenderNode::from(NodeKind::FragmentStart(name)), tree)?;
@@ -379,14 +327,9 @@ pub fn put_texts(
 }
 
 /// Appends nodes without children.
-///
-/// # Errors
-///
-/// `OutOfMemory` if an allocation is refused.
 #[inline(never)]
-pub fn put_all(nodes: Vec<RenderNode>, tree: &mut Tree) -> Result<(), Error>
-    ensures ok { OnOk result (tree.new.items ≡ tree.old.items ++ leaves nodes.items) }
-    ensures err { OnlyOutOfMemory result }
+pub fn put_all(nodes: Vec<RenderNode>, tree: &mut Tree) -> Result<(), AllocError>
+    ensures { OnOk result (tree.new.items ≡ tree.old.items ++ leaves nodes.items) }
 {
     for node in nodes {
         put(node, tree)?;

@@ -1,7 +1,6 @@
 //! Elements that are open during a walk over a document.
 
 ghost use Rattle.std.specs.Prelude.{◌≡◌, IfOk, OnOk};
-ghost use Rattle.html_render_dom_values.specs.Outcome.{OnlyOutOfMemory};
 ghost use Rattle.html_render_tree_convert.specs.Conversion.{vanishes};
 ghost use Rattle.html_render_tree_convert.specs.OpenElements.{created};
 ghost use Rattle.html_render_tree_convert.specs.Results.{stands_alone};
@@ -11,9 +10,9 @@ use crate::due::Due;
 use crate::kinds::{Keeping, shows_nothing};
 use crate::mapping::IfEmpty;
 use crate::tables::CellSpan;
-use html_render_dom_values::Error;
 use html_render_layout_nodes::tree::NodeKind;
 use html_render_parts::table::spans::{PartRows, RowCells, TableSpans};
+use std::alloc::AllocError;
 use std::mem::size_of;
 
 /// Role of a result for the element in which it comes.
@@ -128,14 +127,9 @@ impl OpenKind {
     }
 
     /// Adds the rows, the row or the cell of a result to those of a table, of a part of it or of a row.
-    ///
-    /// # Errors
-    ///
-    /// `OutOfMemory` if an allocation is refused.
     #[inline(always)]
-    fn gather(&mut self, role: Role) -> Result<(), Error>
-        ensures ok { OnOk result (self.new ≡ gathered self.old role) }
-        ensures err { OnlyOutOfMemory result }
+    fn gather(&mut self, role: Role) -> Result<(), AllocError>
+        ensures { OnOk result (self.new ≡ gathered self.old role) }
     {
         match (self, role) {
             (OpenKind::Parts(spans), Role::Rows(rows)) => spans.push_part(rows),
@@ -198,10 +192,6 @@ impl Open {
     }
 
     /// Receives a result, and reports whether it keeps that. The caller writes its entries if so.
-    ///
-    /// # Errors
-    ///
-    /// `OutOfMemory` if an allocation is refused.
     #[inline(always)]
     pub fn receive(
         &mut self,
@@ -209,10 +199,9 @@ impl Open {
         kind: &NodeKind,
         has_children: bool,
         is_stray: bool,
-    ) -> Result<bool, Error>
+    ) -> Result<bool, AllocError>
         ensures kept { IfOk result (λ kept. kept ≡ accepts self.old.kind role kind.now) }
         ensures element { OnOk result (self.new ≡ received role kind.now has_children is_stray self.old) }
-        ensures err { OnlyOutOfMemory result }
     {
         if !self.has_results {
             self.has_results = self.kind.counts(&role, kind, has_children);

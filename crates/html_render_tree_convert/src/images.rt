@@ -1,7 +1,6 @@
 //! What an image and a drawing are called, and where an image lies.
 
 ghost use Rattle.std.specs.Prelude.{◌≡◌, [], IfOk, IfSome, map, option_map, unwrap_or, string_bytes};
-ghost use Rattle.html_render_dom_values.specs.Outcome.{OnlyOutOfMemory};
 ghost use Rattle.html_render_dom_nodes.specs.Content.{content_of, property_of};
 ghost use Rattle.html_render_dom.specs.Dom.{IsForest, IsNode, below, children_at, node_count, trees_of};
 ghost use Rattle.html_render_dom_values.specs.Forest.{none};
@@ -107,15 +106,10 @@ fn direct_texts(alloc: Global, dom: &RcDom, node: Handle) -> Result<String, Allo
 }
 
 /// Returns the title of a drawing.
-///
-/// # Errors
-///
-/// `OutOfMemory`.
-pub fn drawing_title(alloc: Global, dom: &RcDom, node: Handle) -> Result<NodeText, Error>
+pub fn drawing_title(alloc: Global, dom: &RcDom, node: Handle) -> Result<NodeText, AllocError>
     requires forest { IsForest dom.now }
     requires node { IsNode dom.now node }
-    ensures ok { IfOk result (λ title. title ≡ drawing_title (trees_of dom.now (children_at dom.now node))) }
-    ensures err { OnlyOutOfMemory result }
+    ensures { IfOk result (λ title. title ≡ drawing_title (trees_of dom.now (children_at dom.now node))) }
 {
     match last_title(dom, node) {
         Some(title) => Ok(NodeText::from(direct_texts(alloc, dom, title)?)),

@@ -3,10 +3,8 @@
 ghost use Rattle.std.specs.Prelude.{◌≡◌, ◌&&◌, ◌||◌, false, IfOk, codes, if◌then◌else◌, map};
 ghost use Rattle.std.specs.Option.{option_map_or};
 ghost use Rattle.std.specs.Str.{bytes_eq};
-ghost use Rattle.html_render_dom_values.specs.Outcome.{OnlyOutOfMemory};
 ghost use Rattle.html_render_dom_nodes.specs.Content.{name_of, property_of, space_of, is_html};
 ghost use Rattle.html_render_dom.specs.Dom.{IsForest, IsNode, children_at, trees_of};
-ghost use Rattle.html_render_dom.specs.ElementStyle.{style_of};
 ghost use Rattle.html_render_dom.specs.Attributes.{first_value};
 ghost use Rattle.html_render_dom_styles.specs.Selectors.{is_filled};
 ghost use Rattle.html_render_tree_convert.specs.Images.{image_parts};
@@ -22,7 +20,7 @@ use html_render_dom::style::{ComputedStyle, Specificity, StyleOrigin, WhiteSpace
 use html_render_dom_nodes::is_same_name;
 use html_render_layout_nodes::text::NodeText;
 use html_render_layout_nodes::tree::{Emphasis, Image, NodeKind, NodeStyle};
-use std::alloc::Global;
+use std::alloc::{AllocError, Global};
 
 /// The end of an element whose children have no results that count.
 #[derive(Clone, Copy)]
@@ -167,10 +165,9 @@ fn other_mapping(name: &str, attributes: &[Attribute]) -> Mapping
 }
 
 /// Returns the mapping of an `a`, by its attributes: a link to its first `href`, if it has one.
-fn link_mapping(attributes: &[Attribute]) -> Result<Mapping, Error>
-    ensures ok { IfOk result (λ mapping. mapping ≡ option_map_or (λ t. Mapping.Parent (ElementKind.Node (NodeKind.Link t)) IfEmpty.Vanishes)
+fn link_mapping(attributes: &[Attribute]) -> Result<Mapping, AllocError>
+    ensures { IfOk result (λ mapping. mapping ≡ option_map_or (λ t. Mapping.Parent (ElementKind.Node (NodeKind.Link t)) IfEmpty.Vanishes)
         (first_value (codes "href") (map property_of attributes.now)) (Mapping.Parent (ElementKind.Node NodeKind.Container) IfEmpty.Stands)) }
-    ensures err { OnlyOutOfMemory result }
 {
     match first_value(attributes, "href") {
         Some(target) => {
@@ -186,10 +183,9 @@ fn image_mapping(
     alloc: Global,
     source: &AttributeValue,
     title: &AttributeValue,
-) -> Result<Mapping, Error>
-    ensures ok { IfOk result (λ mapping. mapping ≡ (if is_filled source.now
+) -> Result<Mapping, AllocError>
+    ensures { IfOk result (λ mapping. mapping ≡ (if is_filled source.now
         then Mapping.Leaf (NodeKind.Image (record { source = source.now; title = title.now })) else Mapping.Nothing)) }
-    ensures err { OnlyOutOfMemory result }
 {
     if source.as_str().is_empty() {
         return Ok(Mapping::Nothing);
@@ -211,9 +207,8 @@ fn html_element_mapping(
     alloc: Global,
     name: &str,
     attributes: &[Attribute],
-) -> Result<Mapping, Error>
-    ensures ok { IfOk result (λ mapping. mapping ≡ html_element_mapping name.now (map property_of attributes.now)) }
-    ensures err { OnlyOutOfMemory result }
+) -> Result<Mapping, AllocError>
+    ensures { IfOk result (λ mapping. mapping ≡ html_element_mapping name.now (map property_of attributes.now)) }
 {
     match name {
         _ if is(name, "a") => link_mapping(attributes),
@@ -238,12 +233,11 @@ pub(crate) fn element_mapping(
     element: Handle,
     name: &QualName,
     attributes: &[Attribute],
-) -> Result<Mapping, Error>
+) -> Result<Mapping, AllocError>
     requires forest { IsForest dom.now }
     requires node { IsNode dom.now element }
-    ensures ok { IfOk result (λ mapping. mapping ≡ element_mapping (space_of name.now.ns) name.now.local
+    ensures { IfOk result (λ mapping. mapping ≡ element_mapping (space_of name.now.ns) name.now.local
         (map property_of attributes.now) (trees_of dom.now (children_at dom.now element))) }
-    ensures err { OnlyOutOfMemory result }
 {
     match name.ns {
         Namespace::Html => html_element_mapping(alloc, name.local.as_str(), attributes),
@@ -268,7 +262,7 @@ pub(crate) fn is_preformatted(name: &QualName) -> bool
 
 /// Gives the style of a `pre` its last update: it keeps white space, unless a rule that wins over this says otherwise.
 pub(crate) fn preformat(style: &mut ComputedStyle)
-    ensures { style_of style.new ≡ preformatted_style (style_of style.old) }
+    ensures { style.new ≡ preformatted_style style.old }
 {
     let no_specificity = Specificity::default();
     style
@@ -279,7 +273,7 @@ pub(crate) fn preformat(style: &mut ComputedStyle)
 
 /// Returns the style that an element's style gives its node.
 pub fn node_style(style: &ComputedStyle) -> NodeStyle
-    ensures { result ≡ node_style (style_of style.now) }
+    ensures { result ≡ node_style style.now }
 {
     NodeStyle {
         colour: style.colour.val().copied(),

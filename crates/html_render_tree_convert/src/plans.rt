@@ -8,7 +8,7 @@ ghost use Rattle.html_render_dom_values.specs.Outcome.{OnlyOutOfMemory};
 ghost use Rattle.html_render_dom_nodes.specs.Content.{name_of, property_of};
 ghost use Rattle.html_render_dom.specs.Applying.{style_by};
 ghost use Rattle.html_render_dom.specs.Dom.{IsForest, IsNode};
-ghost use Rattle.html_render_dom.specs.ElementStyle.{element_style, style_of};
+ghost use Rattle.html_render_dom.specs.ElementStyle.{element_style};
 ghost use Rattle.html_render_dom.specs.declared.style.computed.ComputedStyle.{ComputedStyle as TheStyle};
 ghost use Rattle.html_render_dom.specs.RuleIndex.{Finds};
 ghost use Rattle.html_render_dom_styles.specs.Rules.{Rule, rule_of};
@@ -60,7 +60,7 @@ impl ElementTexts {
     ///
     /// `AllocError` if an allocation is refused.
     pub fn of(mark: Option<NodeText>, style: &ComputedStyle) -> Result<ElementTexts, AllocError>
-        ensures { IfOk result (λ texts. texts ≡ texts_of mark (style_of style.now)) }
+        ensures { IfOk result (λ texts. texts ≡ texts_of mark style.now) }
     {
         Ok(ElementTexts {
             mark,
@@ -161,7 +161,7 @@ fn styled_plan(
     mark: Option<NodeText>,
     style: &ComputedStyle,
 ) -> Result<Plan, AllocError>
-    ensures { IfOk result (λ plan. plan ≡ element_plan mapping mark (style_of style.now)) }
+    ensures { IfOk result (λ plan. plan ≡ element_plan mapping mark style.now) }
 {
     if style.display.val().is_some() {
         return Ok(Plan::Nothing);
@@ -180,7 +180,7 @@ fn own_style(
     attributes: &[Attribute],
 ) -> Result<ComputedStyle, Error>
     requires { Finds index.now (map rule_of rules.now) }
-    ensures ok { IfOk result (λ style. style_of style ≡ own_style (map rule_of rules.now) (name_of name.now) (map property_of attributes.now)) }
+    ensures ok { IfOk result (λ style. style ≡ own_style (map rule_of rules.now) (name_of name.now) (map property_of attributes.now)) }
     ensures err { OnlyOutOfMemory result }
 {
     let mut style = index.computed_style(alloc, rules, name.local.as_str(), attributes)?;
@@ -344,9 +344,8 @@ fn document_plan() -> Plan
 }
 
 /// Returns the node of a text.
-fn text_node(alloc: Global, contents: &str) -> Result<RenderNode, Error>
-    ensures ok { IfOk result (λ node. node ≡ without_style (NodeKind.Text contents.now)) }
-    ensures err { OnlyOutOfMemory result }
+fn text_node(alloc: Global, contents: &str) -> Result<RenderNode, AllocError>
+    ensures { IfOk result (λ node. node ≡ without_style (NodeKind.Text contents.now)) }
 {
     let text = NodeText::from_str(alloc, contents)?;
     Ok(RenderNode::from(NodeKind::Text(text)))
@@ -386,7 +385,7 @@ fn is_plain(
 ///
 /// # Errors
 ///
-/// `OutOfMemory` if an allocation for a target, a source or a title is refused.
+/// `AllocError` if an allocation for a target, a source or a title is refused.
 #[inline(always)]
 pub fn plain_mapping(
     alloc: Global,
@@ -394,12 +393,11 @@ pub fn plain_mapping(
     index: &RuleIndex,
     dom: &RcDom,
     node: Handle,
-) -> Result<Option<Mapping>, Error>
+) -> Result<Option<Mapping>, AllocError>
     requires index { Finds index.now (map rule_of rules.now) }
     requires forest { IsForest dom.now }
     requires node { IsNode dom.now node }
-    ensures ok { IfOk result (λ found. IfSome found (λ mapping. plan_at (map rule_of rules.now) dom.now node ≡ plain_plan mapping)) }
-    ensures err { OnlyOutOfMemory result }
+    ensures { IfOk result (λ found. IfSome found (λ mapping. plan_at (map rule_of rules.now) dom.now node ≡ plain_plan mapping)) }
 {
     match dom.data(node) {
         NodeData::Element { name, attrs, .. } => {

@@ -3,7 +3,7 @@
 ghost use Rattle.std.specs.Prelude.{◌≡◌, IfOk, IfErr, Some, option_map};
 ghost use Rattle.html_render_layout_nodes.specs.Tables.{unmeasured_table};
 ghost use Rattle.html_render_parts.specs.TableCells.{cell_grid_of};
-ghost use Rattle.html_render_parts.specs.Refusal.{Fails};
+ghost use Rattle.html_render_parts.specs.Refusal.{Builds};
 
 use html_render_dom_values::Error;
 use html_render_layout_nodes::tree::Grid;
@@ -17,9 +17,8 @@ use std::alloc::Global;
 /// `Fail` exactly if a cell ends after column or row `u128::MAX`, and `OutOfMemory` if an allocation is refused.
 #[inline(never)]
 pub fn grid_of(alloc: Global, spans: &TableSpans) -> Result<Grid, Error>
-    ensures ok { IfOk result (λ grid. option_map unmeasured_table (cell_grid_of spans.now) ≡ Some grid) }
-    ensures err { IfErr result (λ e. Fails e (option_map unmeasured_table (cell_grid_of spans.now))) }
+    ensures { Builds result (option_map unmeasured_table (cell_grid_of spans.now)) (λ grid. grid) }
 {
     let cells = spans.cells(alloc)?;
-    Grid::new(alloc, cells)
+    Ok(Grid::new(alloc, cells)?)
 }

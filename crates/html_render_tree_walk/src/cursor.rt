@@ -1,6 +1,6 @@
 //! A walk over a document: each node, and where the children of an element end, one after another.
 
-ghost use Rattle.std.specs.Prelude.{◌≡◌, ◌∷◌, [], All, IfNone, IfSome, MatchOption, OnErr, OnOk};
+ghost use Rattle.std.specs.Prelude.{◌≡◌, ◌∷◌, [], All, IfNone, IfSome, MatchOption, OnOk};
 ghost use Rattle.html_render_dom_nodes.specs.Content.{content_of};
 ghost use Rattle.html_render_dom.specs.Dom.{IsNode};
 ghost use Rattle.html_render_tree_walk.specs.Walk.{IsVisited, ahead, coming, coming_at, entered, is_named, picks};
@@ -157,8 +157,7 @@ impl Cursor {
     /// Enters an element: its children come next, of a table first those of `pick`.
     #[inline(always)]
     pub fn enter(&mut self, element: Handle, pick: Pick) -> Result<(), AllocError>
-        ensures ok { OnOk result (self.new ≡ entered element pick ∷ self.old) }
-        ensures err { OnErr result (self.new ≡ self.old) }
+        ensures { OnOk result (self.new ≡ entered element pick ∷ self.old) }
     {
         self.open.reserve(1)?;
         self.open.push_reserved(Position {

@@ -2,7 +2,7 @@
 //!
 //! - Deep documents need no deep stack.
 //! - Cuts of many columns take little work.
-//! - After each of 20,000 moves of nodes, the lists of children equal those of plain vectors.
+//! - After each of 20,000 moves of nodes, the lists of children equal those of a plain vector.
 //!
 //! Facts that a text shows are cases of `test_cases`.
 //!
@@ -15,5 +15,3 @@ mod cuts;
 mod deep;
 #[cfg(test)]
 mod moves;
-#[cfg(test)]
-mod plain;

@@ -1,33 +1,28 @@
 //! Annotations as cases print them.
 
 use html_render_parts::decorate::RichAnnotation;
-use std::alloc::AllocError;
+use std::alloc::{AllocError, Global};
 
 /// An annotation that a case can print.
 pub trait Shown: Drop {
-    /// Appends the name of the annotation, with its value in parentheses.
-    fn push_to(&self, shown: &mut String) -> Result<(), AllocError>;
+    /// Returns the name of the annotation, with its value in parentheses.
+    fn shown(&self, alloc: Global) -> Result<String, AllocError>;
 }
 
 impl Shown for () {
-    fn push_to(&self, shown: &mut String) -> Result<(), AllocError> {
-        shown.push_str("()")
+    fn shown(&self, alloc: Global) -> Result<String, AllocError> {
+        String::from_str(alloc, "()")
     }
 }
 
 impl Shown for RichAnnotation {
-    fn push_to(&self, shown: &mut String) -> Result<(), AllocError> {
+    fn shown(&self, alloc: Global) -> Result<String, AllocError> {
         match self {
-            RichAnnotation::Default => shown.push_str("Default"),
-            RichAnnotation::Link(target) => write!(shown, "Link({})", target.as_str()),
-            RichAnnotation::Image(source) => write!(shown, "Image({})", source.as_str()),
-            RichAnnotation::Emphasis => shown.push_str("Emphasis"),
-            RichAnnotation::Strong => shown.push_str("Strong"),
-            RichAnnotation::Strikeout => shown.push_str("Strikeout"),
-            RichAnnotation::Code => shown.push_str("Code"),
-            RichAnnotation::Preformat(continues) => write!(shown, "Preformat({continues})"),
-            RichAnnotation::Colour(colour) => write!(shown, "Colour({colour})"),
-            RichAnnotation::BgColour(colour) => write!(shown, "BgColour({colour})"),
+            RichAnnotation::Link(target) => format!(in alloc; "Link({})", target.as_str()),
+            RichAnnotation::Image(source) => format!(in alloc; "Image({})", source.as_str()),
+            RichAnnotation::Colour(colour) => format!(in alloc; "Colour({colour})"),
+            RichAnnotation::BgColour(colour) => format!(in alloc; "BgColour({colour})"),
+            other => format!(in alloc; "{other:?}"),
         }
     }
 }

@@ -1,7 +1,7 @@
 //! Questions about column cuts: minimums, shares and a width in, a cut out.
 
 use crate::faults::Fault;
-use crate::texts::{number, numbers, printed, truth_of};
+use crate::texts::numbers;
 use crate::watch::Watch;
 use html_render_parts_widths::{
     ColumnCut, Meter, check_cut, column_widths, column_widths_metered, cut_fits,
@@ -9,72 +9,52 @@ use html_render_parts_widths::{
 use std::alloc::Global;
 use std::str::Split;
 
-/// Returns the next field; a fault if there is none.
-fn next<'a>(fields: &mut Split<'a, char>) -> Result<&'a str, Fault> {
+/// Returns the next field; an empty one if there is none.
+fn next<'a>(fields: &mut Split<'a, char>) -> &'a str {
     match fields.next() {
-        Some(field) => Ok(field.trim()),
-        None => Err(Fault::Malformed("a field is missing")),
+        Some(field) => field.trim(),
+        None => "",
     }
 }
 
-/// Returns the result of a question about columns, one line: their minimums, their shares and a width, separated by `/`; for
-/// `check_cut` also a cut.
+/// Returns the result of a question about columns: their minimums, their shares and a width, separated by `/`; for `check_cut` also
+/// a cut.
+///
+/// `column_widths` and `column_widths_metered` must return one cut, which `check_cut` accepts. The number of sums of the search
+/// follows the cut if the metered call is asked.
 pub fn answer(alloc: Global, asked: &str, given: &str, watch: Watch) -> Result<String, Fault> {
     let mut fields = given.split('/');
-    let minimums = numbers(alloc, next(&mut fields)?)?;
-    let shares = numbers(alloc, next(&mut fields)?)?;
-    let width = number(next(&mut fields)?)?;
-    if asked == "cut_fits" {
-        let fits = watch
-            .begin(asked)
-            .end(Ok(cut_fits(&minimums, &shares, width)))?;
-        return printed(alloc, truth_of(fits));
+    let minimums = numbers(alloc, next(&mut fields))?;
+    let shares = numbers(alloc, next(&mut fields))?;
+    let width = next(&mut fields).parse::<usize>()?;
+    let given_cut = ColumnCut {
+        widths: numbers(alloc, next(&mut fields))?,
+        level: next(&mut fields).parse().unwrap_or(0),
+        lowered: next(&mut fields).parse().unwrap_or(0),
+    };
+    let fits = cut_fits(&minimums, &shares, width);
+    match asked {
+        "cut_fits" => watch.begin(asked).shown(alloc, Ok(fits)),
+        "check_cut" => watch.begin(asked).shown(
+            alloc,
+            Ok(check_cut(&minimums, &shares, width, &given_cut)),
+        ),
+        _ if !fits => Err(Fault::Malformed("the columns don't fit")),
+        _ => {
+            let mut meter = Meter::default();
+            let metered = watch.begin_asked(asked, "column_widths_metered").end(
+                column_widths_metered(alloc, &minimums, &shares, width, &mut meter),
+            )?;
+            let cut = watch
+                .begin_asked(asked, "column_widths")
+                .end(column_widths(alloc, &minimums, &shares, width))?;
+            if cut != metered || !check_cut(&minimums, &shares, width, &cut) {
+                return Err(Fault::Malformed("two calls answer two cuts, or a wrong one"));
+            }
+            match asked {
+                "column_widths" => Ok(format!(in alloc; "|{cut:?}\n")?),
+                _ => Ok(format!(in alloc; "|{cut:?}, probes {}\n", meter.probes)?),
+            }
+        }
     }
-    if asked == "check_cut" {
-        let cut = ColumnCut {
-            widths: numbers(alloc, next(&mut fields)?)?,
-            level: number(next(&mut fields)?)?,
-            lowered: number(next(&mut fields)?)?,
-        };
-        let checked = watch.begin(asked);
-        let is_it = checked.end(Ok(check_cut(&minimums, &shares, width, &cut)))?;
-        return printed(alloc, truth_of(is_it));
-    }
-    widths(alloc, &minimums, &shares, width, asked, watch)
-}
-
-/// Returns the line of the cut of columns, with the number of sums of the search if the metered call is asked.
-///
-/// Both calls must return one cut, and `check_cut` must accept it.
-fn widths(
-    alloc: Global,
-    minimums: &[usize],
-    shares: &[usize],
-    width: usize,
-    asked: &str,
-    watch: Watch,
-) -> Result<String, Fault> {
-    if !cut_fits(minimums, shares, width) {
-        return Err(Fault::Malformed("the columns don't fit"));
-    }
-    let is_metered = asked == "column_widths_metered";
-    let mut meter = Meter::default();
-    let metered = watch.only_if(is_metered).begin(asked);
-    let cut = metered.end(column_widths_metered(alloc, minimums, shares, width, &mut meter))?;
-    let plain = watch.only_if(!is_metered).begin(asked);
-    let same = plain.end(column_widths(alloc, minimums, shares, width))?;
-    if same != cut || !check_cut(minimums, shares, width, &cut) {
-        return Err(Fault::Malformed("two calls answer two cuts, or a wrong one"));
-    }
-    let mut shown = String::from_str(alloc, "|widths")?;
-    for column in &cut.widths {
-        write!(shown, " {column}")?;
-    }
-    let (level, lowered, probes) = (cut.level, cut.lowered, meter.probes);
-    write!(shown, ", level {level}, lowered {lowered}")?;
-    if is_metered {
-        write!(shown, ", probes {probes}")?;
-    }
-    shown.push('\n')?;
-    Ok(shown)
 }

@@ -1,29 +1,14 @@
-//! Calls of the decorators of plain and rich text: a name and arguments in, an annotation and texts out.
+//! Calls of the decorators of plain and rich text: a name and arguments in, an annotation and a text out.
 
 use crate::annotations::Shown;
 use crate::faults::Fault;
 use crate::rules::colour;
-use crate::texts::{push_escaped, split_word};
+use crate::texts::split_word;
 use crate::watch::Watch;
 use html_render_dom_values::Error;
 use html_render_dom_values::text::Text;
 use html_render_parts::decorate::{PlainDecorator, RichDecorator, TextDecorator};
 use std::alloc::Global;
-
-/// What a call returns.
-#[derive(Drop)]
-enum Reply<A: Drop> {
-    /// A text and an annotation, at the start of a part of a document.
-    Start((String, A)),
-    /// A text.
-    Text(String),
-    /// An annotation.
-    Annotation(A),
-    /// The annotation of a colour, or none.
-    Colour(Option<A>),
-    /// Lines.
-    Lines(Vec<String>),
-}
 
 /// Returns the line of the result of a decorator's call: `plain` or `rich`, the call's name, and its arguments.
 pub fn answer(alloc: Global, given: &str, watch: Watch) -> Result<String, Fault> {
@@ -34,36 +19,25 @@ pub fn answer(alloc: Global, given: &str, watch: Watch) -> Result<String, Fault>
     }
 }
 
-/// Returns a `Text` for each word: the targets of links. Each is made of the string of another one.
-fn targets(alloc: Global, words: &str, watch: Watch) -> Result<Vec<Text>, Fault> {
-    let mut targets = Vec::new(alloc);
-    for word in words.split_whitespace() {
-        let string = String::from_str(alloc, word)?;
-        let text = watch.begin("Text::from").end(Ok(Text::from(string)))?;
-        let string = watch
-            .begin("Text::into_string")
-            .end(Ok(text.into_string()))?;
-        targets.push(Text::from(string))?;
-    }
-    Ok(targets)
+/// Result of a call: a text, and the annotation of its characters and those after it, if there is one.
+type Reply<A> = Result<(String, Option<A>), Error>;
+
+/// Returns the result of a call that has a text and an annotation.
+fn start<A: Drop>(came: Result<(String, A), Error>) -> Reply<A> {
+    came.map(|(text, annotation)| (text, Some(annotation)))
 }
 
-/// Returns a text as what a call returns.
-fn text<A: Drop>(came: Result<String, Error>) -> Result<Reply<A>, Error> {
-    Ok(Reply::Text(came?))
+/// Returns the result of a call that has a text alone.
+fn text<A: Drop>(came: Result<String, Error>) -> Reply<A> {
+    came.map(|text| (text, None))
 }
 
-/// Returns a text and an annotation as what a call returns.
-fn start<A: Drop>(came: Result<(String, A), Error>) -> Result<Reply<A>, Error> {
-    Ok(Reply::Start(came?))
+/// Returns the result of a call that has an annotation or none.
+fn mark<A: Drop>(alloc: Global, came: Result<Option<A>, Error>) -> Reply<A> {
+    came.map(|annotation| (String::new(alloc), annotation))
 }
 
-/// Returns an annotation as what a call returns.
-fn mark<A: Drop>(came: Result<A, Error>) -> Result<Reply<A>, Error> {
-    Ok(Reply::Annotation(came?))
-}
-
-/// Returns the line of the result of a decorator's call.
+/// Returns the line of the result of a decorator's call: the annotation in braces, and the text; of `finalise`, all lines.
 fn called<D: TextDecorator>(
     alloc: Global,
     decorator: &D,
@@ -75,11 +49,18 @@ where
 {
     let (name, given) = split_word(call);
     let (source, title) = split_word(given);
-    let level = given.parse().unwrap_or(0);
-    let number = given.parse().unwrap_or(0);
-    let links = targets(alloc, if name == "finalise" { given } else { "" }, watch)?;
+    let (level, number) = (given.parse().unwrap_or(0), given.parse().unwrap_or(0));
+    let colour = colour(if name.starts_with("push_") {
+        given
+    } else {
+        "0"
+    })?;
+    let links: Vec<Text> = given
+        .split_whitespace()
+        .map(|word| Text::from_str(alloc, word))
+        .try_collect(alloc)?;
     watch.begin(name);
-    let came = match name {
+    let (text, annotation) = watch.end(match name {
         "decorate_link_start" => start(decorator.decorate_link_start(alloc, given)),
         "decorate_em_start" => start(decorator.decorate_em_start(alloc)),
         "decorate_strong_start" => start(decorator.decorate_strong_start(alloc)),
@@ -97,46 +78,20 @@ where
         "quote_prefix" => text(decorator.quote_prefix(alloc)),
         "unordered_item_prefix" => text(decorator.unordered_item_prefix(alloc)),
         "ordered_item_prefix" => text(decorator.ordered_item_prefix(alloc, number)),
-        "decorate_preformat_first" => mark(decorator.decorate_preformat_first(alloc)),
-        "decorate_preformat_cont" => mark(decorator.decorate_preformat_cont(alloc)),
-        "push_colour" => decorator
-            .push_colour(alloc, colour(given)?)
-            .map(Reply::Colour),
-        "push_bgcolour" => decorator
-            .push_bgcolour(alloc, colour(given)?)
-            .map(Reply::Colour),
-        "finalise" => match decorator.finalise(alloc, &links) {
-            Ok(lines) => Ok(Reply::Lines(lines)),
-            Err(error) => Err(error),
-        },
+        "decorate_preformat_first" => {
+            mark(alloc, decorator.decorate_preformat_first(alloc).map(Some))
+        }
+        "decorate_preformat_cont" => {
+            mark(alloc, decorator.decorate_preformat_cont(alloc).map(Some))
+        }
+        "push_colour" => mark(alloc, decorator.push_colour(alloc, colour)),
+        "push_bgcolour" => mark(alloc, decorator.push_bgcolour(alloc, colour)),
+        "finalise" => return watch.shown(alloc, decorator.finalise(alloc, &links)),
         _ => return Err(Fault::Malformed("no call of a decorator has this name")),
+    })?;
+    let mark = match annotation {
+        Some(annotation) => format!(in alloc; "{{{}}}", annotation.shown(alloc)?)?,
+        None => String::new(alloc),
     };
-    shown(alloc, watch.end(came)?)
-}
-
-/// Returns the line of a result: an annotation, in braces before a text; a text with escapes; each of several lines in brackets.
-fn shown<A: Shown>(alloc: Global, answer: Reply<A>) -> Result<String, Fault> {
-    let mut shown = String::from_str(alloc, "|")?;
-    match answer {
-        Reply::Start((text, annotation)) => {
-            shown.push('{')?;
-            annotation.push_to(&mut shown)?;
-            shown.push('}')?;
-            push_escaped(&mut shown, &text)?;
-        }
-        Reply::Text(text) => push_escaped(&mut shown, &text)?,
-        Reply::Annotation(annotation) | Reply::Colour(Some(annotation)) => {
-            annotation.push_to(&mut shown)?
-        }
-        Reply::Colour(None) => shown.push_str("None")?,
-        Reply::Lines(lines) => {
-            for line in &lines {
-                shown.push('[')?;
-                push_escaped(&mut shown, line)?;
-                shown.push(']')?;
-            }
-        }
-    }
-    shown.push('\n')?;
-    Ok(shown)
+    Ok(format!(in alloc; "|{mark}{text}\n")?)
 }

@@ -1,77 +1,64 @@
-//! Elements as cases write them: `p`, `svg:title`, `{mathml}mi`; attributes follow the name, as in `a@href=u@id=f`.
+//! Elements as cases write them: `p`, `{svg}title`; attributes follow the name, as in `a@href=u@id=f`.
 
-use crate::faults::Fault;
-use crate::texts::{push_escaped, unescaped};
+use crate::texts::{escaped, unescaped};
 use html_render_dom::dom::{Attribute, AttributeValue, LocalName, Namespace, NodeData, QualName};
 use std::alloc::{AllocError, Global};
 
 /// Returns the name of an element: a local name of HTML, or one after its namespace in braces.
-pub fn element_name(alloc: Global, text: &str) -> Result<QualName, Fault> {
-    let (word, local) = match text.strip_prefix('{') {
-        Some(rest) => rest.split_once('}').unwrap_or(("", rest)),
-        None => ("html", text),
-    };
-    let ns = match word {
+pub fn element_name(alloc: Global, text: &str) -> Result<QualName, AllocError> {
+    let (space, local) = text.split_once('}').unwrap_or(("{html", text));
+    let ns = match space.trim_start_matches('{') {
         "html" => Namespace::Html,
         "svg" => Namespace::Svg,
         "mathml" => Namespace::MathMl,
         "none" => Namespace::None,
-        _ => Namespace::Other(Box::new(alloc, String::from_str(alloc, word)?)?),
+        other => Namespace::Other(Box::new(alloc, String::from_str(alloc, other)?)?),
     };
     let local = LocalName::from_str(alloc, local)?;
     Ok(QualName { ns, local })
 }
 
 /// Returns the attributes of a text, each after `@`. They have no namespace.
-pub fn attributes(alloc: Global, text: &str) -> Result<Vec<Attribute>, Fault> {
+pub fn attributes(alloc: Global, text: &str) -> Result<Vec<Attribute>, AllocError> {
     let mut attributes = Vec::new(alloc);
-    for field in text.split('@') {
-        if let Some((name, value)) = field.split_once('=') {
-            let ns = Namespace::None;
-            let local = LocalName::from_str(alloc, name)?;
-            attributes.push(Attribute {
-                name: QualName { ns, local },
-                value: AttributeValue::from(unescaped(alloc, value)?),
-            })?;
-        }
+    for (name, value) in text.split('@').filter_map(|field| field.split_once('=')) {
+        let ns = Namespace::None;
+        let local = LocalName::from_str(alloc, name)?;
+        attributes.push(Attribute {
+            name: QualName { ns, local },
+            value: AttributeValue::from(unescaped(alloc, value)?),
+        })?;
     }
     Ok(attributes)
 }
 
-/// Appends attributes, each after `@`.
-pub fn push_attributes(shown: &mut String, attributes: &[Attribute]) -> Result<(), AllocError> {
+/// Returns attributes as a text, each after `@`.
+pub fn shown_attributes(alloc: Global, attributes: &[Attribute]) -> Result<String, AllocError> {
+    let mut shown = String::new(alloc);
     for attribute in attributes {
-        write!(shown, "@{}=", attribute.name.local.as_str())?;
-        push_escaped(shown, attribute.value.as_str())?;
+        let value = escaped(alloc, attribute.value.as_str())?;
+        write!(shown, "@{}={value}", attribute.name.local.as_str())?;
     }
-    Ok(())
+    Ok(shown)
 }
 
-/// Appends the data of a node: a sign, as lines of a script have it, and its name or its text.
-pub fn push_data(shown: &mut String, data: &NodeData) -> Result<(), AllocError> {
+/// Returns the data of a node as a text: a sign, as lines of a script have it, and its name or its text.
+pub fn shown_data(alloc: Global, data: &NodeData) -> Result<String, AllocError> {
     match data {
-        NodeData::Document => shown.push_str("document"),
-        NodeData::Doctype { parts } => write!(shown, "<!{}", parts.name),
+        NodeData::Document => String::from_str(alloc, "document"),
+        NodeData::Doctype { parts } => format!(in alloc; "<!{}", parts.name),
         NodeData::Text { contents } => {
-            shown.push('"')?;
-            push_escaped(shown, contents.as_str())
+            format!(in alloc; "\"{}", escaped(alloc, contents.as_str())?)
         }
-        NodeData::Comment { contents } => {
-            shown.push('!')?;
-            push_escaped(shown, contents)
-        }
-        NodeData::ProcessingInstruction { target, .. } => write!(shown, "?{target}"),
+        NodeData::Comment { contents } => format!(in alloc; "!{contents}"),
+        NodeData::ProcessingInstruction { target, .. } => format!(in alloc; "?{target}"),
         NodeData::Element { name, attrs, .. } => {
-            shown.push('<')?;
-            match &name.ns {
-                Namespace::Html => {}
-                Namespace::Svg => shown.push_str("{svg}")?,
-                Namespace::MathMl => shown.push_str("{mathml}")?,
-                Namespace::None => shown.push_str("{none}")?,
-                Namespace::Other(other) => write!(shown, "{{{other}}}")?,
-            }
-            shown.push_str(name.local.as_str())?;
-            push_attributes(shown, attrs.as_slice())
+            let space = match &name.ns {
+                Namespace::Html => String::new(alloc),
+                other => format!(in alloc; "{{{other:?}}}")?,
+            };
+            let attributes = shown_attributes(alloc, attrs.as_slice())?;
+            format!(in alloc; "<{space}{}{attributes}", name.local.as_str())
         }
     }
 }

@@ -3,26 +3,14 @@
 use crate::elements::attributes;
 use crate::faults::Fault;
 use crate::rules::rule;
-use crate::texts::push_escaped;
+use crate::texts::printed;
 use crate::watch::Watch;
-use html_render_dom::style::{
-    ComputedStyle, Display, RuleIndex, StyleOrigin, StyleRule, computed_style,
-};
+use html_render_dom::style::{ComputedStyle, RuleIndex, StyleOrigin, StyleRule, computed_style};
 use std::alloc::{AllocError, Global};
+use std::fmt::Display;
 
-/// Returns the rules that the calls `add_style_rule` of a configuration add.
-fn rules_of(alloc: Global, calls: &[&str]) -> Result<Vec<StyleRule>, Fault> {
-    let mut rules = Vec::new(alloc);
-    for call in calls {
-        if let Some(text) = call.strip_prefix("add_style_rule ") {
-            rules.push(rule(alloc, text)?)?;
-        }
-    }
-    Ok(rules)
-}
-
-/// Returns a line for each property with a value, of the style of an element, such as `p@class=a`, by the rules of a
-/// configuration.
+/// Returns the lines of the style of an element, such as `p@class=a`, by the rules of a configuration's calls: one for each property
+/// with a value.
 ///
 /// The style by all rules and that by an index of them must be the same, and the index must know of each style that isn't
 /// empty. Of these calls, the one with the name `asked` is watched.
@@ -33,61 +21,67 @@ pub fn answer(
     element: &str,
     watch: Watch,
 ) -> Result<String, Fault> {
-    let rules = rules_of(alloc, calls)?;
+    let mut rules = Vec::new(alloc);
+    for call in calls {
+        if let Some(text) = call.strip_prefix("add_style_rule ") {
+            rules.push(rule(alloc, text)?)?;
+        }
+    }
     let attributes = attributes(alloc, element)?;
     let (name, _) = element.split_once('@').unwrap_or((element, ""));
-    let of_watch = watch.only_if(asked == "RuleIndex::of").begin(asked);
-    let came = RuleIndex::of(alloc, &rules);
-    of_watch.end(match &came {
-        Ok(_) => Ok(()),
-        Err(error) => Err(*error),
-    })?;
-    let index = came?;
-    let index_watch = watch
-        .only_if(asked == "RuleIndex::computed_style")
-        .begin(asked);
-    let style = index_watch.end(index.computed_style(alloc, &rules, name, &attributes))?;
-    let mut by_index = String::new(alloc);
-    push_style(&mut by_index, &style)?;
-    let rules_watch = watch.only_if(asked == "computed_style").begin(asked);
-    let style = rules_watch.end(computed_style(alloc, &rules, name, &attributes))?;
-    let mut shown = String::new(alloc);
-    push_style(&mut shown, &style)?;
+    let index = watch
+        .begin_asked(asked, "RuleIndex::of")
+        .end(RuleIndex::of(alloc, &rules))?;
+    let style = watch
+        .begin_asked(asked, "RuleIndex::computed_style")
+        .end(index.computed_style(alloc, &rules, name, &attributes))?;
+    let by_index = shown(alloc, &style)?;
+    let style = watch
+        .begin_asked(asked, "computed_style")
+        .end(computed_style(alloc, &rules, name, &attributes))?;
+    let shown = shown(alloc, &style)?;
     if shown != by_index || !shown.is_empty() && !index.may_select(name, &attributes) {
         return Err(Fault::Malformed("an index of the rules says something else"));
     }
-    Ok(shown)
+    printed(alloc, &shown)
 }
 
-/// Returns the line of the specificity of a rule, or of one for an element name: its counts of ids, of classes, and of element
-/// names and pseudo-elements.
+/// Returns the specificity of a rule, or of one for an element name.
 pub fn specificity(alloc: Global, asked: &str, given: &str, watch: Watch) -> Result<String, Fault> {
-    let mut rule = rule(alloc, if asked == "for_element" { "" } else { given })?;
-    if asked == "for_element" {
-        let name = String::from_str(alloc, given)?;
-        let for_watch = watch.begin(asked);
-        let none = Vec::new(alloc);
-        let made = StyleRule::for_element(alloc, StyleOrigin::Author, name, None, none);
-        rule = for_watch.end(Ok(made))?;
-    }
-    let specificity = watch.begin("specificity").end(Ok(rule.specificity()))?;
-    let (id, class, typ) = (specificity.id, specificity.class, specificity.typ);
-    Ok(format!(in alloc; "|id {id}, class {class}, typ {typ}\n")?)
+    let rule = match asked {
+        "for_element" => {
+            let (name, none) = (String::from_str(alloc, given)?, Vec::new(alloc));
+            watch.begin(asked);
+            let made = StyleRule::for_element(alloc, StyleOrigin::Author, name, None, none);
+            watch.done(made)?
+        }
+        _ => rule(alloc, given)?,
+    };
+    watch
+        .begin("specificity")
+        .shown(alloc, Ok(rule.specificity()))
 }
 
-/// Appends a line for each property with a value.
-fn push_style(shown: &mut String, style: &ComputedStyle) -> Result<(), AllocError> {
-    if let Some(colour) = style.colour.val() {
-        write!(shown, "|colour {colour}\n")?;
+/// Appends the line of a property, if it has a value.
+fn push<T: Display + Drop>(
+    shown: &mut String,
+    name: &str,
+    value: Option<T>,
+) -> Result<(), AllocError> {
+    match value {
+        Some(value) => write!(shown, "{name} {value}\n"),
+        None => Ok(()),
     }
-    if let Some(colour) = style.bg_colour.val() {
-        write!(shown, "|bg_colour {colour}\n")?;
-    }
-    if let Some(Display::None) = style.display.val() {
-        shown.push_str("|display None\n")?;
-    }
+}
+
+/// Returns a line for each property with a value.
+fn shown(alloc: Global, style: &ComputedStyle) -> Result<String, AllocError> {
+    let mut shown = String::new(alloc);
+    push(&mut shown, "colour", style.colour.val())?;
+    push(&mut shown, "bg_colour", style.bg_colour.val())?;
+    push(&mut shown, "display", style.display.val().map(|_| "None"))?;
     if let Some(white_space) = style.white_space.val() {
-        write!(shown, "|white_space {white_space:?}\n")?;
+        write!(shown, "white_space {white_space:?}\n")?;
     }
     let contents = [
         ("content", &style.content),
@@ -95,14 +89,10 @@ fn push_style(shown: &mut String, style: &ComputedStyle) -> Result<(), AllocErro
         ("content_after", &style.content_after),
     ];
     for (name, content) in contents {
-        if let Some(text) = content.val() {
-            write!(shown, "|{name} ")?;
-            push_escaped(shown, text.as_str())?;
-            shown.push('\n')?;
-        }
+        push(&mut shown, name, content.val().map(|text| text.as_str()))?;
     }
     if style.internal_pre {
-        shown.push_str("|internal_pre\n")?;
+        shown.push_str("internal_pre\n")?;
     }
-    Ok(())
+    Ok(shown)
 }

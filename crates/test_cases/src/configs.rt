@@ -6,29 +6,8 @@ use html_render_tree::text::Text;
 use std::alloc::Global;
 use test_case_calls::faults::Fault;
 use test_case_calls::rules::rule;
-use test_case_calls::texts::{number, split_word, truth, unescaped};
+use test_case_calls::texts::{split_word, unescaped};
 use test_case_calls::watch::Watch;
-
-/// Reports whether a word is the name of a call that changes a configuration.
-pub fn is_setting(word: &str) -> bool {
-    matches!(
-        word,
-        "pad_block_width"
-            | "allow_width_overflow"
-            | "fence_tables"
-            | "whole_words"
-            | "no_table_borders"
-            | "no_link_wrapping"
-            | "do_decorate"
-            | "max_wrap_width"
-            | "min_wrap_width"
-            | "raw_mode"
-            | "unicode_strikeout"
-            | "link_footnotes"
-            | "empty_img_mode"
-            | "add_style_rule"
-    )
-}
 
 /// Parses a mode of images without a title, and returns a copy of it.
 fn image_mode(alloc: Global, given: &str, watch: Watch) -> Result<ImageRenderMode, Fault> {
@@ -58,22 +37,21 @@ pub fn with_setting<D: TextDecorator>(
         _ => ImageRenderMode::IgnoreEmpty,
     };
     watch.begin(name);
-    let came = match name {
+    watch.end(match name {
         "pad_block_width" => Ok(config.pad_block_width()),
         "allow_width_overflow" => Ok(config.allow_width_overflow()),
         "fence_tables" => Ok(config.fence_tables()),
         "whole_words" => Ok(config.whole_words()),
         "no_table_borders" => Ok(config.no_table_borders()),
         "no_link_wrapping" => Ok(config.no_link_wrapping()),
-        "max_wrap_width" => Ok(config.max_wrap_width(number(given)?)),
-        "min_wrap_width" => Ok(config.min_wrap_width(number(given)?)),
-        "raw_mode" => Ok(config.raw_mode(truth(given)?)),
-        "unicode_strikeout" => Ok(config.unicode_strikeout(truth(given)?)),
-        "link_footnotes" => Ok(config.link_footnotes(truth(given)?)),
+        "max_wrap_width" => Ok(config.max_wrap_width(given.parse()?)),
+        "min_wrap_width" => Ok(config.min_wrap_width(given.parse()?)),
+        "raw_mode" => Ok(config.raw_mode(given.parse()?)),
+        "unicode_strikeout" => Ok(config.unicode_strikeout(given.parse()?)),
+        "link_footnotes" => Ok(config.link_footnotes(given.parse()?)),
         "empty_img_mode" => Ok(config.empty_img_mode(mode)),
         "do_decorate" => config.do_decorate(alloc),
         "add_style_rule" => config.add_style_rule(alloc, added),
         _ => return Err(Fault::Malformed("no setting has this name")),
-    };
-    watch.end(came)
+    })
 }

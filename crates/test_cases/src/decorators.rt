@@ -10,7 +10,6 @@ use html_render_tree::decorate::{Altered, Changes, Place, PlainDecorator};
 use html_render_tree::text::Text;
 use std::alloc::Global;
 use test_case_calls::faults::Fault;
-use test_case_calls::texts::number;
 
 /// Change of plain text's decorator.
 #[derive(Clone, Copy)]
@@ -27,7 +26,7 @@ impl<'a> Own<'a> {
     /// Returns the decorator of plain text with the change of this name.
     pub fn decorator(name: &'a str) -> Result<Altered<PlainDecorator, Own<'a>>, Fault> {
         let changes = match name.split_once(':') {
-            Some(("grow", level)) => Own::Grow(number(level)?),
+            Some(("grow", level)) => Own::Grow(level.parse()?),
             Some(("refusing", call)) => Own::Refusing(call),
             _ if name == "odd" => Own::Odd,
             _ => return Err(Fault::Malformed("no decorator has this name")),

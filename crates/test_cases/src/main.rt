@@ -1,12 +1,12 @@
 //! Plays cases: documents that scripts build, calls of a configuration, and questions with the expected output.
 //!
-//! The program's words are files of cases. Without words it plays all files of the current directory. If the first word is
+//! The program's words are files of cases. Without files it plays all those of the current directory. If the first word is
 //! `watched`, it reports each call before and after it ([`Watch`]). A watched call is repeated as long as it is out of
 //! memory.
 //!
 //! A file of `data/` has the cases of one subject. A line `# TITLE` begins a case, with an empty script and the
-//! configuration `plain`. Each further line belongs to the script, is a call of the configuration, or is a question; the
-//! expected output follows a question. Empty lines are skipped.
+//! configuration `plain`. A line `? QUESTION` is a question, and its expected output follows it; a case without one fails.
+//! Each further line belongs to the script or is a call of the configuration. Empty lines are skipped.
 //!
 //! # Scripts and calls
 //!
@@ -14,8 +14,8 @@
 //! of them that precede a question. `repeat N LINE LINE ..` is these lines `N` times.
 //!
 //! The calls of a configuration are written by their names: `rich`, `max_wrap_width 10`,
-//! `add_style_rule Author p.note#id::before important Content text`, .. One that creates a configuration, such as `plain`,
-//! begins it anew. `repeat N CALL` makes a call `N` times. The declarations of a rule follow each other, `Content` last.
+//! `add_style_rule Author p.note#id::before important Colour #ff0000; Content text`, .. One that creates a configuration, such
+//! as `plain`, begins it anew. `repeat N CALL` makes a call `N` times. In the texts of calls, `\n` is a line feed.
 //!
 //! `with_decorator` has the name of a decorator: `plain`, `rich`, or one of this crate. `with_decorator refusing:CALL` is
 //! plain text, except that this call of the decorator returns `OutOfMemory`.
@@ -62,7 +62,6 @@
 mod cases;
 mod configs;
 mod decorators;
-mod display;
 mod documents;
 mod programs;
 mod rendering;
@@ -70,7 +69,7 @@ mod sweeps;
 
 use cases::Played;
 use std::process::ExitCode;
-use std::rt::{Env, Files};
+use std::rt::Files;
 use std::{env, fs, io};
 use test_case_calls::watch::Watch;
 
@@ -84,50 +83,40 @@ fn names_here<R: Files + AllocGlobal + Clone + Drop>(rt: &R) -> io::Result<Vec<S
     Ok(names)
 }
 
-/// Returns the program's words, without its name.
-fn words<R: Env + AllocGlobal + Clone + Drop>(rt: &R) -> io::Result<Vec<String>> {
-    let mut words = env::args(rt)?;
-    let _program = words.next();
-    Ok(words.collect(rt.alloc())?)
-}
-
-/// Plays the cases of files.
-fn played<R: Files + AllocGlobal>(rt: &R, names: &[String], watch: Watch) -> io::Result<Played> {
-    let mut played = Played::new(rt.alloc(), watch);
-    for name in names {
-        let text = fs::read_to_string(rt, name.as_str())?;
-        if played.play(rt.alloc(), &text).is_err() {
-            return Err(io::Error::from(io::ErrorKind::OutOfMemory));
-        }
-    }
-    Ok(played)
-}
-
-/// Plays the files that the words name, or all of the current directory without words. `watched` precedes names of files.
-fn asked(rt: &HostRuntime, words: &[String]) -> io::Result<Played> {
-    match words {
-        [] => played(rt, &names_here(rt)?, Watch::nobody()),
-        [first, names @ ..] if first.as_str() == "watched" => {
-            played(rt, names, Watch::lines(rt.stdout()))
-        }
-        names => played(rt, names, Watch::nobody()),
-    }
-}
-
 /// Plays cases, and writes the differences to standard error, or else the number of cases, unless calls are watched. The
 /// status is 0 if there are cases and no differences, and otherwise 1.
 fn main(rt: HostRuntime) -> io::Result<ExitCode> {
-    let played = asked(&rt, &words(&rt)?)?;
+    let mut words = env::args(&rt)?;
+    let _program = words.next();
+    let words: Vec<String> = words.collect(rt.alloc())?;
+    let (watch, names) = match words.as_slice() {
+        [first, names @ ..] if first.as_str() == "watched" => (Watch(Some(rt.stdout())), names),
+        names => (Watch(None), names),
+    };
+    let all = if names.is_empty() {
+        names_here(&rt)?
+    } else {
+        Vec::new(rt.alloc())
+    };
+    let mut played = Played {
+        count: 0,
+        differences: String::new(rt.alloc()),
+        watch,
+    };
+    for name in names.iter().chain(all.iter()) {
+        let text = fs::read_to_string(&rt, name.as_str())?;
+        played.play(rt.alloc(), &text)?;
+    }
     if played.count == 0 {
         eprintln!(rt; "there are no cases")?;
         return Ok(ExitCode::FAILURE);
     }
-    if played.differences.is_empty() {
-        if !played.is_watched() {
-            eprintln!(rt; "cases played: {}", played.count)?;
-        }
-        return Ok(ExitCode::SUCCESS);
+    if !played.differences.is_empty() {
+        eprint!(rt; "{}", played.differences)?;
+        return Ok(ExitCode::FAILURE);
     }
-    eprint!(rt; "{}", played.differences)?;
-    Ok(ExitCode::FAILURE)
+    if watch.0.is_none() {
+        eprintln!(rt; "cases played: {}", played.count)?;
+    }
+    Ok(ExitCode::SUCCESS)
 }

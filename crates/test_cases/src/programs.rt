@@ -17,23 +17,16 @@ pub fn answer(alloc: Global, words: &str, script: &str) -> Result<String, Fault>
         }
     }
     let mut input = script.as_bytes();
-    let mut output = match BufWriter::new(alloc, Vec::new(alloc)) {
-        Ok(output) => output,
-        Err(_) => return Err(Fault::Refused(Error::OutOfMemory)),
-    };
+    let mut output = BufWriter::new(alloc, Vec::new(alloc)).map_err(|_| Fault::Refused(
+        Error::OutOfMemory,
+    ))?;
     let mut faults = Vec::new(alloc);
     let status = run(alloc, &arguments, &mut input, &mut output, &mut faults);
     let mut shown = String::new(alloc);
-    push_lines(
-        &mut shown,
-        '|',
-        str::from_utf8(output.get_ref()).unwrap_or("not UTF-8"),
-    )?;
-    push_lines(
-        &mut shown,
-        '~',
-        str::from_utf8(&faults).unwrap_or("not UTF-8"),
-    )?;
+    for (sign, bytes) in [('|', output.get_ref()), ('~', &faults)] {
+        let text = str::from_utf8(bytes.as_slice()).unwrap_or("not UTF-8");
+        push_lines(&mut shown, sign, text)?;
+    }
     if status != 0 {
         write!(shown, "status {status}\n")?;
     }

@@ -4,9 +4,8 @@ ghost use Rattle.html_render_dom_values.specs.Outcome.{OnlyOutOfMemory};
 
 use crate::configs::with_setting;
 use crate::decorators::Own;
-use crate::display::displayed;
-use crate::documents::built;
-use crate::sweeps::{Kept, sweep};
+use crate::documents::{built, displayed};
+use crate::sweeps::sweep;
 use html_render_tree::Error;
 use html_render_tree::block::{TaggedLine, TaggedLineElement};
 use html_render_tree::config::{Config, plain, plain_no_decorate, rich, with_decorator};
@@ -17,115 +16,123 @@ use html_render_tree::widths::Meter;
 use std::alloc::{AllocError, Global};
 use test_case_calls::annotations::Shown;
 use test_case_calls::faults::Fault;
-use test_case_calls::texts::{number, printed, split_word};
+use test_case_calls::texts::{printed, split_word};
 use test_case_calls::watch::Watch;
 
-/// Reports whether a word is the name of a question that needs a configuration.
-///
-/// `preset` and `settings` have no output. With them the calls that create and change the configuration are watched.
-pub fn is_rendering(word: &str) -> bool {
-    matches!(
-        word,
-        "preset"
-            | "settings"
-            | "dom_to_render_tree"
-            | "dom_into_render_tree"
-            | "render_to_string"
-            | "render_to_lines"
-            | "render_to_lines_metered"
-            | "render_coloured"
-            | "try_clone"
-            | "sweep"
-    )
-}
+/// Maximum number of nodes of a document that is checked at the end of a case.
+const LARGE: usize = 5000;
 
-/// A question: a call and its arguments.
+/// A question: a call and its arguments, in a case.
 #[derive(Clone, Copy)]
 pub struct Question<'a> {
-    /// Name of the call.
+    /// Name of the call. `plain` and `settings` have no output: with them the calls that create and change the configuration are
+    /// watched. `sweep_shown` is asked at the end of a case.
     pub asked: &'a str,
     /// Arguments of the call.
     pub given: &'a str,
     /// Input of the program, a script, or calls.
     pub input: &'a str,
+    /// Lines of the case's script.
+    pub script: &'a str,
+    /// Calls of the configuration.
+    pub calls: &'a [&'a str],
     /// Reports the call, if it is watched.
     pub watch: Watch,
 }
 
-/// Returns the result of a question under the configuration that these calls make. The first one creates it.
-pub fn answer(
-    alloc: Global,
-    calls: &[&str],
-    dom: &RcDom,
-    question: Question<'_>,
-) -> Result<String, Fault> {
-    let Some((first, settings)) = calls.split_first() else {
+/// Returns the result of a question under the configuration that the case's calls make. The first one creates it.
+pub fn answer(alloc: Global, dom: &RcDom, question: Question<'_>) -> Result<String, Fault> {
+    let Some((first, settings)) = question.calls.split_first() else {
         return Err(Fault::Malformed("no call makes a configuration"));
     };
-    let watch = question.watch.only_if(question.asked == "preset");
+    let watch = question.watch;
+    let question = Question {
+        calls: settings,
+        ..question
+    };
     match split_word(first) {
         ("plain", _) => {
-            let config = watch.begin("plain").end(plain(alloc))?;
-            answer_under(alloc, config, settings, dom, question)
+            let config = watch
+                .begin_asked(question.asked, "plain")
+                .end(plain(alloc))?;
+            under(alloc, config, dom, question)
         }
-        ("plain_no_decorate", _) => {
-            answer_under(alloc, plain_no_decorate(alloc), settings, dom, question)
-        }
-        ("rich", _) => answer_under(alloc, rich(alloc), settings, dom, question),
-        (_, "plain") => {
-            let config = with_decorator(alloc, PlainDecorator::new());
-            answer_under(alloc, config, settings, dom, question)
-        }
-        (_, "rich") => {
-            let config = with_decorator(alloc, RichDecorator::new());
-            answer_under(alloc, config, settings, dom, question)
-        }
-        (_, name) => {
-            let config = with_decorator(alloc, Own::decorator(name)?);
-            answer_under(alloc, config, settings, dom, question)
-        }
+        ("plain_no_decorate", _) => under(alloc, plain_no_decorate(alloc), dom, question),
+        ("rich", _) => under(alloc, rich(alloc), dom, question),
+        (_, "plain") => under(
+            alloc,
+            with_decorator(alloc, PlainDecorator::new()),
+            dom,
+            question,
+        ),
+        (_, "rich") => under(
+            alloc,
+            with_decorator(alloc, RichDecorator::new()),
+            dom,
+            question,
+        ),
+        (_, name) => under(
+            alloc,
+            with_decorator(alloc, Own::decorator(name)?),
+            dom,
+            question,
+        ),
     }
 }
 
-/// Returns the result of a question under a configuration after these settings. For the question `settings` the last one is
+/// Returns the result of a question under a configuration after the question's calls. For the question `settings` the last one is
 /// watched.
-fn answer_under<D: TextDecorator>(
+fn under<D: TextDecorator>(
     alloc: Global,
     config: Config<D>,
-    settings: &[&str],
     dom: &RcDom,
     question: Question<'_>,
 ) -> Result<String, Fault>
 where
     D::Annotation: Shown,
 {
-    let watch = question.watch;
+    let (asked, watch) = (question.asked, question.watch);
     let mut config = config;
-    if let Some((last, others)) = settings.split_last() {
+    if let Some((last, others)) = question.calls.split_last() {
         for line in others {
-            config = with_setting(alloc, config, line, Watch::nobody())?;
+            config = with_setting(alloc, config, line, Watch(None))?;
         }
-        let watch = watch.only_if(question.asked == "settings");
+        let watch = if asked == "settings" {
+            watch
+        } else {
+            Watch(None)
+        };
         config = with_setting(alloc, config, last, watch)?;
     }
-    match question.asked {
-        "preset" | "settings" => Ok(String::new(alloc)),
-        "sweep" => sweep(alloc, config, dom, Kept::Texts),
-        "sweep_shown" => sweep(alloc, config, dom, Kept::Shown),
+    match asked {
+        "plain" | "settings" => Ok(String::new(alloc)),
+        "sweep" => sweep(alloc, config, dom, Some(question.script)),
+        "sweep_shown" if dom.node_count() > LARGE => Ok(String::new(alloc)),
+        "sweep_shown" => match sweep(alloc, config, dom, None) {
+            Err(Fault::Refused(Error::Fail)) => Ok(String::new(alloc)),
+            came => came,
+        },
         "dom_to_render_tree" => {
             let tree = watch
-                .begin(question.asked)
+                .begin(asked)
                 .end(config.dom_to_render_tree(alloc, dom))?;
             displayed(alloc, &tree, watch)
         }
         "dom_into_render_tree" => {
-            let dom = built(alloc, question.input, Watch::nobody())?;
+            let dom = built(alloc, question.input, Watch(None))?;
             let tree = watch
-                .begin(question.asked)
+                .begin(asked)
                 .end(config.dom_into_render_tree(alloc, dom))?;
             displayed(alloc, &tree, watch)
         }
-        "try_clone" => copy(alloc, config.dom_to_render_tree(alloc, dom)?, watch),
+        "try_clone" => {
+            let tree = config.dom_to_render_tree(alloc, dom)?;
+            let copy = watch
+                .begin("RenderTree::try_clone")
+                .end(tree.try_clone(alloc))?;
+            watch.begin("drop").done(drop(tree))?;
+            displayed(alloc, &copy, watch)
+        }
         _ => {
             let tree = config.dom_to_render_tree(alloc, dom)?;
             rendered(alloc, &config, tree, question)
@@ -133,27 +140,7 @@ where
     }
 }
 
-/// Returns the display of a copy of a render tree, after the tree itself is dropped.
-fn copy(alloc: Global, tree: RenderTree, watch: Watch) -> Result<String, Fault> {
-    let copy = watch
-        .begin("RenderTree::try_clone")
-        .end(tree.try_clone(alloc))?;
-    watch.begin("drop").end(Ok(drop(tree)))?;
-    displayed(alloc, &copy, watch)
-}
-
-/// Returns the name of a call, or another one at width 0, where the call makes no allocation.
-fn name_at(asked: &str, width: usize) -> &str {
-    match asked {
-        "render_to_string" if width == 0 => "render_to_string 0",
-        "render_to_lines" if width == 0 => "render_to_lines 0",
-        "render_to_lines_metered" if width == 0 => "render_to_lines_metered 0",
-        "render_coloured" if width == 0 => "render_coloured 0",
-        _ => asked,
-    }
-}
-
-/// Returns the result of rendering a tree.
+/// Returns the result of rendering a tree. At width 0, where a call makes no allocation, it is reported under another name.
 fn rendered<D: TextDecorator>(
     alloc: Global,
     config: &Config<D>,
@@ -169,8 +156,9 @@ where
         _ => ("", question.given),
     };
     let (width, refused) = split_word(given);
-    let width = number(width)?;
-    watch.begin(name_at(asked, width));
+    let width = width.parse::<usize>()?;
+    let call = format!(in alloc; "{asked}{}", if width == 0 { " 0" } else { "" })?;
+    watch.begin(&call);
     match asked {
         "render_to_string" => {
             let text = watch.end(config.render_to_string(alloc, tree, width))?;
@@ -180,7 +168,7 @@ where
             let lines = watch.end(config.render_to_lines(alloc, tree, width))?;
             let mut shown = String::new(alloc);
             for line in &lines {
-                push_line(&mut shown, line)?;
+                push_line(alloc, &mut shown, line)?;
             }
             Ok(shown)
         }
@@ -195,7 +183,7 @@ where
             let (entered, left, frames) = (meter.entered, meter.left, meter.frames);
             Ok(format!(in alloc; "{refusal}|entered {entered}, left {left}, frames {frames}\n")?)
         }
-        _ => {
+        "render_coloured" => {
             let mut calls = 0;
             let came = config.render_coloured(
                 alloc,
@@ -213,6 +201,7 @@ where
             );
             printed(alloc, &watch.end(came)?)
         }
+        _ => Err(Fault::Malformed("no question has this name")),
     }
 }
 
@@ -227,15 +216,19 @@ fn coloured(alloc: Global, number: usize, text: &str, refused: &str) -> Result<S
 }
 
 /// Appends a tagged line: each string after its annotations, in braces, and each name of a mark in angle brackets.
-fn push_line<A: Shown>(shown: &mut String, line: &TaggedLine<Vec<A>>) -> Result<(), AllocError> {
+fn push_line<A: Shown>(
+    alloc: Global,
+    shown: &mut String,
+    line: &TaggedLine<Vec<A>>,
+) -> Result<(), AllocError> {
     shown.push('|')?;
     for element in line.iter() {
         match element {
             TaggedLineElement::Str(string) => {
                 shown.push('{')?;
                 for (place, annotation) in string.tag.iter().enumerate() {
-                    shown.push_str(if place > 0 { "," } else { "" })?;
-                    annotation.push_to(shown)?;
+                    let comma = if place > 0 { "," } else { "" };
+                    write!(shown, "{comma}{}", annotation.shown(alloc)?)?;
                 }
                 write!(shown, "}}{}", string.s)?;
             }

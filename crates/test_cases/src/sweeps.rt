@@ -1,12 +1,11 @@
 //! Checks of a document at each width from 1 to 40, with overflow and without.
 
-ghost use Rattle.std.specs.Prelude.{◌≡◌};
 ghost use Rattle.html_render_dom_values.specs.Outcome.{OnlyOutOfMemory};
 
 use html_render_tree::Error;
 use html_render_tree::config::Config;
 use html_render_tree::decorate::TextDecorator;
-use html_render_tree::dom::{NodeData, RcDom};
+use html_render_tree::dom::RcDom;
 use html_render_tree::tree::RenderTree;
 use html_render_tree::widths::Meter;
 use std::alloc::{AllocError, Global};
@@ -16,61 +15,44 @@ use unicode_width::UnicodeWidthChar;
 /// Greatest width that is checked, in columns.
 const WIDTHS: usize = 40;
 
+/// A width at which nothing has to be wrapped, in columns.
+const GREAT: usize = 2000;
+
 /// Reports whether no line of a text is wider than `width` columns.
 fn is_within(text: &str, width: usize) -> bool {
-    for line in text.lines() {
-        let mut columns = 0usize;
-        for c in line.chars() {
-            columns = columns.saturating_add(c.width().unwrap_or(0));
-        }
-        if width < columns {
-            return false;
-        }
-    }
-    true
+    text.lines().all(|line| {
+        let columns = line.chars().fold(0usize, |columns, c| {
+            columns.saturating_add(c.width().unwrap_or(0))
+        });
+        columns <= width
+    })
 }
 
-/// Reports whether a character is visible: it has a width, which may be 0, and isn't white space or U+200B.
+/// Reports whether a character is visible, and none of a border: it has a width, which may be 0, and isn't white space, U+200B or a
+/// box drawing.
 fn is_visible(c: char) -> bool {
-    !c.is_whitespace() && c != '\u{200b}' && c.width().is_some()
+    c.width().is_some() && !c.is_whitespace() && !matches!(c, '\u{200b}' | '\u{2500}'..='\u{257f}')
 }
 
-/// Appends the visible characters of a text.
-fn push_visible(visible: &mut Vec<char>, text: &str) -> Result<(), AllocError> {
-    for c in text.chars() {
-        if is_visible(c) {
-            visible.push(c)?;
-        }
-    }
-    Ok(())
-}
-
-/// Returns the visible characters of all texts of a document, sorted.
-fn visible_in(alloc: Global, dom: &RcDom) -> Result<Vec<char>, Fault> {
-    let mut visible = Vec::new(alloc);
-    let mut waiting = Vec::new(alloc);
-    waiting.push(dom.get_document())?;
-    for _ in 0..dom.node_count() {
-        let Some(node) = waiting.pop() else {
-            break;
-        };
-        if !dom.is_node(node) {
-            break;
-        }
-        if let NodeData::Text { contents } = dom.data(node) {
-            push_visible(&mut visible, contents.as_str())?;
-        }
-        waiting.extend_from_slice(dom.child_list(node))?;
-    }
+/// Returns the visible characters of a text, sorted.
+fn visible(alloc: Global, text: &str) -> Result<Vec<char>, AllocError> {
+    let mut visible: Vec<char> = text.chars().filter(|c| is_visible(*c)).collect(alloc)?;
     visible.sort()?;
     Ok(visible)
 }
 
+/// Returns the texts of a script, where each line feed is a space.
+fn texts_of(alloc: Global, script: &str) -> Result<String, AllocError> {
+    let mut texts = String::new(alloc);
+    for text in script.lines().filter_map(|line| line.strip_prefix('"')) {
+        texts.push_str(&text.replace(alloc, "\\n", " ")?)?;
+    }
+    Ok(texts)
+}
+
 /// Reports whether a text has each wanted character at least as often as `wanted`, which is sorted.
 fn are_kept(alloc: Global, wanted: &[char], text: &str) -> Result<bool, AllocError> {
-    let mut visible = Vec::new(alloc);
-    push_visible(&mut visible, text)?;
-    visible.sort()?;
+    let visible = visible(alloc, text)?;
     let mut others = visible.iter();
     for c in wanted {
         if !others.any(|other| other == c) {
@@ -113,27 +95,11 @@ fn text_of_lines<D: TextDecorator>(
     Ok(text)
 }
 
-/// Returns a copy of a text.
+/// Returns a copy of a text: what a colour map that changes nothing returns.
 fn same(alloc: Global, text: &str) -> Result<String, Error>
     ensures err { OnlyOutOfMemory result }
 {
     Ok(String::from_str(alloc, text)?)
-}
-
-/// Returns the text of a tree under a colour map that changes nothing.
-fn coloured_text<D: TextDecorator>(
-    alloc: Global,
-    config: &Config<D>,
-    tree: &RenderTree,
-    width: usize,
-) -> Result<String, Error> {
-    let tree = tree.try_clone(alloc)?;
-    config.render_coloured(
-        alloc,
-        tree,
-        width,
-        |_annotations: &[D::Annotation], text: &str| same(alloc, text),
-    )
 }
 
 /// Returns the first fault of a document's text at a width; `None` if all of these hold:
@@ -154,75 +120,35 @@ fn fault_at<D: TextDecorator>(
     let Some(text) = text_of(alloc, wide, tree, width)? else {
         return Ok(Some("it is too narrow with overflow"));
     };
-    if let Some(narrow) = narrow {
-        if narrow.as_str() != text.as_str() {
-            return Ok(Some("overflow changes a text that fits"));
-        }
-        if !is_within(&text, width) {
-            return Ok(Some("a line passes the width"));
-        }
-    }
-    if !are_kept(alloc, wanted, &text)? {
-        return Ok(Some("a character is lost"));
-    }
     let mut meter = Meter::default();
-    if text_of_lines(alloc, wide, tree, width, &mut meter)? != text {
-        return Ok(Some("tagged lines say something else"));
-    }
-    if coloured_text(alloc, wide, tree, width)? != text {
-        return Ok(Some("coloured text says something else"));
-    }
-    if meter.entered != meter.left || meter.entered < meter.frames {
-        return Ok(Some("the nodes are miscounted"));
-    }
-    Ok(None)
+    let lines = text_of_lines(alloc, wide, tree, width, &mut meter)?;
+    let copy = tree.try_clone(alloc)?;
+    let unchanged = |_annotations: &[D::Annotation], text: &str| same(alloc, text);
+    let coloured = wide.render_coloured(alloc, copy, width, unchanged)?;
+    let is_changed = narrow.is_some_and(|narrow| *narrow != text);
+    let is_wide = narrow.is_some() && !is_within(&text, width);
+    let is_miscounted = meter.entered != meter.left || meter.entered < meter.frames;
+    let faults = [
+        (is_changed, "overflow changes a text that fits"),
+        (is_wide, "a line passes the width"),
+        (!are_kept(alloc, wanted, &text)?, "a character is lost"),
+        (lines != text, "tagged lines say something else"),
+        (coloured != text, "coloured text says something else"),
+        (is_miscounted, "the nodes are miscounted"),
+    ];
+    let found = faults.into_iter().find(|fault| fault.0);
+    Ok(found.map(|fault| fault.1))
 }
 
-/// The characters that a text must have at each width.
-#[derive(Clone, Copy)]
-pub enum Kept {
-    /// Visible characters of all texts of the document.
-    Texts,
-    /// Visible characters of the text at a great width, except for those of borders.
-    Shown,
-}
-
-/// A width at which nothing has to be wrapped, in columns.
-const GREAT: usize = 2000;
-
-/// Reports whether a character is a box drawing, of which borders are made.
-fn is_of_border(c: char) -> bool {
-    matches!(c, '\u{2500}'..='\u{257f}')
-}
-
-/// Returns the characters that a text must have at each width, sorted.
-fn wanted_of<D: TextDecorator>(
-    alloc: Global,
-    wide: &Config<D>,
-    dom: &RcDom,
-    tree: &RenderTree,
-    kept: Kept,
-) -> Result<Vec<char>, Fault> {
-    if let Kept::Texts = kept {
-        return visible_in(alloc, dom);
-    }
-    let mut shown = Vec::new(alloc);
-    if let Some(text) = text_of(alloc, wide, tree, GREAT)? {
-        push_visible(&mut shown, &text)?;
-    }
-    shown.retain(|c| !is_of_border(*c));
-    shown.sort()?;
-    Ok(shown)
-}
-
-/// Returns a line for the first fault of a document at each width.
+/// Returns a line for the first fault of a document at each width. Each text must have the characters of the script's texts or, without
+/// a script, those of the text at a great width.
 ///
 /// The configuration must be without overflow, and must wrap links, so that closing lines are cut.
 pub fn sweep<D: TextDecorator>(
     alloc: Global,
     config: Config<D>,
     dom: &RcDom,
-    kept: Kept,
+    script: Option<&str>,
 ) -> Result<String, Fault> {
     let tree = config.dom_to_render_tree(alloc, dom)?;
     let mut narrow = Vec::new(alloc);
@@ -230,11 +156,13 @@ pub fn sweep<D: TextDecorator>(
         narrow.push(text_of(alloc, &config, &tree, width)?)?;
     }
     let wide = config.allow_width_overflow();
-    let wanted = wanted_of(alloc, &wide, dom, &tree, kept)?;
+    let wanted = match script {
+        Some(script) => texts_of(alloc, script)?,
+        None => text_of(alloc, &wide, &tree, GREAT)?.unwrap_or_else(|| String::new(alloc)),
+    };
+    let wanted = visible(alloc, &wanted)?;
     let mut faults = String::new(alloc);
-    let mut width = 0usize;
-    for text in &narrow {
-        width = width.saturating_add(1);
+    for (text, width) in narrow.iter().zip(1..=WIDTHS) {
         if let Some(fault) = fault_at(alloc, &wide, &tree, text.as_ref(), &wanted, width)? {
             write!(faults, "|at width {width}: {fault}\n")?;
         }

@@ -5,8 +5,7 @@ use Rattle.std.proofs.lemmas.Bool.Decides.{eqb_tells}
 use Rattle.std.proofs.lemmas.List.{get_or-set_same, get_or-set_other, length-set, get_or_past, get_or_append_left, get_or-append_right}
 use Rattle.html_render_dom_nodes.specs.Content.{Content, document}
 use Rattle.html_render_dom_nodes.specs.Nodes.{Node, lone, node_in}
-use Rattle.html_render_dom.specs.Dom.{Dom, node_count, IsNode, content_at, children_at, parent_at}
-use Rattle.html_render_dom.specs.Dom.{IsForest, IsInclusiveAncestor, itself, above}
+use Rattle.html_render_dom.specs.Dom.{Dom, node_count, IsNode, content_at, children_at, parent_at, IsForest, IsInclusiveAncestor, itself, above}
 use Rattle.html_render_dom_nodes.specs.Edits.{with_children, with_parent, created}
 use Rattle.html_render_dom_nodes.specs.Moves.{with_parents, reparented}
 use Rattle.html_render_dom.specs.laws.Forests.{below_or_not, IfSome-parent}

@@ -10,8 +10,7 @@ use Rattle.html_render_dom_nodes.specs.Content.{Content}
 use Rattle.html_render_dom_values.specs.Forest.{Forest, none, node, count, depth}
 use Rattle.html_render_dom.specs.laws.Members.{Contains-nil, Contains-head, Contains-tail, Contains-cons_cases, Contains-from_any, any-from_absent}
 use Rattle.html_render_dom.specs.laws.Forests.{IsDistinct-nil, All-children}
-use Rattle.html_render_dom.specs.Dom.{Dom, node_count, IsNode, content_at, children_at, parent_at, IsInclusiveAncestor, itself, above, HaveTrees}
-use Rattle.html_render_dom.specs.Dom.{IsForest, beside_each, below, trees_of, tree_of}
+use Rattle.html_render_dom.specs.Dom.{Dom, node_count, IsNode, content_at, children_at, parent_at, IsInclusiveAncestor, itself, above, HaveTrees, IsForest, beside_each, below, trees_of, tree_of}
 
 node-same : {c d : Content} {k l b e : Forest Content} → c ≡ d → k ≡ l → b ≡ e → node c k b ≡ node d l e
 node-same p q r = cc

@@ -1,3 +1,2 @@
 pub mod Childless
 pub mod Determined
-pub mod Progress

@@ -4,10 +4,10 @@ use Rattle.std.specs.Prelude.{◌≡◌, ℕ, ◌+◌, if◌then◌else◌, List
 use Rattle.std.specs.Str.Lines.{lines}
 use Rattle.html_render_dom_values.specs.declared.errors.Error.TheVariants.{OutOfMemory}
 use Rattle.html_render_dom_nodes.specs.Content.{no_space, comment}
-use Rattle.html_render_dom_nodes.specs.Edits.{attached_new, last_text, text_put, with_content}
+use Rattle.html_render_dom_nodes.specs.Edits.{attached_new, with_content}
 use Rattle.html_render_dom_nodes.specs.Elements.{completed}
 use Rattle.html_render_dom.specs.Dom.{Dom, content_at, empty_dom, is_element, node_count, parent_at}
-use Rattle.html_render_dom.specs.Edits.{element_appended}
+use Rattle.html_render_dom.specs.Edits.{element_appended, text_appended}
 use Rattle.html_render_dom.specs.script.Commands.{Command, do_nothing, append_text, append_comment, open_element, close_element, give_attribute, command_of}
 use Rattle.html_render_dom.specs.declared.script.building.ScriptError.{ScriptError}
 use Rattle.html_render_dom.specs.declared.script.building.ScriptError.TheVariants.{Refused, FaultyLine}
@@ -20,10 +20,6 @@ pub record Cursor : Type 0 where
 -- document node alone, which is current
 abbrev pub at_document : Cursor
 at_document = record { dom = empty_dom; current = 0 }
-
--- document after a text joins the last child of a node, if that is a text, or else becomes the last child
-abbrev pub with_text : Dom → (parent : ℕ) → (contents : List ℕ) → Dom
-with_text dom parent contents = record dom { nodes = text_put dom.nodes parent (last_text dom.nodes parent) contents }
 
 -- document with a new comment, the last child of its parent
 abbrev pub with_comment : Dom → (parent : ℕ) → (contents : List ℕ) → Dom
@@ -38,7 +34,7 @@ with_attribute dom h name value =
 -- document and current node after a command; none for an attribute of no element, and for the end of the document
 abbrev pub taken : Cursor → Command → Option Cursor
 taken at do_nothing = Some at
-taken at (append_text contents) = Some (record at { dom = with_text at.dom at.current contents })
+taken at (append_text contents) = Some (record at { dom = text_appended at.dom at.current contents })
 taken at (append_comment contents) = Some (record at { dom = with_comment at.dom at.current contents })
 taken at (open_element name) = Some (record { dom = element_appended at.dom at.current name; current = node_count at.dom })
 taken at close_element = option_map (λ parent. record at { current = parent }) (parent_at at.dom at.current)

@@ -111,9 +111,11 @@ impl RcDom {
         if !self.is_node(node) {
             return false;
         }
+        // naming a field gives the proof the invariant that the nodes are a forest
+        let _ = &self.nodes;
         let mut at = node;
         while at != ancestor {
-            match self.entry(at).parent.get() {
+            match self.get_parent(at) {
                 Some(parent) => at = parent,
                 None => return false,
             }

@@ -5,7 +5,7 @@ ghost use Rattle.html_render_dom_values.specs.Outcome.{OnlyOutOfMemory};
 ghost use Rattle.html_render_dom_values.specs.Forest.{count, depth};
 ghost use Rattle.html_render_dom.specs.Dom.{IsForest, IsNode, content_at, node_count, tree_of};
 ghost use Rattle.html_render_dom.specs.Dump.{dump, dump_line, text_line};
-ghost use Rattle.html_render_dom.specs.Frames.{FrameFits, closing_line, rest, rest_of, steps, steps_of};
+ghost use Rattle.html_render_dom.specs.Frames.{FrameFits, Starts, closing_line, rest, rest_of, steps, steps_of};
 
 use super::documents::RcDom;
 use html_render_dom_nodes::{Handle, NodeData};
@@ -107,11 +107,8 @@ impl RcDom {
         requires node { IsNode self.now node }
         requires indent { indent + depth (tree_of self.now node) ≤ node_count self.now }
         requires frames { All (FrameFits self.now) frames.old.items }
-        ensures ok { OnOk result (string_bytes text.new ++ rest self.now frames.new.items
-            ≡ string_bytes text.old ++ (dump indent (tree_of self.now node) ++ rest self.now frames.old.items)) }
-        ensures frames { OnOk result (All (FrameFits self.now) frames.new.items) }
-        ensures steps { OnOk result (steps self.now frames.new.items
-            < 2 * count (tree_of self.now node) + steps self.now frames.old.items) }
+        ensures { Starts result self.now (string_bytes text.old) (string_bytes text.new) (dump indent (tree_of self.now node))
+            frames.old.items frames.new.items (2 * count (tree_of self.now node)) }
     {
         // naming a field gives the proof the invariant that the nodes are a forest
         let _ = &self.nodes;

@@ -1,13 +1,12 @@
 //! Calls that add nodes, attributes and messages to a document. Each makes its allocations before it changes anything, so a
 //! refused call leaves the document unchanged.
 
-ghost use Rattle.std.specs.Prelude.{◌≡◌, ◌+◌, ◌≤◌, ◌++◌, ◌∷◌, [], None, OnOk, OnErr, IfOk, map, string_bytes};
-ghost use Rattle.html_render_dom_values.specs.Outcome.{OnlyOutOfMemory};
+ghost use Rattle.std.specs.Prelude.{◌≡◌, ◌++◌, ◌∷◌, [], None, IfOk, map, string_bytes};
 ghost use Rattle.html_render_dom_nodes.specs.Content.{name_of, property_of, content_of, doctype, comment, instruction};
-ghost use Rattle.html_render_dom.specs.Dom.{IsNode, IsElement, node_count, content_at};
+ghost use Rattle.html_render_dom.specs.Dom.{IsNode, IsElement, content_at};
 ghost use Rattle.html_render_dom_nodes.specs.Elements.{completed, contents_in};
-ghost use Rattle.html_render_dom.specs.Edits.{CanAppend, IsFresh, appended, element_appended, html_name};
-ghost use Rattle.html_render_dom_nodes.specs.Edits.{attached_new, created, element_created, last_text, text_put, with_content};
+ghost use Rattle.html_render_dom.specs.Edits.{CanAppend, Creates, Edits, IsFresh, appended, element_appended, html_name, text_appended};
+ghost use Rattle.html_render_dom_nodes.specs.Edits.{attached_new, created, element_created, with_content};
 
 use super::documents::RcDom;
 use super::settings::QuirksMode;
@@ -16,7 +15,7 @@ use html_render_dom_nodes::{
     Attribute, ElementFlags, Handle, LocalName, NodeData, NodeOrText, QualName,
 };
 use html_render_dom_values::Error;
-use std::alloc::{AllocError, Global};
+use std::alloc::Global;
 
 impl RcDom {
     /// Appends a node or a text to the children of `parent`.
@@ -31,38 +30,15 @@ impl RcDom {
     pub fn append(&mut self, alloc: Global, parent: Handle, child: NodeOrText) -> Result<(), Error>
         requires parent { IsNode self.old parent }
         requires child { CanAppend self.old parent child }
-        ensures ok { OnOk result (self.new ≡ appended self.old parent child) }
-        ensures unchanged { OnErr result (self.new ≡ self.old) }
-        ensures err { OnlyOutOfMemory result }
-        ensures grows { node_count self.old ≤ node_count self.new }
+        ensures { Edits result self.old (appended self.old parent child) self.new }
     {
         match child {
-            NodeOrText::AppendNode(child) => self.append_node(parent, child)?,
-            NodeOrText::AppendText(text) => self.append_text(alloc, parent, text)?,
+            NodeOrText::AppendNode(child) => Ok(nodes::attach(&mut self.nodes, parent, child)?),
+            NodeOrText::AppendText(text) => {
+                let last = self.last_text(parent);
+                Ok(nodes::put_text(alloc, &mut self.nodes, parent, last, text)?)
+            }
         }
-        Ok(())
-    }
-
-    /// Appends the node to the children of `parent`.
-    fn append_node(&mut self, parent: Handle, child: Handle) -> Result<(), AllocError>
-        requires parent { IsNode self.old parent }
-        requires child { CanAppend self.old parent (NodeOrText.AppendNode child) }
-        ensures ok { OnOk result (self.new ≡ appended self.old parent (NodeOrText.AppendNode child)) }
-        ensures unchanged { OnErr result (self.new ≡ self.old) }
-        ensures grows { node_count self.old ≤ node_count self.new }
-    {
-        nodes::attach(&mut self.nodes, parent, child)
-    }
-
-    /// Joins the text to the last child if that is a text node; otherwise appends a text node.
-    fn append_text(&mut self, alloc: Global, parent: Handle, text: String) -> Result<(), AllocError>
-        requires { IsNode self.old parent }
-        ensures ok { OnOk result (self.new ≡ appended self.old parent (NodeOrText.AppendText text)) }
-        ensures unchanged { OnErr result (self.new ≡ self.old) }
-        ensures grows { node_count self.old ≤ node_count self.new }
-    {
-        let last = self.last_text(parent);
-        nodes::put_text(alloc, &mut self.nodes, parent, last, text)
     }
 
     /// Appends a copy of a text to the children of `parent`.
@@ -75,11 +51,7 @@ impl RcDom {
     /// Returns `OutOfMemory` if an allocation is refused. The document is then unchanged.
     pub fn append_str(&mut self, alloc: Global, parent: Handle, text: &str) -> Result<(), Error>
         requires { IsNode self.old parent }
-        ensures ok { let nodes = self.old.nodes in OnOk result (self.new
-            ≡ record self.old { nodes = text_put nodes parent (last_text nodes parent) text.now }) }
-        ensures unchanged { OnErr result (self.new ≡ self.old) }
-        ensures err { OnlyOutOfMemory result }
-        ensures grows { node_count self.old ≤ node_count self.new }
+        ensures { Edits result self.old (text_appended self.old parent text.now) self.new }
     {
         let last = self.last_text(parent);
         nodes::put_str(alloc, &mut self.nodes, parent, last, text)?;
@@ -100,15 +72,11 @@ impl RcDom {
         name: &str,
     ) -> Result<Handle, Error>
         requires { IsNode self.old parent }
-        ensures number { IfOk result (λ made. made ≡ node_count self.old) }
-        ensures ok { OnOk result (self.new ≡ element_appended self.old parent (html_name name.now)) }
+        ensures created { Creates result self.old (element_appended self.old parent (html_name name.now)) self.new }
         ensures is_node { IfOk result (λ made. IsNode self.new made) }
-        ensures unchanged { OnErr result (self.new ≡ self.old) }
-        ensures err { OnlyOutOfMemory result }
-        ensures grows { node_count self.old ≤ node_count self.new }
     {
         let name = QualName::html(LocalName::from_str(alloc, name)?);
-        Ok(self.append_named(alloc, parent, name)?)
+        self.append_named(alloc, parent, name)
     }
 
     /// Appends a new element as [`append_element`](RcDom::append_element) does, with a name of any namespace.
@@ -117,13 +85,10 @@ impl RcDom {
         alloc: Global,
         parent: Handle,
         name: QualName,
-    ) -> Result<Handle, AllocError>
+    ) -> Result<Handle, Error>
         requires { IsNode self.old parent }
-        ensures number { IfOk result (λ made. made ≡ node_count self.old) }
-        ensures ok { OnOk result (self.new ≡ element_appended self.old parent (name_of name)) }
+        ensures created { Creates result self.old (element_appended self.old parent (name_of name)) self.new }
         ensures is_node { IfOk result (λ made. IsNode self.new made) }
-        ensures unchanged { OnErr result (self.new ≡ self.old) }
-        ensures grows { node_count self.old ≤ node_count self.new }
     {
         let appended = Handle::new(self.nodes.len());
         nodes::attach_element(alloc, &mut self.nodes, parent, name)?;
@@ -146,13 +111,9 @@ impl RcDom {
         attrs: Vec<Attribute>,
         flags: ElementFlags,
     ) -> Result<Handle, Error>
-        ensures number { IfOk result (λ element. element ≡ node_count self.old) }
-        ensures ok { OnOk result (self.new
-            ≡ record self.old { nodes = element_created self.old.nodes (name_of name) (map property_of attrs.items) flags }) }
+        ensures created { Creates result self.old
+            (record self.old { nodes = element_created self.old.nodes (name_of name) (map property_of attrs.items) flags }) self.new }
         ensures fresh { IfOk result (IsFresh self.old self.new) }
-        ensures unchanged { OnErr result (self.new ≡ self.old) }
-        ensures err { OnlyOutOfMemory result }
-        ensures grows { node_count self.old ≤ node_count self.new }
     {
         let number = self.nodes.len();
         nodes::push_element(alloc, &mut self.nodes, name, attrs, flags)?;
@@ -165,15 +126,11 @@ impl RcDom {
     ///
     /// Returns `OutOfMemory` if an allocation is refused. The document is then unchanged, and the text is dropped.
     pub fn create_comment(&mut self, alloc: Global, contents: String) -> Result<Handle, Error>
-        ensures number { IfOk result (λ made. made ≡ node_count self.old) }
-        ensures ok { OnOk result (self.new
-            ≡ record self.old { nodes = created self.old.nodes (comment (string_bytes contents)) }) }
+        ensures created { Creates result self.old
+            (record self.old { nodes = created self.old.nodes (comment (string_bytes contents)) }) self.new }
         ensures fresh { IfOk result (IsFresh self.old self.new) }
-        ensures unchanged { OnErr result (self.new ≡ self.old) }
-        ensures err { OnlyOutOfMemory result }
-        ensures grows { node_count self.old ≤ node_count self.new }
     {
-        Ok(self.create(alloc, NodeData::Comment { contents })?)
+        self.create(alloc, NodeData::Comment { contents })
     }
 
     /// Creates a processing instruction without a parent, and returns its handle, which is the next number.
@@ -187,26 +144,19 @@ impl RcDom {
         target: String,
         contents: String,
     ) -> Result<Handle, Error>
-        ensures number { IfOk result (λ made. made ≡ node_count self.old) }
-        ensures ok { OnOk result (self.new ≡ record self.old
-            { nodes = created self.old.nodes (instruction (string_bytes target) (string_bytes contents)) }) }
+        ensures created { Creates result self.old
+            (record self.old { nodes = created self.old.nodes (instruction (string_bytes target) (string_bytes contents)) }) self.new }
         ensures fresh { IfOk result (IsFresh self.old self.new) }
-        ensures unchanged { OnErr result (self.new ≡ self.old) }
-        ensures err { OnlyOutOfMemory result }
-        ensures grows { node_count self.old ≤ node_count self.new }
     {
-        Ok(self.create(alloc, NodeData::ProcessingInstruction { target, contents })?)
+        self.create(alloc, NodeData::ProcessingInstruction { target, contents })
     }
 
     /// Creates a node without a parent or children, and returns its handle, which is the next number. It isn't a template.
-    fn create(&mut self, alloc: Global, contents: NodeData) -> Result<Handle, AllocError>
+    fn create(&mut self, alloc: Global, contents: NodeData) -> Result<Handle, Error>
         requires { contents_in (content_of contents) ≡ None }
-        ensures number { IfOk result (λ made. made ≡ node_count self.old) }
-        ensures ok { OnOk result (self.new
-            ≡ record self.old { nodes = created self.old.nodes (content_of contents) }) }
+        ensures created { Creates result self.old
+            (record self.old { nodes = created self.old.nodes (content_of contents) }) self.new }
         ensures fresh { IfOk result (IsFresh self.old self.new) }
-        ensures unchanged { OnErr result (self.new ≡ self.old) }
-        ensures grows { node_count self.old ≤ node_count self.new }
     {
         let made = Handle::new(self.nodes.len());
         self.nodes.push(Node::lone(alloc, contents))?;
@@ -225,11 +175,8 @@ impl RcDom {
         public_id: String,
         system_id: String,
     ) -> Result<(), Error>
-        ensures ok { let made = doctype (string_bytes name) (string_bytes public_id) (string_bytes system_id) in
-            OnOk result (self.new ≡ record self.old { nodes = attached_new self.old.nodes made 0 }) }
-        ensures unchanged { OnErr result (self.new ≡ self.old) }
-        ensures err { OnlyOutOfMemory result }
-        ensures grows { node_count self.old ≤ node_count self.new }
+        ensures { let made = doctype (string_bytes name) (string_bytes public_id) (string_bytes system_id) in
+            Edits result self.old (record self.old { nodes = attached_new self.old.nodes made 0 }) self.new }
     {
         let doctype = NodeData::doctype(alloc, name, public_id, system_id)?;
         let document = self.get_document();
@@ -251,11 +198,8 @@ impl RcDom {
         attrs: Vec<Attribute>,
     ) -> Result<(), Error>
         requires { IsElement (content_at self.old node) }
-        ensures ok { OnOk result (self.new ≡ record self.old
-            { nodes = with_content self.old.nodes node (completed (content_at self.old node) (map property_of attrs.items)) }) }
-        ensures unchanged { OnErr result (self.new ≡ self.old) }
-        ensures err { OnlyOutOfMemory result }
-        ensures grows { node_count self.old ≤ node_count self.new }
+        ensures { Edits result self.old (record self.old
+            { nodes = with_content self.old.nodes node (completed (content_at self.old node) (map property_of attrs.items)) }) self.new }
     {
         nodes::complete(&mut self.nodes, node, attrs)?;
         Ok(())
@@ -275,11 +219,8 @@ impl RcDom {
         attr: Attribute,
     ) -> Result<(), Error>
         requires { IsElement (content_at self.old node) }
-        ensures ok { OnOk result (self.new ≡ record self.old
-            { nodes = with_content self.old.nodes node (completed (content_at self.old node) (property_of attr ∷ [])) }) }
-        ensures unchanged { OnErr result (self.new ≡ self.old) }
-        ensures err { OnlyOutOfMemory result }
-        ensures grows { node_count self.old ≤ node_count self.new }
+        ensures { Edits result self.old (record self.old
+            { nodes = with_content self.old.nodes node (completed (content_at self.old node) (property_of attr ∷ [])) }) self.new }
     {
         nodes::complete_one(alloc, &mut self.nodes, node, attr)?;
         Ok(())
@@ -291,10 +232,8 @@ impl RcDom {
     ///
     /// Returns `OutOfMemory` if an allocation is refused. The document is then unchanged, and the message is dropped.
     pub fn parse_error(&mut self, _alloc: Global, message: String) -> Result<(), Error>
-        ensures ok { OnOk result (self.new
-            ≡ record self.old { messages = self.old.messages ++ string_bytes message ∷ [] }) }
-        ensures unchanged { OnErr result (self.new ≡ self.old) }
-        ensures err { OnlyOutOfMemory result }
+        ensures { Edits result self.old
+            (record self.old { messages = self.old.messages ++ string_bytes message ∷ [] }) self.new }
     {
         self.errors.push(message)?;
         Ok(())

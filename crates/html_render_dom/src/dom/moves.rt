@@ -1,16 +1,16 @@
 //! Calls that move nodes between lists of children. Each makes its allocations before it changes anything, so a refused call
 //! leaves the document unchanged.
 
-ghost use Rattle.std.specs.Prelude.{◌≡◌, ◌≤◌, OnOk, OnErr, IfSome, IsSome, Some, string_bytes};
-ghost use Rattle.html_render_dom_values.specs.Outcome.{OnlyOutOfMemory};
+ghost use Rattle.std.specs.Prelude.{◌≡◌, IfSome, IsSome};
 ghost use Rattle.html_render_dom.specs.Dom.{IsNode, IsInclusiveAncestor, node_count, parent_at};
+ghost use Rattle.html_render_dom.specs.Edits.{Edits};
 ghost use Rattle.html_render_dom.specs.Moves.{CanAppendBefore, CanPutByParent, appended_before, put_by_parent};
-ghost use Rattle.html_render_dom_nodes.specs.Moves.{inserted_before, reparented, taken_out, text_before, text_placed};
+ghost use Rattle.html_render_dom_nodes.specs.Moves.{reparented, taken_out, text_before};
 
 use super::documents::RcDom;
 use html_render_dom_nodes::{Handle, NodeData, NodeOrText, lists};
 use html_render_dom_values::Error;
-use std::alloc::{AllocError, Global};
+use std::alloc::Global;
 
 impl RcDom {
     /// Removes the node from its parent's list of children. Does nothing if it has no parent.
@@ -43,61 +43,21 @@ impl RcDom {
     ) -> Result<(), Error>
         requires sibling { IsSome (parent_at self.old sibling) }
         requires child { CanAppendBefore self.old sibling child }
-        ensures ok { OnOk result (self.new ≡ appended_before self.old sibling child) }
-        ensures unchanged { OnErr result (self.new ≡ self.old) }
-        ensures err { OnlyOutOfMemory result }
-        ensures grows { node_count self.old ≤ node_count self.new }
+        ensures { Edits result self.old (appended_before self.old sibling child) self.new }
     {
-        let parent = self.parent_of(sibling);
+        let Some(parent) = self.get_parent(sibling) else {
+            unreachable!();
+        };
         match child {
-            NodeOrText::AppendNode(child) => self.move_before(parent, sibling, child)?,
-            NodeOrText::AppendText(text) => self.put_text_before(alloc, parent, sibling, text)?,
+            NodeOrText::AppendNode(child) => {
+                let from = self.get_parent(child);
+                Ok(lists::move_before(&mut self.nodes, from, parent, sibling, child)?)
+            }
+            NodeOrText::AppendText(text) => {
+                let last = self.text_before(parent, sibling);
+                Ok(lists::put_text_before(alloc, &mut self.nodes, parent, sibling, last, text)?)
+            }
         }
-        Ok(())
-    }
-
-    /// Returns the parent of a node that has one.
-    fn parent_of(&self, node: Handle) -> Handle
-        requires { IsSome (parent_at self.now node) }
-        ensures { parent_at self.now node ≡ Some result }
-    {
-        self.get_parent(node).unwrap()
-    }
-
-    /// Removes the node from its old list, if any, and inserts it directly before the sibling.
-    fn move_before(
-        &mut self,
-        parent: Handle,
-        sibling: Handle,
-        child: Handle,
-    ) -> Result<(), AllocError>
-        requires parent { parent_at self.old sibling ≡ Some parent }
-        requires child { CanAppendBefore self.old sibling (NodeOrText.AppendNode child) }
-        ensures ok { OnOk result (self.new ≡ record self.old
-            { nodes = inserted_before (taken_out self.old.nodes (parent_at self.old child) child) parent sibling child }) }
-        ensures unchanged { OnErr result (self.new ≡ self.old) }
-        ensures grows { node_count self.old ≤ node_count self.new }
-    {
-        let from = self.get_parent(child);
-        lists::move_before(&mut self.nodes, from, parent, sibling, child)
-    }
-
-    /// Joins the text to the text node directly before the sibling, or inserts a text node there.
-    fn put_text_before(
-        &mut self,
-        alloc: Global,
-        parent: Handle,
-        sibling: Handle,
-        text: String,
-    ) -> Result<(), AllocError>
-        requires { parent_at self.old sibling ≡ Some parent }
-        ensures ok { let nodes = self.old.nodes in OnOk result (self.new ≡ record self.old
-            { nodes = text_placed nodes parent sibling (text_before nodes parent sibling) (string_bytes text) }) }
-        ensures unchanged { OnErr result (self.new ≡ self.old) }
-        ensures grows { node_count self.old ≤ node_count self.new }
-    {
-        let last = self.text_before(parent, sibling);
-        lists::put_text_before(alloc, &mut self.nodes, parent, sibling, last, text)
     }
 
     /// Returns the node directly before the sibling if it is a text node, and `None` otherwise.
@@ -129,11 +89,8 @@ impl RcDom {
     ) -> Result<(), Error>
         requires element { IsNode self.old element }
         requires child { CanPutByParent self.old (parent_at self.old element) element prev_element child }
-        ensures ok { OnOk result
-            (self.new ≡ put_by_parent self.old (parent_at self.old element) element prev_element child) }
-        ensures unchanged { OnErr result (self.new ≡ self.old) }
-        ensures err { OnlyOutOfMemory result }
-        ensures grows { node_count self.old ≤ node_count self.new }
+        ensures { Edits result self.old
+            (put_by_parent self.old (parent_at self.old element) element prev_element child) self.new }
     {
         match self.get_parent(element) {
             Some(_) => self.append_before_sibling(alloc, element, child),
@@ -157,10 +114,7 @@ impl RcDom {
         requires node { IsNode self.old node }
         requires new_parent { IsNode self.old new_parent }
         requires away { ¬ IsInclusiveAncestor self.old node new_parent }
-        ensures ok { OnOk result (self.new ≡ record self.old { nodes = reparented self.old.nodes node new_parent }) }
-        ensures unchanged { OnErr result (self.new ≡ self.old) }
-        ensures err { OnlyOutOfMemory result }
-        ensures count { node_count self.new ≡ node_count self.old }
+        ensures { Edits result self.old (record self.old { nodes = reparented self.old.nodes node new_parent }) self.new }
     {
         lists::move_children(alloc, &mut self.nodes, node, new_parent)?;
         Ok(())

@@ -3,10 +3,9 @@
 //! `built(alloc, "<p\n\"text")?` is the DOM of a paragraph that holds `text`.
 
 ghost use Rattle.std.specs.Prelude.{◌≡◌, Ok, IfErr, IfOk, option_and_then, option_map};
-ghost use Rattle.html_render_dom_values.specs.Outcome.{OnlyOutOfMemory};
 ghost use Rattle.html_render_dom.specs.Faults.{Reads, Takes};
 ghost use Rattle.html_render_dom.specs.script.Commands.{append_comment, append_text, attribute_of, close_element, element_name, named, open_element, unescaped};
-ghost use Rattle.html_render_dom.specs.script.Scripts.{IsScriptFault, at_document, document_of, line_taken, taken};
+ghost use Rattle.html_render_dom.specs.script.Scripts.{IsScriptFault, document_of, line_taken, taken};
 ghost use Rattle.html_render_dom_nodes.specs.Content.{name_of};
 
 use super::escapes::resolve;
@@ -59,16 +58,6 @@ impl Model for ScriptBuilder {
 }
 
 impl ScriptBuilder {
-    /// Creates a document whose document node is current.
-    fn new(alloc: Global) -> Result<ScriptBuilder, Error>
-        ensures ok { IfOk result (λ b. b ≡ at_document) }
-        ensures err { OnlyOutOfMemory result }
-    {
-        let dom = RcDom::new(alloc)?;
-        let current = dom.get_document();
-        Ok(ScriptBuilder { dom, current })
-    }
-
     /// Appends a text to the current node.
     fn append_text(&mut self, alloc: Global, text: &str, plain: &mut String) -> Result<(), Fault>
         ensures { Takes result (option_and_then (taken self.old) (option_map append_text (unescaped text.now))) self.new }
@@ -195,7 +184,9 @@ pub fn built(alloc: Global, script: &str) -> Result<RcDom, ScriptError>
     ensures ok { IfOk result (λ dom. document_of script.now ≡ Ok dom) }
     ensures err { IfErr result (λ e. IsScriptFault script.now e) }
 {
-    let mut builder = ScriptBuilder::new(alloc)?;
+    let dom = RcDom::new(alloc)?;
+    let current = dom.get_document();
+    let mut builder = ScriptBuilder { dom, current };
     let mut plain = String::new(alloc);
     let mut number = 0usize;
     let mut rest = script;

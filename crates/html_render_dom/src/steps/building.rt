@@ -1,12 +1,12 @@
 //! The document that steps build.
 
-ghost use Rattle.std.specs.Prelude.{◌≡◌, ◌↔◌, IsTrue, ◌<◌, length, string_bytes, IfOk, IfErr};
+ghost use Rattle.std.specs.Prelude.{◌≡◌, ◌↔◌, IsTrue, ◌<◌, length, string_bytes, IfOk, IfErr, Some};
 ghost use Rattle.std.specs.Option.{ForSome};
 ghost use Rattle.html_render_dom_values.specs.Outcome.{OnlyOutOfMemory};
 ghost use Rattle.html_render_dom.specs.Dom.{IsInclusiveAncestor, IsNode};
 ghost use Rattle.html_render_dom_nodes.specs.Content.{name_of};
 ghost use Rattle.html_render_dom.specs.Steps as steps;
-ghost use Rattle.html_render_dom.specs.StepFaults.{Denies, Performs, PerformsKind};
+ghost use Rattle.html_render_dom.specs.StepFaults.{Denies, Performs};
 ghost use Rattle.html_render_dom.specs.Steps.{AreStepsOf, HasName, HasValue, IsStepFault};
 ghost use Rattle.html_render_dom.specs.declared.steps.step.StepKind.TheVariants as kind;
 
@@ -59,15 +59,6 @@ impl<'a> StepOver<'a> {
         piece_in(self.text, self.string, value, length).ok_or(Fault::Faulty)
     }
 
-    /// Returns a copy of the step's text; `Faulty` if it is no piece of the text.
-    fn value_copied(&self, alloc: Global) -> Result<String, Fault>
-        ensures ok { IfOk result (λ s. (string_bytes s ≡ steps.value_in self.now.text.now self.now.step.now) × HasValue self.now.text.now self.now.step.now) }
-        ensures err { IfErr result (λ fault. Denies fault (HasValue self.now.text.now self.now.step.now)) }
-    {
-        let value = self.value()?;
-        Ok(String::from_str(alloc, value)?)
-    }
-
     /// Returns the step's name without its namespace; `Faulty` if it is no piece of the text.
     fn local_name(&self) -> Result<&'a str, Fault>
         ensures ok { IfOk result (λ s. (s.now ≡ (steps.step_name self.now.text.now self.now.step.now).local) × HasName self.now.text.now self.now.step.now) }
@@ -75,15 +66,6 @@ impl<'a> StepOver<'a> {
     {
         let (name, length) = (self.step.name as usize, self.step.name_length as usize);
         piece_in(self.text, self.string, name, length).ok_or(Fault::Faulty)
-    }
-
-    /// Returns a copy of the step's name without its namespace; `Faulty` if it is no piece of the text.
-    fn local_name_copied(&self, alloc: Global) -> Result<String, Fault>
-        ensures ok { IfOk result (λ s. (string_bytes s ≡ (steps.step_name self.now.text.now self.now.step.now).local) × HasName self.now.text.now self.now.step.now) }
-        ensures err { IfErr result (λ fault. Denies fault (HasName self.now.text.now self.now.step.now)) }
-    {
-        let name = self.local_name()?;
-        Ok(String::from_str(alloc, name)?)
     }
 
     /// Returns the step's name with its namespace; `Faulty` if it is no piece of the text.
@@ -157,54 +139,43 @@ impl StepBuilder {
 
     /// Creates an element.
     fn make_element(&mut self, alloc: Global, given: StepOver<'_>) -> Result<(), Fault>
-        ensures { Performs result given.entry.text.now given.entry.step.now kind.MakeElement self.old self.new }
+        ensures { Performs result given.entry.text.now given.entry.step.now (Some kind.MakeElement) self.old self.new }
     {
         let name = given.name(alloc)?;
         let flags = given.step.element_flags();
         let element = self
             .dom
             .create_element(alloc, name, Vec::new(alloc), flags)?;
-        self.made.push(element)?;
-        Ok(())
-    }
-
-    /// Creates an element of HTML that is no template, and appends it to a node.
-    #[inline]
-    fn append_html(&mut self, alloc: Global, given: StepOver<'_>) -> Result<(), Fault>
-        requires { given.step.now.flags ≡ 1 }
-        ensures { Performs result given.entry.text.now given.entry.step.now kind.AppendElement self.old self.new }
-    {
-        let parent = self.node(given.step.node)?;
-        let name = given.local_name()?;
-        let element = self.dom.append_element(alloc, parent, name)?;
         self.made.push(element)?;
         Ok(())
     }
 
     /// Creates an element, and appends it to a node.
     fn append_element(&mut self, alloc: Global, given: StepOver<'_>) -> Result<(), Fault>
-        ensures { Performs result given.entry.text.now given.entry.step.now kind.AppendElement self.old self.new }
+        ensures { Performs result given.entry.text.now given.entry.step.now (Some kind.AppendElement) self.old self.new }
     {
-        if given.step.flags == 1 {
-            return self.append_html(alloc, given);
-        }
         let parent = self.node(given.step.node)?;
         let name = given.name(alloc)?;
         let flags = given.step.element_flags();
-        let element = self
-            .dom
-            .create_element(alloc, name, Vec::new(alloc), flags)?;
-        self.dom
-            .append(alloc, parent, NodeOrText::AppendNode(element))?;
+        if flags.template || flags.mathml_annotation_xml_integration_point {
+            let element = self
+                .dom
+                .create_element(alloc, name, Vec::new(alloc), flags)?;
+            self.dom
+                .append(alloc, parent, NodeOrText::AppendNode(element))?;
+            self.made.push(element)?;
+            return Ok(());
+        }
+        let element = self.dom.append_named(alloc, parent, name)?;
         self.made.push(element)?;
         Ok(())
     }
 
     /// Creates a comment.
     fn make_comment(&mut self, alloc: Global, given: StepOver<'_>) -> Result<(), Fault>
-        ensures { Performs result given.entry.text.now given.entry.step.now kind.MakeComment self.old self.new }
+        ensures { Performs result given.entry.text.now given.entry.step.now (Some kind.MakeComment) self.old self.new }
     {
-        let contents = given.value_copied(alloc)?;
+        let contents = String::from_str(alloc, given.value()?)?;
         let comment = self.dom.create_comment(alloc, contents)?;
         self.made.push(comment)?;
         Ok(())
@@ -212,7 +183,7 @@ impl StepBuilder {
 
     /// Gives an element an attribute, unless it has one of that name.
     fn add_attribute(&mut self, alloc: Global, given: StepOver<'_>) -> Result<(), Fault>
-        ensures { Performs result given.entry.text.now given.entry.step.now kind.AddAttribute self.old self.new }
+        ensures { Performs result given.entry.text.now given.entry.step.now (Some kind.AddAttribute) self.old self.new }
     {
         let element = self.node(given.step.node)?;
         if !self.dom.is_element(element) {
@@ -227,7 +198,7 @@ impl StepBuilder {
 
     /// Appends a node to another one.
     fn put_node(&mut self, alloc: Global, given: StepOver<'_>) -> Result<(), Fault>
-        ensures { Performs result given.entry.text.now given.entry.step.now kind.PutNode self.old self.new }
+        ensures { Performs result given.entry.text.now given.entry.step.now (Some kind.PutNode) self.old self.new }
     {
         let parent = self.node(given.step.node)?;
         let child = self.node(given.step.child)?;
@@ -241,7 +212,7 @@ impl StepBuilder {
 
     /// Appends a text to a node.
     fn put_text(&mut self, alloc: Global, given: StepOver<'_>) -> Result<(), Fault>
-        ensures { Performs result given.entry.text.now given.entry.step.now kind.PutText self.old self.new }
+        ensures { Performs result given.entry.text.now given.entry.step.now (Some kind.PutText) self.old self.new }
     {
         let parent = self.node(given.step.node)?;
         let value = given.value()?;
@@ -251,7 +222,7 @@ impl StepBuilder {
 
     /// Inserts a node directly before another one.
     fn put_node_before(&mut self, alloc: Global, given: StepOver<'_>) -> Result<(), Fault>
-        ensures { Performs result given.entry.text.now given.entry.step.now kind.PutNodeBefore self.old self.new }
+        ensures { Performs result given.entry.text.now given.entry.step.now (Some kind.PutNodeBefore) self.old self.new }
     {
         let sibling = self.node(given.step.node)?;
         let child = self.node(given.step.child)?;
@@ -265,13 +236,13 @@ impl StepBuilder {
 
     /// Inserts a text directly before a node.
     fn put_text_before(&mut self, alloc: Global, given: StepOver<'_>) -> Result<(), Fault>
-        ensures { Performs result given.entry.text.now given.entry.step.now kind.PutTextBefore self.old self.new }
+        ensures { Performs result given.entry.text.now given.entry.step.now (Some kind.PutTextBefore) self.old self.new }
     {
         let sibling = self.node(given.step.node)?;
         if !self.dom.has_parent(sibling) {
             return Err(Fault::Faulty);
         }
-        let value = given.value_copied(alloc)?;
+        let value = String::from_str(alloc, given.value()?)?;
         self.dom
             .append_before_sibling(alloc, sibling, NodeOrText::AppendText(value))?;
         Ok(())
@@ -279,7 +250,7 @@ impl StepBuilder {
 
     /// Removes a node from its parent.
     fn remove(&mut self, given: StepOver<'_>) -> Result<(), Fault>
-        ensures { Performs result given.entry.text.now given.entry.step.now kind.Remove self.old self.new }
+        ensures { Performs result given.entry.text.now given.entry.step.now (Some kind.Remove) self.old self.new }
     {
         let node = self.node(given.step.node)?;
         self.dom.remove_from_parent(node);
@@ -288,7 +259,7 @@ impl StepBuilder {
 
     /// Appends all children of a node to those of another one.
     fn reparent(&mut self, alloc: Global, given: StepOver<'_>) -> Result<(), Fault>
-        ensures { Performs result given.entry.text.now given.entry.step.now kind.Reparent self.old self.new }
+        ensures { Performs result given.entry.text.now given.entry.step.now (Some kind.Reparent) self.old self.new }
     {
         let node = self.node(given.step.node)?;
         let parent = self.node(given.step.other)?;
@@ -301,7 +272,7 @@ impl StepBuilder {
 
     /// Gives a template's contents a number.
     fn name_contents(&mut self, given: StepOver<'_>) -> Result<(), Fault>
-        ensures { Performs result given.entry.text.now given.entry.step.now kind.TemplateContents self.old self.new }
+        ensures { Performs result given.entry.text.now given.entry.step.now (Some kind.TemplateContents) self.old self.new }
     {
         let node = self.node(given.step.node)?;
         if !self.dom.is_template(node) {
@@ -314,10 +285,10 @@ impl StepBuilder {
 
     /// Creates a processing instruction.
     fn make_instruction(&mut self, alloc: Global, given: StepOver<'_>) -> Result<(), Fault>
-        ensures { Performs result given.entry.text.now given.entry.step.now kind.MakeInstruction self.old self.new }
+        ensures { Performs result given.entry.text.now given.entry.step.now (Some kind.MakeInstruction) self.old self.new }
     {
-        let target = given.local_name_copied(alloc)?;
-        let contents = given.value_copied(alloc)?;
+        let target = String::from_str(alloc, given.local_name()?)?;
+        let contents = String::from_str(alloc, given.value()?)?;
         let instruction = self.dom.create_pi(alloc, target, contents)?;
         self.made.push(instruction)?;
         Ok(())
@@ -325,7 +296,7 @@ impl StepBuilder {
 
     /// Inserts a node directly before another one that has a parent, or else appends it to a third one.
     fn put_node_by_parent(&mut self, alloc: Global, given: StepOver<'_>) -> Result<(), Fault>
-        ensures { Performs result given.entry.text.now given.entry.step.now kind.PutNodeByParent self.old self.new }
+        ensures { Performs result given.entry.text.now given.entry.step.now (Some kind.PutNodeByParent) self.old self.new }
     {
         let element = self.node(given.step.node)?;
         let other = self.node(given.step.other)?;
@@ -344,11 +315,11 @@ impl StepBuilder {
 
     /// Inserts a text directly before a node that has a parent, or else appends it to another one.
     fn put_text_by_parent(&mut self, alloc: Global, given: StepOver<'_>) -> Result<(), Fault>
-        ensures { Performs result given.entry.text.now given.entry.step.now kind.PutTextByParent self.old self.new }
+        ensures { Performs result given.entry.text.now given.entry.step.now (Some kind.PutTextByParent) self.old self.new }
     {
         let element = self.node(given.step.node)?;
         let other = self.node(given.step.other)?;
-        let value = given.value_copied(alloc)?;
+        let value = String::from_str(alloc, given.value()?)?;
         self.dom
             .append_based_on_parent_node(alloc, element, other, NodeOrText::AppendText(value))?;
         Ok(())
@@ -356,10 +327,10 @@ impl StepBuilder {
 
     /// Appends a doctype to the document.
     fn put_doctype(&mut self, alloc: Global, given: StepOver<'_>) -> Result<(), Fault>
-        ensures { Performs result given.entry.text.now given.entry.step.now kind.PutDoctype self.old self.new }
+        ensures { Performs result given.entry.text.now given.entry.step.now (Some kind.PutDoctype) self.old self.new }
     {
-        let name = given.local_name_copied(alloc)?;
-        let public_id = given.value_copied(alloc)?;
+        let name = String::from_str(alloc, given.local_name()?)?;
+        let public_id = String::from_str(alloc, given.value()?)?;
         self.dom
             .append_doctype_to_document(alloc, name, public_id, String::new(alloc))?;
         Ok(())
@@ -367,20 +338,20 @@ impl StepBuilder {
 
     /// Sets the quirks mode.
     fn set_quirks(&mut self, given: StepOver<'_>) -> Result<(), Fault>
-        ensures { Performs result given.entry.text.now given.entry.step.now kind.SetQuirks self.old self.new }
+        ensures { Performs result given.entry.text.now given.entry.step.now (Some kind.SetQuirks) self.old self.new }
     {
         self.dom.set_quirks_mode(given.step.quirks_mode());
         Ok(())
     }
 
     /// Takes a step of this kind.
-    fn take_kind(
+    fn take(
         &mut self,
         alloc: Global,
         given: StepOver<'_>,
         kind: Option<StepKind>,
     ) -> Result<(), Fault>
-        ensures { PerformsKind result given.entry.text.now given.entry.step.now kind self.old self.new }
+        ensures { Performs result given.entry.text.now given.entry.step.now kind self.old self.new }
     {
         match kind {
             None => Err(Fault::Faulty),
@@ -402,21 +373,6 @@ impl StepBuilder {
             Some(StepKind::SetQuirks) => self.set_quirks(given),
         }
     }
-
-    /// Takes a step.
-    fn take(
-        &mut self,
-        alloc: Global,
-        text: &[u8],
-        string: Option<&str>,
-        step: &Step,
-    ) -> Result<(), Fault>
-        requires { ForSome string (λ s. s.now ≡ text.now) }
-        ensures { PerformsKind result text.now step.now (steps.kind_of step.now.kind) self.old self.new }
-    {
-        let given = StepOver { step, text, string };
-        self.take_kind(alloc, given, step.step_kind())
-    }
 }
 
 /// Takes steps over a text, in order, and returns the document that they build. `text` is the buffer of which the steps'
@@ -434,7 +390,8 @@ pub fn built(alloc: Global, text: &[u8], steps: &[Step]) -> Result<RcDom, StepEr
     let string = str::from_utf8(text).ok();
     let mut rest = steps;
     while let Some((step, behind)) = rest.split_first() {
-        match builder.take(alloc, text, string, step) {
+        let given = StepOver { step, text, string };
+        match builder.take(alloc, given, step.step_kind()) {
             Ok(()) => rest = behind,
             Err(Fault::Refused(error)) => return Err(StepError::Refused(error)),
             Err(Fault::Faulty) => return Err(StepError::Faulty(steps.len() - rest.len())),

@@ -7,7 +7,7 @@ ghost use Rattle.html_render_dom_values.specs.declared.errors.Error.TheVariants.
 ghost use Rattle.html_render_dom_nodes.specs.Content.{property_of};
 ghost use Rattle.html_render_dom_styles.specs.Cascade.{winner};
 ghost use Rattle.html_render_dom.specs.Applying.{applied, style_by, with_declarations};
-ghost use Rattle.html_render_dom.specs.ElementStyle.{element_style, style_of};
+ghost use Rattle.html_render_dom.specs.ElementStyle.{element_style};
 ghost use Rattle.html_render_dom.specs.RuleIndex.{said_at};
 ghost use Rattle.html_render_dom_styles.specs.Rules.{declared_of, rule_of};
 ghost use Rattle.html_render_dom_styles.specs.Selectors.{selects};
@@ -82,7 +82,7 @@ fn update_content(
 impl ComputedStyle {
     /// Returns the style without any declaration.
     fn unset() -> ComputedStyle
-        ensures { style_of result ≡ style_by [] }
+        ensures { result ≡ style_by [] }
     {
         ComputedStyle {
             colour: WithSpec::default(),
@@ -103,7 +103,7 @@ impl ComputedStyle {
         specificity: Specificity,
         declaration: &Declaration,
     ) -> Result<(), AllocError>
-        ensures { OnOk result (style_of self.new ≡ with_declarations (style_of self.old)
+        ensures { OnOk result (self.new ≡ with_declarations self.old
             (record { origin = origin; specificity = specificity; pseudo = None; declared = declared_of declaration.now } ∷ [])) }
     {
         let important = declaration.important;
@@ -139,7 +139,7 @@ impl ComputedStyle {
         place: PseudoElement,
         declaration: &Declaration,
     ) -> Result<(), AllocError>
-        ensures { OnOk result (style_of self.new ≡ with_declarations (style_of self.old)
+        ensures { OnOk result (self.new ≡ with_declarations self.old
             (record { origin = origin; specificity = specificity; pseudo = Some place; declared = declared_of declaration.now } ∷ [])) }
     {
         if let Style::Content(text) = &declaration.style {
@@ -160,7 +160,7 @@ impl ComputedStyle {
 
     /// Applies a declaration for the element itself or, if its rule has a pseudo-element, for that.
     fn update(&mut self, source: Source, declaration: &Declaration) -> Result<(), AllocError>
-        ensures { OnOk result (style_of self.new ≡ with_declarations (style_of self.old)
+        ensures { OnOk result (self.new ≡ with_declarations self.old
             (record { origin = source.origin; specificity = source.specificity; pseudo = source.pseudo; declared = declared_of declaration.now } ∷ [])) }
     {
         match source.pseudo {
@@ -174,7 +174,7 @@ impl ComputedStyle {
     /// Applies all declarations of a rule, in order.
     #[inline(never)]
     fn update_all(&mut self, rule: &StyleRule) -> Result<(), AllocError>
-        ensures { OnOk result (style_of self.new ≡ with_declarations (style_of self.old) (applied (rule_of rule.now))) }
+        ensures { OnOk result (self.new ≡ with_declarations self.old (applied (rule_of rule.now))) }
     {
         let source = Source {
             origin: rule.origin,
@@ -202,7 +202,7 @@ pub fn computed_style(
     element: &str,
     attrs: &[Attribute],
 ) -> Result<ComputedStyle, Error>
-    ensures ok { IfOk result (λ style. style_of style ≡ element_style (map rule_of rules.now) element.now (map property_of attrs.now)) }
+    ensures ok { IfOk result (λ style. style ≡ element_style (map rule_of rules.now) element.now (map property_of attrs.now)) }
     ensures err { OnlyOutOfMemory result }
 {
     let id = first_value(attrs, "id");
@@ -226,7 +226,7 @@ pub(super) fn style_of_rules(
     id: Option<&str>,
     classes: Option<&str>,
 ) -> Result<ComputedStyle, AllocError>
-    ensures { IfOk result (λ style. style_of style
+    ensures { IfOk result (λ style. style
         ≡ style_by (flat_map (said_at (selects element.now (option_copied id.entry) (option_copied classes.entry)) (map rule_of rules.now)) numbers.now)) }
 {
     let mut style = ComputedStyle::unset();

@@ -8,7 +8,7 @@ ghost use Rattle.std.specs.Str.{bytes_eq};
 ghost use Rattle.html_render_dom_values.specs.Outcome.{OnlyOutOfMemory};
 ghost use Rattle.html_render_dom_nodes.specs.Content.{property_of};
 ghost use Rattle.html_render_dom.specs.Applying.{style_by};
-ghost use Rattle.html_render_dom.specs.ElementStyle.{element_style, style_of};
+ghost use Rattle.html_render_dom.specs.ElementStyle.{element_style};
 ghost use Rattle.html_render_dom.specs.RuleIndex.{asks_attributes, Finds, Indexes, IsPlain, is_told, text_key, numbers_under, stated_text, texts_of};
 ghost use Rattle.html_render_dom_styles.specs.Rules.{Rule, rule_of};
 ghost use Rattle.html_render_dom_styles.specs.Selectors.{is_filled};
@@ -148,7 +148,7 @@ impl RuleIndex {
         if find_plain(plain.as_slice(), name.as_str()).is_some() {
             return Ok(());
         }
-        let style = self.indexed_style(alloc, rules, name.as_str(), &[])?;
+        let style = self.computed_style(alloc, rules, name.as_str(), &[])?;
         plain.push(PlainStyle {
             name: name.clone()?,
             style,
@@ -159,7 +159,7 @@ impl RuleIndex {
     /// Returns the style of elements with this local name that have no attributes, if it was computed.
     #[inline]
     pub fn plain_style(&self, element: &str) -> Option<&ComputedStyle>
-        ensures { IfSome result (λ style. (rules : List Rule) → Finds self.now rules → style_of style.now ≡ element_style rules element.now []) }
+        ensures { IfSome result (λ style. (rules : List Rule) → Finds self.now rules → style.now ≡ element_style rules element.now []) }
     {
         match find_plain(self.plain.as_slice(), element) {
             Some(plain) => Some(&plain.style),
@@ -168,9 +168,8 @@ impl RuleIndex {
     }
 
     /// Creates the index of a list of rules, without the styles of elements without attributes.
-    fn without_styles(alloc: Global, rules: &[StyleRule]) -> Result<RuleIndex, Error>
-        ensures ok { IfOk result (λ index. Indexes index (map rule_of rules.now)) }
-        ensures err { OnlyOutOfMemory result }
+    fn without_styles(alloc: Global, rules: &[StyleRule]) -> Result<RuleIndex, AllocError>
+        ensures { IfOk result (λ index. Indexes index (map rule_of rules.now)) }
     {
         let mut index = RuleIndex {
             keys: vec![in alloc; false; KEYS]?,
@@ -300,23 +299,8 @@ impl RuleIndex {
         element: &str,
         attrs: &[Attribute],
     ) -> Result<ComputedStyle, Error>
-        requires { Finds self.now (map rule_of rules.now) }
-        ensures ok { IfOk result (λ style. style_of style ≡ element_style (map rule_of rules.now) element.now (map property_of attrs.now)) }
-        ensures err { OnlyOutOfMemory result }
-    {
-        self.indexed_style(alloc, rules, element, attrs)
-    }
-
-    /// Returns the style that [`RuleIndex::computed_style`] does, by the index alone.
-    fn indexed_style(
-        &self,
-        alloc: Global,
-        rules: &[StyleRule],
-        element: &str,
-        attrs: &[Attribute],
-    ) -> Result<ComputedStyle, Error>
         requires { Indexes self.now (map rule_of rules.now) }
-        ensures ok { IfOk result (λ style. style_of style ≡ element_style (map rule_of rules.now) element.now (map property_of attrs.now)) }
+        ensures ok { IfOk result (λ style. style ≡ element_style (map rule_of rules.now) element.now (map property_of attrs.now)) }
         ensures err { OnlyOutOfMemory result }
     {
         if rules.len() <= SCANNED_RULES_MAX {

@@ -5,17 +5,12 @@ ghost use Rattle.html_render_dom_values.specs.Outcome.{OnlyOutOfMemory};
 
 use super::{Entry, PreorderForest, RenderNode, RenderTree};
 use html_render_dom_values::Error;
-use std::alloc::Global;
+use std::alloc::{AllocError, Global};
 
 impl RenderNode {
     /// Returns a copy of the node.
-    ///
-    /// # Errors
-    ///
-    /// `OutOfMemory` if an allocation is refused.
-    pub fn try_clone(&self, alloc: Global) -> Result<RenderNode, Error>
-        ensures ok { IfOk result (λ node. node ≡ self.now) }
-        ensures err { OnlyOutOfMemory result }
+    pub fn try_clone(&self, alloc: Global) -> Result<RenderNode, AllocError>
+        ensures { IfOk result (λ node. node ≡ self.now) }
     {
         Ok(RenderNode {
             kind: self.kind.try_clone(alloc)?,
@@ -26,9 +21,8 @@ impl RenderNode {
 }
 
 /// Returns a copy of an entry.
-fn copy_of(alloc: Global, entry: &Entry<RenderNode>) -> Result<Entry<RenderNode>, Error>
-    ensures ok { IfOk result (λ copy. copy ≡ entry.now) }
-    ensures err { OnlyOutOfMemory result }
+fn copy_of(alloc: Global, entry: &Entry<RenderNode>) -> Result<Entry<RenderNode>, AllocError>
+    ensures { IfOk result (λ copy. copy ≡ entry.now) }
 {
     let node = entry.node.try_clone(alloc)?;
     Ok(Entry {
@@ -38,9 +32,11 @@ fn copy_of(alloc: Global, entry: &Entry<RenderNode>) -> Result<Entry<RenderNode>
 }
 
 /// Returns copies of the entries, in order.
-fn copies_of(alloc: Global, entries: &[Entry<RenderNode>]) -> Result<Vec<Entry<RenderNode>>, Error>
-    ensures ok { IfOk result (λ copies. copies.items ≡ entries.now) }
-    ensures err { OnlyOutOfMemory result }
+fn copies_of(
+    alloc: Global,
+    entries: &[Entry<RenderNode>],
+) -> Result<Vec<Entry<RenderNode>>, AllocError>
+    ensures { IfOk result (λ copies. copies.items ≡ entries.now) }
 {
     let mut copies = Vec::with_capacity(alloc, entries.len())?;
     for entry in entries {

@@ -1,18 +1,15 @@
 //! Properties of each kind of node: its name in a dump, whether it accepts insertions, and its copy.
 
 ghost use Rattle.std.specs.Prelude.{◌≡◌, IfOk};
-ghost use Rattle.html_render_dom_values.specs.Outcome.{OnlyOutOfMemory};
 ghost use Rattle.html_render_layout_nodes.specs.Kinds.{holds_insertions, kind_name};
 
 use super::{Emphasis, Grid, Image, NodeKind};
-use html_render_dom_values::Error;
-use std::alloc::Global;
+use std::alloc::{AllocError, Global};
 
 impl Image {
     /// Returns a copy of the image.
-    fn try_clone(&self, alloc: Global) -> Result<Image, Error>
-        ensures ok { IfOk result (λ image. image ≡ self.now) }
-        ensures err { OnlyOutOfMemory result }
+    fn try_clone(&self, alloc: Global) -> Result<Image, AllocError>
+        ensures { IfOk result (λ image. image ≡ self.now) }
     {
         let source = self.source().clone()?;
         let title = self.title().clone()?;
@@ -22,9 +19,8 @@ impl Image {
 
 impl Grid {
     /// Returns a copy of the grid.
-    fn try_clone(&self, alloc: Global) -> Result<Grid, Error>
-        ensures ok { IfOk result (λ grid. grid ≡ self.now) }
-        ensures err { OnlyOutOfMemory result }
+    fn try_clone(&self, alloc: Global) -> Result<Grid, AllocError>
+        ensures { IfOk result (λ grid. grid ≡ self.now) }
     {
         let cells = self.cells().try_clone()?;
         let needs = Vec::from_slice(alloc, self.needs())?;
@@ -88,13 +84,8 @@ impl NodeKind {
     }
 
     /// Returns a copy of the kind.
-    ///
-    /// # Errors
-    ///
-    /// `OutOfMemory` if an allocation is refused.
-    pub fn try_clone(&self, alloc: Global) -> Result<NodeKind, Error>
-        ensures ok { IfOk result (λ kind. kind ≡ self.now) }
-        ensures err { OnlyOutOfMemory result }
+    pub fn try_clone(&self, alloc: Global) -> Result<NodeKind, AllocError>
+        ensures { IfOk result (λ kind. kind ≡ self.now) }
     {
         Ok(match self {
             NodeKind::Text(text) => NodeKind::Text(text.clone()?),

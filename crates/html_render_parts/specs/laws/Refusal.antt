@@ -1,8 +1,8 @@
 -- An error of a definition is an error of what continues it.
-use Rattle.std.specs.Prelude.{◌≡◌, Option, Some, None, option_and_then, refl}
+use Rattle.std.proofs.Common.{◌≡◌, Option, Some, None, Result, Ok, Err, option_and_then, refl, ◌∙◌}
 use Rattle.html_render_dom_values.specs.declared.errors.Error.{Error}
 use Rattle.html_render_dom_values.specs.declared.errors.Error.TheVariants.{TooNarrow, Fail, OutOfMemory}
-use Rattle.html_render_parts.specs.Refusal.{Fails}
+use Rattle.html_render_parts.specs.Refusal.{Builds, Fails, Makes}
 
 -- an error of a definition is one of the definition followed by another step
 pub Fails-then : {X Y : Type 0} (e : Error) (o : Option X) (f : X → Option Y) → Fails e o → Fails e (option_and_then f o)
@@ -21,5 +21,14 @@ Fails-same OutOfMemory o p q h = tt
 pub Fails-memory : {X : Type 0} (e : Error) (o : Option X) → e ≡ OutOfMemory → Fails e o
 Fails-memory OutOfMemory o h = tt
 Fails-memory e o h = cc
+
+-- an outcome of a definition is one of any equal definition
+pub Makes-same : {X S : Type 0} (result : Result X Error) (o p : Option S) (new : S) → o ≡ p → Makes result p new → Makes result o new
+Makes-same (Ok x) o p new q h = record { ok = q ∙ h.ok; err = tt }
+Makes-same (Err e) o p new q h = record { ok = tt; err = Fails-same e o p q h.err }
+
+pub Builds-same : {X S : Type 0} (result : Result X Error) (o p : Option S) (built : X → S) → o ≡ p → Builds result p built → Builds result o built
+Builds-same (Ok x) o p built q h = record { ok = q ∙ h.ok; err = tt }
+Builds-same (Err e) o p built q h = record { ok = tt; err = Fails-same e o p q h.err }
 
 pub ruleset refusals = (Fails-then, Fails-same, Fails-memory)

@@ -14,7 +14,7 @@ ghost use Rattle.html_render_parts.specs.SimpleRows.{AllStoredFit, StoredFit, fi
 ghost use Rattle.html_render_parts.specs.Grid.{AreValid, edges_of};
 ghost use Rattle.html_render_parts.specs.Positions.{positions_fit};
 ghost use Rattle.html_render_parts.specs.TableCells.{cell_grid_of, columns_of, rows_on, span_on};
-ghost use Rattle.html_render_parts.specs.Refusal.{Fails};
+ghost use Rattle.html_render_parts.specs.Refusal.{Builds, Fails};
 
 use crate::table::gathering::Positions;
 use crate::table::placement::{PositionedCell, RowPlacer};
@@ -245,8 +245,7 @@ impl TableCells {
     /// - `OutOfMemory`.
     pub fn new(alloc: Global, rows: &[Vec<Span>]) -> Result<TableCells, Error>
         requires { AreValid (lists rows.now) }
-        ensures ok { IfOk result (λ cells. cell_grid_of (lists rows.now) ≡ Some cells) }
-        ensures err { IfErr result (λ e. Fails e (cell_grid_of (lists rows.now))) }
+        ensures { Builds result (cell_grid_of (lists rows.now)) (λ cells. cells) }
     {
         let placed = place_cells(alloc, rows)?;
         let rows = rows_on_columns(alloc, &placed.edges, rows, &placed.own)?;
@@ -282,10 +281,9 @@ impl TableCells {
     ///
     /// # Errors
     ///
-    /// `OutOfMemory` if there are 2^63 copies.
-    pub fn try_clone(&self) -> Result<TableCells, Error>
-        ensures ok { IfOk result (λ copy. copy ≡ self.now) }
-        ensures err { OnlyOutOfMemory result }
+    /// `AllocError` if there are 2^63 copies.
+    pub fn try_clone(&self) -> Result<TableCells, AllocError>
+        ensures { IfOk result (λ copy. copy ≡ self.now) }
     {
         let shared = self.shared.clone()?;
         Ok(TableCells { shared })

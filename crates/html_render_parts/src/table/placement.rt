@@ -1,16 +1,15 @@
 //! Positions of a table's cells in its rows, before the edges are numbered.
 
 ghost use Rattle.std.specs.Prelude.{◌≡◌, ◌↔◌, ◌≤◌, ◌∷◌, nat_lt, [], Some, filter, IsTrue, IfOk, OnOk, IfErr, MatchBool, MatchOption, Contains, All};
-ghost use Rattle.html_render_dom_values.specs.Outcome.{OnlyOutOfMemory};
 ghost use Rattle.html_render_parts.specs.Placement.{bottom_rows, end_of, lists, not_due, placed_rows};
 ghost use Rattle.html_render_parts.specs.Positions.{hangs_into};
 ghost use Rattle.html_render_parts.specs.PlacementSteps.{empty_row, put, put_to, telling_end, owning, keeping, with_hanging, with_due, with_own};
 ghost use Rattle.html_render_parts.specs.PlacementSteps.{with_gap, with_rest, with_row, nothing_placed, with_next_row, IsNextBottom, fitting_positions};
-ghost use Rattle.html_render_parts.specs.Refusal.{Fails};
+ghost use Rattle.html_render_parts.specs.Refusal.{Builds, Fails, Makes};
 
 use crate::table::{CellKind, Span};
 use html_render_dom_values::Error;
-use std::alloc::Global;
+use std::alloc::{AllocError, Global};
 use std::marker::Model;
 use std::mem;
 
@@ -143,8 +142,7 @@ impl RowBuilder {
 
     /// Appends a place from the cursor to `end`.
     fn put_to(&mut self, kind: CellKind, end: u128) -> Result<(), Error>
-        ensures ok { OnOk result (put_to kind end self.old ≡ Some self.new) }
-        ensures err { IfErr result (λ e. Fails e (put_to kind end self.old)) }
+        ensures { Makes result (put_to kind end self.old) self.new }
     {
         let start = self.cursor;
         self.places.push(Place { kind, start, end })?;
@@ -154,8 +152,7 @@ impl RowBuilder {
 
     /// Appends a place of `columns` columns at the cursor. `Fail` if it would end past `u128::MAX`.
     fn put(&mut self, kind: CellKind, columns: u128) -> Result<(), Error>
-        ensures ok { OnOk result (put kind columns self.old ≡ Some self.new) }
-        ensures err { IfErr result (λ e. Fails e (put kind columns self.old)) }
+        ensures { Makes result (put kind columns self.old) self.new }
     {
         match self.cursor().checked_add(columns) {
             Some(end) => self.put_to(kind, end),
@@ -164,9 +161,8 @@ impl RowBuilder {
     }
 
     /// Records the end of the last place.
-    fn tell_end(&mut self) -> Result<(), Error>
-        ensures ok { OnOk result (self.new ≡ telling_end self.old) }
-        ensures err { OnlyOutOfMemory result }
+    fn tell_end(&mut self) -> Result<(), AllocError>
+        ensures { OnOk result (self.new ≡ telling_end self.old) }
     {
         let end = self.cursor;
         self.told.push(end)?;
@@ -174,9 +170,8 @@ impl RowBuilder {
     }
 
     /// Keeps a cell, placed in the row `row`, if it hangs into the next one.
-    fn keep(&mut self, row: usize, cell: PositionedCell) -> Result<(), Error>
-        ensures ok { OnOk result (self.new ≡ keeping row (cell ∷ []) self.old) }
-        ensures err { OnlyOutOfMemory result }
+    fn keep(&mut self, row: usize, cell: PositionedCell) -> Result<(), AllocError>
+        ensures { OnOk result (self.new ≡ keeping row (cell ∷ []) self.old) }
     {
         if cell.hangs_into(row as u128 + 1) {
             self.kept.push(cell)?;
@@ -185,9 +180,8 @@ impl RowBuilder {
     }
 
     /// Keeps those of the cells, placed in the row `row`, that hang into the next one.
-    fn keep_all(&mut self, row: usize, cells: &[PositionedCell]) -> Result<(), Error>
-        ensures ok { OnOk result (self.new ≡ keeping row cells.now self.old) }
-        ensures err { OnlyOutOfMemory result }
+    fn keep_all(&mut self, row: usize, cells: &[PositionedCell]) -> Result<(), AllocError>
+        ensures { OnOk result (self.new ≡ keeping row cells.now self.old) }
     {
         for cell in cells {
             self.keep(row, *cell)?;
@@ -196,9 +190,8 @@ impl RowBuilder {
     }
 
     /// Adds a cell to the row's own.
-    fn take_own(&mut self, cell: PositionedCell) -> Result<(), Error>
-        ensures ok { OnOk result (self.new ≡ owning cell self.old) }
-        ensures err { OnlyOutOfMemory result }
+    fn take_own(&mut self, cell: PositionedCell) -> Result<(), AllocError>
+        ensures { OnOk result (self.new ≡ owning cell self.old) }
     {
         self.own.push(cell)?;
         Ok(())
@@ -206,8 +199,7 @@ impl RowBuilder {
 
     /// Places the placeholder of a hanging cell at the cursor. If that is past the cell's own column, records the end.
     fn put_hanging(&mut self, cell: PositionedCell) -> Result<(), Error>
-        ensures ok { OnOk result (with_hanging cell self.old ≡ Some self.new) }
-        ensures err { IfErr result (λ e. Fails e (with_hanging cell self.old)) }
+        ensures { Makes result (with_hanging cell self.old) self.new }
     {
         let displaced = cell.column < self.cursor();
         self.put(CellKind::Placeholder, cell.span.colspan)?;
@@ -220,8 +212,7 @@ impl RowBuilder {
     /// Places one of the row's own cells at the cursor.
     #[tactic(auto, using(crate::proofs::HangingOrder::ends_here))]
     fn put_own(&mut self, row: usize, span: Span) -> Result<(), Error>
-        ensures ok { OnOk result (with_own row span self.old ≡ Some self.new) }
-        ensures err { IfErr result (λ e. Fails e (with_own row span self.old)) }
+        ensures { Makes result (with_own row span self.old) self.new }
     {
         let column = self.cursor();
         let cell = PositionedCell { row, column, span };
@@ -231,13 +222,12 @@ impl RowBuilder {
         if span.rowspan <= 1 {
             return Ok(());
         }
-        self.keep(row, cell)
+        Ok(self.keep(row, cell)?)
     }
 
     /// Places a gap up to a column, if the cursor isn't there yet.
     fn put_gap(&mut self, column: u128) -> Result<(), Error>
-        ensures ok { OnOk result (with_gap column self.old ≡ Some self.new) }
-        ensures err { IfErr result (λ e. Fails e (with_gap column self.old)) }
+        ensures { Makes result (with_gap column self.old) self.new }
     {
         if self.cursor() < column {
             self.put_to(CellKind::Gap, column)?;
@@ -252,9 +242,8 @@ impl RowBuilder {
         row: usize,
         hanging: &'a [PositionedCell],
     ) -> Result<&'a [PositionedCell], Error>
-        ensures ok { OnOk result (with_due row hanging.now self.old ≡ Some self.new) }
+        ensures placed { Makes result (with_due row hanging.now self.old) self.new }
         ensures rest { IfOk result (λ rest. rest.now ≡ not_due self.old.cursor hanging.now) }
-        ensures err { IfErr result (λ e. Fails e (with_due row hanging.now self.old)) }
     {
         for (i, cell) in hanging.iter().enumerate() {
             if self.cursor() < cell.column {
@@ -269,8 +258,7 @@ impl RowBuilder {
     /// Places the placeholders after the row's own cells, each at the greater of the cursor and its cell's own column, after
     /// a gap if there is room.
     fn put_rest(&mut self, hanging: &[PositionedCell]) -> Result<(), Error>
-        ensures ok { OnOk result (with_rest hanging.now self.old ≡ Some self.new) }
-        ensures err { IfErr result (λ e. Fails e (with_rest hanging.now self.old)) }
+        ensures { Makes result (with_rest hanging.now self.old) self.new }
     {
         for cell in hanging {
             self.put_gap(cell.column)?;
@@ -287,8 +275,7 @@ impl RowBuilder {
         cells: &[Span],
         hanging: &[PositionedCell],
     ) -> Result<(), Error>
-        ensures ok { OnOk result (with_row row cells.now hanging.now self.old ≡ Some self.new) }
-        ensures err { IfErr result (λ e. Fails e (with_row row cells.now hanging.now self.old)) }
+        ensures { Makes result (with_row row cells.now hanging.now self.old) self.new }
     {
         let mut rest = hanging;
         for span in cells {
@@ -296,7 +283,7 @@ impl RowBuilder {
             self.put_own(row, *span)?;
         }
         self.put_rest(rest)?;
-        self.keep_all(row, rest)
+        Ok(self.keep_all(row, rest)?)
     }
 
     /// Exchanges the kept cells for others.
@@ -394,8 +381,7 @@ impl RowPlacer {
 
     /// Places the next row, `row`, with these own cells. On an error the hanging cells are unchanged.
     pub(crate) fn place_row(&mut self, row: usize, cells: &[Span]) -> Result<(), Error>
-        ensures ok { OnOk result (with_next_row row cells.now self.old ≡ Some self.new) }
-        ensures err { IfErr result (λ e. Fails e (with_next_row row cells.now self.old)) }
+        ensures placed { Makes result (with_next_row row cells.now self.old) self.new }
         ensures hanging { IfErr result (λ e. self.new.hanging ≡ self.old.hanging) }
     {
         self.last.clear();
@@ -423,8 +409,7 @@ impl RowPlacer {
 
 /// Returns the places of all rows of a table, and of the rows below the last one. `Fail` if one would end past `u128::MAX`.
 pub(crate) fn place_rows(alloc: Global, rows: &[Vec<Span>]) -> Result<Vec<Vec<Place>>, Error>
-    ensures ok { IfOk result (λ all. fitting_positions (placed_rows (lists rows.now)) ≡ Some (lists all.items)) }
-    ensures err { IfErr result (λ e. Fails e (fitting_positions (placed_rows (lists rows.now)))) }
+    ensures { Builds result (fitting_positions (placed_rows (lists rows.now))) (λ all. lists all.items) }
 {
     let mut placed = Vec::new(alloc);
     let mut placer = RowPlacer::new(alloc);

@@ -1,17 +1,16 @@
 //! Spans of the cells of a table, row by row, as its elements ask for them.
 
 ghost use Rattle.std.specs.Prelude.{◌≡◌, ◌+◌, ◌-◌, ◌<◌, ◌^◌, ◌++◌, ◌∷◌, [], All, IfOk, OnOk, OnErr, IfErr, Some, map};
-ghost use Rattle.html_render_dom_values.specs.Outcome.{OnlyOutOfMemory};
 ghost use Rattle.html_render_parts.specs.Grid.{AreValid};
 ghost use Rattle.html_render_parts.specs.Placement.{lists};
 ghost use Rattle.html_render_parts.specs.Spans.{AreAsked, width_of, greatest_width, spanned, spanned_in};
 ghost use Rattle.html_render_parts.specs.TableCells.{cell_grid_of};
-ghost use Rattle.html_render_parts.specs.Refusal.{Fails};
+ghost use Rattle.html_render_parts.specs.Refusal.{Builds};
 
 use crate::table::cells::TableCells;
 use crate::table::{Span, spans_are_valid};
 use html_render_dom_values::Error;
-use std::alloc::Global;
+use std::alloc::{AllocError, Global};
 use std::marker::Model;
 
 /// Number of cells that memory is reserved for at a row's first one.
@@ -49,11 +48,10 @@ impl RowCells {
     ///
     /// # Errors
     ///
-    /// `OutOfMemory` if an allocation is refused.
+    /// `AllocError` if an allocation is refused.
     #[tactic(auto, using(crate::proofs::ValidSpans::asked_more))]
-    pub fn push(&mut self, colspan: usize, rowspan: usize) -> Result<(), Error>
-        ensures ok { OnOk result (self.new ≡ self.old ++ (record { colspan = colspan; rowspan = rowspan }) ∷ []) }
-        ensures err { OnlyOutOfMemory result }
+    pub fn push(&mut self, colspan: usize, rowspan: usize) -> Result<(), AllocError>
+        ensures { OnOk result (self.new ≡ self.old ++ (record { colspan = colspan; rowspan = rowspan }) ∷ []) }
     {
         if self.cells.is_empty() {
             self.cells.reserve(USUAL_CELLS)?;
@@ -99,11 +97,10 @@ impl PartRows {
     ///
     /// # Errors
     ///
-    /// `OutOfMemory` if an allocation is refused.
+    /// `AllocError` if an allocation is refused.
     #[tactic(auto, using(crate::proofs::ValidSpans::rows_more, crate::proofs::ValidSpans::all_asked_more))]
-    pub fn push(&mut self, row: RowCells) -> Result<(), Error>
-        ensures ok { OnOk result (self.new ≡ self.old ++ row ∷ []) }
-        ensures err { OnlyOutOfMemory result }
+    pub fn push(&mut self, row: RowCells) -> Result<(), AllocError>
+        ensures { OnOk result (self.new ≡ self.old ++ row ∷ []) }
     {
         self.rows.push(row.cells)?;
         Ok(())
@@ -154,11 +151,10 @@ fn spanned(missing: u128, cell: &Span) -> Span
 }
 
 /// Returns the spans of the cells of a row in a part of a table whose widest row has this width.
-fn spanned_row(alloc: Global, widest: u128, cells: &[Span]) -> Result<Vec<Span>, Error>
+fn spanned_row(alloc: Global, widest: u128, cells: &[Span]) -> Result<Vec<Span>, AllocError>
     requires widest { widest + 1 < 2 ^ 128 }
     requires asked { AreAsked cells.now }
-    ensures ok { IfOk result (λ spans. spans.items ≡ map (spanned (widest - width_of cells.now)) cells.now) }
-    ensures err { OnlyOutOfMemory result }
+    ensures { IfOk result (λ spans. spans.items ≡ map (spanned (widest - width_of cells.now)) cells.now) }
 {
     let missing = widest.saturating_sub(width_of(cells));
     let spans: Vec<Span> = cells
@@ -169,18 +165,13 @@ fn spanned_row(alloc: Global, widest: u128, cells: &[Span]) -> Result<Vec<Span>,
 }
 
 /// Appends the spans of the cells of a part's rows. Valid rows stay valid, also if an allocation is refused.
-///
-/// # Errors
-///
-/// `OutOfMemory` if an allocation is refused.
 #[tactic(auto, using(crate::proofs::ValidSpans::row_asked, crate::proofs::ValidSpans::valid_more))]
 #[inline(never)]
-fn push_rows(alloc: Global, part: &[Vec<Span>], rows: &mut Vec<Vec<Span>>) -> Result<(), Error>
+fn push_rows(alloc: Global, part: &[Vec<Span>], rows: &mut Vec<Vec<Span>>) -> Result<(), AllocError>
     requires { All AreAsked (lists part.now) }
     ensures ok { OnOk result (lists rows.new.items
         ≡ lists rows.old.items ++ spanned_in (greatest_width (lists part.now)) (lists part.now)) }
     ensures valid { AreValid (lists rows.old.items) → AreValid (lists rows.new.items) }
-    ensures err { OnlyOutOfMemory result }
 {
     let widest = greatest_width(part);
     for row in part {
@@ -190,14 +181,9 @@ fn push_rows(alloc: Global, part: &[Vec<Span>], rows: &mut Vec<Vec<Span>>) -> Re
 }
 
 /// Appends rows, or takes their memory if there are none before.
-///
-/// # Errors
-///
-/// `OutOfMemory` if an allocation is refused.
-fn append_rows(rows: &mut Vec<Vec<Span>>, mut part: Vec<Vec<Span>>) -> Result<(), Error>
+fn append_rows(rows: &mut Vec<Vec<Span>>, mut part: Vec<Vec<Span>>) -> Result<(), AllocError>
     ensures ok { OnOk result (rows.new.items ≡ rows.old.items ++ part.items) }
     ensures kept { OnErr result (rows.new.items ≡ rows.old.items) }
-    ensures err { OnlyOutOfMemory result }
 {
     if rows.is_empty() {
         *rows = part;
@@ -240,11 +226,10 @@ impl TableSpans {
     ///
     /// # Errors
     ///
-    /// `OutOfMemory` if an allocation is refused.
+    /// `AllocError` if an allocation is refused.
     #[tactic(auto, using(crate::proofs::ValidSpans::rows_moved, crate::proofs::ValidSpans::valid_moved))]
-    pub fn push_part(&mut self, part: PartRows) -> Result<(), Error>
-        ensures ok { OnOk result (self.new ≡ self.old ++ spanned_in (greatest_width part) part) }
-        ensures err { OnlyOutOfMemory result }
+    pub fn push_part(&mut self, part: PartRows) -> Result<(), AllocError>
+        ensures { OnOk result (self.new ≡ self.old ++ spanned_in (greatest_width part) part) }
     {
         let rows = part.rows;
         if spans_are_valid(rows.as_slice()) {
@@ -260,8 +245,7 @@ impl TableSpans {
     ///
     /// `Fail` exactly if a cell ends after column or row `u128::MAX`, and `OutOfMemory` if an allocation is refused.
     pub fn cells(&self, alloc: Global) -> Result<TableCells, Error>
-        ensures ok { IfOk result (λ cells. cell_grid_of self.now ≡ Some cells) }
-        ensures err { IfErr result (λ e. Fails e (cell_grid_of self.now)) }
+        ensures { Builds result (cell_grid_of self.now) (λ cells. cells) }
     {
         TableCells::new(alloc, self.rows.as_slice())
     }

@@ -1,8 +1,7 @@
 //! Elements that close: what is written of them, and what their parents keep.
 
 ghost use Rattle.std.specs.Prelude.{◌≡◌, ◌++◌, IfErr, OnOk, Some, drop, option_map, take};
-ghost use Rattle.html_render_dom_values.specs.Outcome.{OnlyOutOfMemory};
-ghost use Rattle.html_render_parts.specs.Refusal.{Fails};
+ghost use Rattle.html_render_parts.specs.Refusal.{Makes};
 ghost use Rattle.html_render_tree_convert.specs.Steps.{closed, closed_as, closed_in, closed_node, closed_once, come, given_back, mark_left, on_grid, role_left, with_back};
 
 use super::{Conversion, put_in};
@@ -13,7 +12,7 @@ use crate::spans::grid_of;
 use html_render_dom_values::Error;
 use html_render_layout_nodes::tree::{NodeKind, RenderNode};
 use html_render_parts::table::spans::RowCells;
-use std::alloc::Global;
+use std::alloc::{AllocError, Global};
 
 impl Conversion {
     /// Closes the innermost open element, and a container round it.
@@ -24,8 +23,7 @@ impl Conversion {
     /// refused.
     #[inline(always)]
     pub fn close(&mut self, alloc: Global) -> Result<(), Error>
-        ensures ok { OnOk result (Some self.new ≡ closed self.old) }
-        ensures err { IfErr result (λ e. Fails e (closed self.old)) }
+        ensures { Makes result (closed self.old) self.new }
     {
         let is_wrapped = self.innermost.is_wrapped;
         self.close_once(alloc)?;
@@ -44,8 +42,7 @@ impl Conversion {
     /// refused.
     #[inline(always)]
     fn close_once(&mut self, alloc: Global) -> Result<(), Error>
-        ensures ok { OnOk result (Some self.new ≡ closed_once self.old) }
-        ensures err { IfErr result (λ e. Fails e (closed_once self.old)) }
+        ensures { Makes result (closed_once self.old) self.new }
     {
         if !self.innermost.due.is_none() || self.innermost.vanishes() {
             return self.close_any(alloc);
@@ -61,7 +58,7 @@ impl Conversion {
                 };
                 self.innermost = parent;
                 let parent = &mut self.innermost;
-                close_node(role, has_children, is_stray, start, parent, &mut self.tree)
+                Ok(close_node(role, has_children, is_stray, start, parent, &mut self.tree)?)
             }
             OpenKind::Node(_) => {
                 let Some(parent) = self.outer.pop() else {
@@ -79,7 +76,7 @@ impl Conversion {
                 let role = Role::Row(std::mem::replace(cells, RowCells::new(alloc)));
                 self.innermost = parent;
                 let parent = &mut self.innermost;
-                close_node(role, has_children, is_stray, start, parent, &mut self.tree)
+                Ok(close_node(role, has_children, is_stray, start, parent, &mut self.tree)?)
             }
             _ => self.close_any(alloc),
         }
@@ -93,8 +90,7 @@ impl Conversion {
     /// refused.
     #[inline(never)]
     fn close_any(&mut self, alloc: Global) -> Result<(), Error>
-        ensures ok { OnOk result (Some self.new ≡ closed_once self.old) }
-        ensures err { IfErr result (λ e. Fails e (closed_once self.old)) }
+        ensures { Makes result (closed_once self.old) self.new }
     {
         let Some(parent) = self.outer.pop() else {
             return Ok(());
@@ -124,16 +120,15 @@ fn close_in(
     tree: &mut Tree,
     spare: &mut Spare,
 ) -> Result<(), Error>
-    ensures ok { OnOk result (Some (record { element = parent.new; tree = tree.new.items })
-        ≡ closed_in element (record { element = parent.old; tree = tree.old.items })) }
-    ensures err { IfErr result (λ e. Fails e (closed_in element (record { element = parent.old; tree = tree.old.items }))) }
+    ensures { Makes result (closed_in element (record { element = parent.old; tree = tree.old.items }))
+        (record { element = parent.new; tree = tree.new.items }) }
 {
     // most elements become nodes that have no role in a table
     if !matches!(element.kind, OpenKind::Node(_)) {
         return close_part(alloc, element, parent, tree, spare);
     }
     if element.vanishes() {
-        return vanish(element, parent, tree);
+        return Ok(vanish(element, parent, tree)?);
     }
     write_due(element.due, element.start, tree, spare)?;
     close_contents(
@@ -160,29 +155,23 @@ fn close_part(
     tree: &mut Tree,
     spare: &mut Spare,
 ) -> Result<(), Error>
-    ensures ok { OnOk result (Some (record { element = parent.new; tree = tree.new.items })
-        ≡ closed_in element (record { element = parent.old; tree = tree.old.items })) }
-    ensures err { IfErr result (λ e. Fails e (closed_in element (record { element = parent.old; tree = tree.old.items }))) }
+    ensures { Makes result (closed_in element (record { element = parent.old; tree = tree.old.items }))
+        (record { element = parent.new; tree = tree.new.items }) }
 {
     give_back(alloc, &mut element, parent)?;
     set_grid(alloc, &element.kind, element.start, tree)?;
     if element.vanishes() {
-        return vanish(element, parent, tree);
+        return Ok(vanish(element, parent, tree)?);
     }
-    close_standing(element, parent, tree, spare)
+    Ok(close_standing(element, parent, tree, spare)?)
 }
 
 /// Gives its insertion back to a table of which a part had no row.
-///
-/// # Errors
-///
-/// `OutOfMemory` if an allocation is refused.
 #[inline(always)]
-fn give_back(alloc: Global, element: &mut Open, parent: &mut Open) -> Result<(), Error>
+fn give_back(alloc: Global, element: &mut Open, parent: &mut Open) -> Result<(), AllocError>
     ensures parent { OnOk result (parent.new ≡ given_back element.old parent.old) }
     ensures element { OnOk result (element.new ≡ record element.old { due = element.new.due }) }
     ensures due { OnOk result (element.new.due ≡ record element.old.due { given = element.new.due.given }) }
-    ensures err { OnlyOutOfMemory result }
 {
     if let (OpenKind::Rows(_), OpenKind::Parts(_)) = (&element.kind, &parent.kind) {
         let given = element.due.take_given(alloc);
@@ -199,9 +188,8 @@ fn give_back(alloc: Global, element: &mut Open, parent: &mut Open) -> Result<(),
 /// refused.
 #[inline(always)]
 fn set_grid(alloc: Global, kind: &OpenKind, start: usize, tree: &mut Tree) -> Result<(), Error>
-    ensures own { OnOk result (on_grid kind.now (drop start tree.old.items) ≡ Some (drop start tree.new.items)) }
+    ensures own { Makes result (on_grid kind.now (drop start tree.old.items)) (drop start tree.new.items) }
     ensures below { OnOk result (take start tree.new.items ≡ take start tree.old.items) }
-    ensures err { IfErr result (λ e. Fails e (on_grid kind.now (drop start tree.old.items))) }
 {
     if let OpenKind::Parts(spans) = kind {
         let grid = grid_of(alloc, spans)?;
@@ -211,15 +199,10 @@ fn set_grid(alloc: Global, kind: &OpenKind, start: usize, tree: &mut Tree) -> Re
 }
 
 /// Removes the nodes of an element that vanishes, and puts its mark, if it has one.
-///
-/// # Errors
-///
-/// `OutOfMemory` if an allocation is refused.
 #[inline(never)]
-fn vanish(element: Open, parent: &mut Open, tree: &mut Tree) -> Result<(), Error>
-    ensures ok { OnOk result (record { element = parent.new; tree = tree.new.items }
+fn vanish(element: Open, parent: &mut Open, tree: &mut Tree) -> Result<(), AllocError>
+    ensures { OnOk result (record { element = parent.new; tree = tree.new.items }
         ≡ come (mark_left element.due.mark) (record { element = parent.old; tree = take element.start tree.old.items })) }
-    ensures err { OnlyOutOfMemory result }
 {
     tree.truncate(element.start);
     match element.due.into_mark() {
@@ -233,20 +216,15 @@ fn vanish(element: Open, parent: &mut Open, tree: &mut Tree) -> Result<(), Error
 }
 
 /// Closes an element that doesn't vanish.
-///
-/// # Errors
-///
-/// `OutOfMemory` if an allocation is refused.
 fn close_standing(
     element: Open,
     parent: &mut Open,
     tree: &mut Tree,
     spare: &mut Spare,
-) -> Result<(), Error>
-    ensures ok { OnOk result (record { element = parent.new; tree = tree.new.items }
+) -> Result<(), AllocError>
+    ensures { OnOk result (record { element = parent.new; tree = tree.new.items }
         ≡ come (closed_as element.kind element (drop element.start tree.old.items))
         (record { element = parent.old; tree = take element.start tree.old.items })) }
-    ensures err { OnlyOutOfMemory result }
 {
     let Open {
         kind,
@@ -288,15 +266,10 @@ fn role_left(kind: OpenKind) -> Role
 }
 
 /// Writes what is due after the children of an element whose node is at `start`.
-///
-/// # Errors
-///
-/// `OutOfMemory` if an allocation is refused.
 #[inline(always)]
-fn write_due(due: Due, start: usize, tree: &mut Tree, spare: &mut Spare) -> Result<(), Error>
+fn write_due(due: Due, start: usize, tree: &mut Tree, spare: &mut Spare) -> Result<(), AllocError>
     ensures own { OnOk result (drop start tree.new.items ≡ with_back due.own.back (drop start tree.old.items)) }
     ensures below { OnOk result (take start tree.new.items ≡ take start tree.old.items) }
-    ensures err { OnlyOutOfMemory result }
 {
     if due.is_none() || start >= tree.len() {
         return Ok(());
@@ -305,10 +278,6 @@ fn write_due(due: Due, start: usize, tree: &mut Tree, spare: &mut Spare) -> Resu
 }
 
 /// Closes an element whose node is at `start`, if its parent keeps it.
-///
-/// # Errors
-///
-/// `OutOfMemory` if an allocation is refused.
 #[inline(always)]
 fn close_node(
     role: Role,
@@ -317,10 +286,9 @@ fn close_node(
     start: usize,
     parent: &mut Open,
     tree: &mut Tree,
-) -> Result<(), Error>
-    ensures ok { OnOk result (record { element = parent.new; tree = tree.new.items }
+) -> Result<(), AllocError>
+    ensures { OnOk result (record { element = parent.new; tree = tree.new.items }
         ≡ come (closed_node role has_children is_stray (drop start tree.old.items)) (record { element = parent.old; tree = take start tree.old.items })) }
-    ensures err { OnlyOutOfMemory result }
 {
     let Some(entry) = tree.get(start) else {
         return Ok(());

@@ -1,8 +1,6 @@
 //! Elements that open: their nodes, what they insert in front of their children, and what is due in them.
 
 ghost use Rattle.std.specs.Prelude.{◌≡◌, ◌++◌, IfOk, None, OnOk, option_copied, true};
-ghost use Rattle.html_render_dom_values.specs.Outcome.{OnlyOutOfMemory};
-ghost use Rattle.html_render_dom.specs.ElementStyle.{style_of};
 ghost use Rattle.html_render_tree_convert.specs.ElementTexts.{has_any, no_texts};
 ghost use Rattle.html_render_tree_convert.specs.Held.{held_back, insertion_in, nothing_held, text_nodes};
 ghost use Rattle.html_render_tree_convert.specs.Plans.{element_of};
@@ -18,11 +16,10 @@ use crate::mapping::{ElementKind, IfEmpty, node_style};
 use crate::plans::{Element, ElementTexts, copy_of};
 use crate::tables::{CellSpan, Part};
 use html_render_dom::style::ComputedStyle;
-use html_render_dom_values::Error;
 use html_render_layout_nodes::text::NodeText;
 use html_render_layout_nodes::tree::{Estimate, NodeKind, NodeStyle, RenderNode};
 use html_render_parts::table::spans::{PartRows, RowCells, TableSpans};
-use std::alloc::Global;
+use std::alloc::{AllocError, Global};
 
 /// Returns an unmeasured node of a style.
 fn node_in(style: NodeStyle, kind: NodeKind) -> RenderNode
@@ -36,14 +33,9 @@ fn node_in(style: NodeStyle, kind: NodeKind) -> RenderNode
 }
 
 /// Begins the rows of a table without a caption. What is written in it is due in its first cell.
-///
-/// # Errors
-///
-/// `OutOfMemory` if an allocation is refused.
-fn make_parts(alloc: Global, table: &mut Open, tree: &mut Tree) -> Result<(), Error>
-    ensures ok { OnOk result (record { element = table.new; tree = tree.new.items }
+fn make_parts(alloc: Global, table: &mut Open, tree: &mut Tree) -> Result<(), AllocError>
+    ensures { OnOk result (record { element = table.new; tree = tree.new.items }
         ≡ without_captions (record { element = table.old; tree = tree.old.items })) }
-    ensures err { OnlyOutOfMemory result }
 {
     let front = take_inside(alloc, tree, table.start)?;
     table.kind = OpenKind::Parts(TableSpans::new(alloc));
@@ -56,20 +48,15 @@ fn make_parts(alloc: Global, table: &mut Open, tree: &mut Tree) -> Result<(), Er
 
 impl Conversion {
     /// Opens an element over a node that writes these texts in front of its children, and the rest after them.
-    ///
-    /// # Errors
-    ///
-    /// `OutOfMemory` if an allocation is refused.
     fn hold(
         &mut self,
         alloc: Global,
         mut element: Open,
         node: RenderNode,
         texts: ElementTexts,
-    ) -> Result<(), Error>
-        ensures ok { OnOk result (self.new ≡ begun_over (record element { due = held_back texts.mark (text_nodes NodeKind.Text texts.after) })
+    ) -> Result<(), AllocError>
+        ensures { OnOk result (self.new ≡ begun_over (record element { due = held_back texts.mark (text_nodes NodeKind.Text texts.after) })
             node (text_nodes NodeKind.FragmentStart texts.mark ++ text_nodes NodeKind.Text texts.before) self.old) }
-        ensures err { OnlyOutOfMemory result }
     {
         let ElementTexts {
             mark,
@@ -83,10 +70,6 @@ impl Conversion {
     }
 
     /// Opens an element over a node that writes the content before its children and the one after them, copied.
-    ///
-    /// # Errors
-    ///
-    /// `OutOfMemory` if an allocation is refused.
     #[inline(always)]
     fn hold_contents(
         &mut self,
@@ -95,10 +78,9 @@ impl Conversion {
         node: RenderNode,
         before: Option<&NodeText>,
         after: Option<&NodeText>,
-    ) -> Result<(), Error>
-        ensures ok { OnOk result (self.new ≡ begun_over (record element { due = held_back None (text_nodes NodeKind.Text (option_copied after.entry)) })
+    ) -> Result<(), AllocError>
+        ensures { OnOk result (self.new ≡ begun_over (record element { due = held_back None (text_nodes NodeKind.Text (option_copied after.entry)) })
             node (text_nodes NodeKind.Text (option_copied before.entry)) self.old) }
-        ensures err { OnlyOutOfMemory result }
     {
         let after = copy_of(after)?;
         element.due = Due::held_back(alloc, None, after, &mut self.spare)?;
@@ -110,10 +92,6 @@ impl Conversion {
     }
 
     /// Opens an element that becomes a node and inserts nothing.
-    ///
-    /// # Errors
-    ///
-    /// `OutOfMemory` if an allocation is refused.
     #[tactic(auto, unfolding(crate::specs::Steps::opened))]
     #[inline(always)]
     fn open_node(
@@ -121,9 +99,8 @@ impl Conversion {
         kind: NodeKind,
         style: NodeStyle,
         if_empty: IfEmpty,
-    ) -> Result<(), Error>
-        ensures ok { OnOk result (self.new ≡ opened (record { kind = ElementKind.Node kind; style = style; if_empty = if_empty; texts = no_texts }) self.old) }
-        ensures err { OnlyOutOfMemory result }
+    ) -> Result<(), AllocError>
+        ensures { OnOk result (self.new ≡ opened (record { kind = ElementKind.Node kind; style = style; if_empty = if_empty; texts = no_texts }) self.old) }
     {
         let keeping = Keeping::of(&kind);
         let open = Open::new(OpenKind::Node(keeping), Due::none(), if_empty, false);
@@ -131,34 +108,24 @@ impl Conversion {
     }
 
     /// Opens a cell of a row that inserts nothing, in an element that has nothing to write.
-    ///
-    /// # Errors
-    ///
-    /// `OutOfMemory` if an allocation is refused.
     #[tactic(auto, unfolding(crate::specs::Steps::opened))]
     #[inline(always)]
-    fn open_plain_cell(&mut self, span: CellSpan, style: NodeStyle) -> Result<(), Error>
+    fn open_plain_cell(&mut self, span: CellSpan, style: NodeStyle) -> Result<(), AllocError>
         requires { self.old.element.due ≡ nothing_held }
-        ensures ok { (if_empty : IfEmpty) → OnOk result (self.new
+        ensures { (if_empty : IfEmpty) → OnOk result (self.new
             ≡ opened (record { kind = ElementKind.Part (Part.Cell span); style = style; if_empty = if_empty; texts = no_texts }) self.old) }
-        ensures err { OnlyOutOfMemory result }
     {
         let open = Open::new(OpenKind::Cell(span), Due::none(), IfEmpty::Stands, false);
         self.begin_kind(open, style, NodeKind::TableCell)
     }
 
     /// Opens a row of a table that inserts nothing, in an element that has nothing to write.
-    ///
-    /// # Errors
-    ///
-    /// `OutOfMemory` if an allocation is refused.
     #[tactic(auto, unfolding(crate::specs::Steps::opened))]
     #[inline(always)]
-    fn open_plain_row(&mut self, alloc: Global, style: NodeStyle) -> Result<(), Error>
+    fn open_plain_row(&mut self, alloc: Global, style: NodeStyle) -> Result<(), AllocError>
         requires { self.old.element.due ≡ nothing_held }
-        ensures ok { (if_empty : IfEmpty) → OnOk result (self.new
+        ensures { (if_empty : IfEmpty) → OnOk result (self.new
             ≡ opened (record { kind = ElementKind.Part Part.Row; style = style; if_empty = if_empty; texts = no_texts }) self.old) }
-        ensures err { OnlyOutOfMemory result }
     {
         let row = OpenKind::Row(RowCells::new(alloc));
         let open = Open::new(row, Due::none(), IfEmpty::Stands, false);
@@ -166,43 +133,29 @@ impl Conversion {
     }
 
     /// Opens a part of a table that inserts nothing, in an element that has nothing to write.
-    ///
-    /// # Errors
-    ///
-    /// `OutOfMemory` if an allocation is refused.
     #[tactic(auto, unfolding(crate::specs::Steps::opened))]
     #[inline(always)]
-    fn open_plain_rows(&mut self, alloc: Global, if_empty: IfEmpty) -> Result<(), Error>
+    fn open_plain_rows(&mut self, alloc: Global, if_empty: IfEmpty) -> Result<(), AllocError>
         requires { self.old.element.due ≡ nothing_held }
-        ensures ok { (style : NodeStyle) → OnOk result (self.new
+        ensures { (style : NodeStyle) → OnOk result (self.new
             ≡ opened (record { kind = ElementKind.Part Part.Body; style = style; if_empty = if_empty; texts = no_texts }) self.old) }
-        ensures err { OnlyOutOfMemory result }
     {
         let rows = OpenKind::Rows(PartRows::new(alloc));
         self.begin_part(Open::new(rows, Due::none(), if_empty, false))
     }
 
     /// Opens a table that inserts nothing, and whose captions come next.
-    ///
-    /// # Errors
-    ///
-    /// `OutOfMemory` if an allocation is refused.
     #[tactic(auto, unfolding(crate::specs::Steps::opened))]
     #[inline(always)]
-    fn open_plain_table(&mut self, style: NodeStyle, if_empty: IfEmpty) -> Result<(), Error>
-        ensures ok { OnOk result (self.new
+    fn open_plain_table(&mut self, style: NodeStyle, if_empty: IfEmpty) -> Result<(), AllocError>
+        ensures { OnOk result (self.new
             ≡ opened (record { kind = ElementKind.Part Part.Table; style = style; if_empty = if_empty; texts = no_texts }) self.old) }
-        ensures err { OnlyOutOfMemory result }
     {
         let open = Open::new(OpenKind::Captions, Due::none(), if_empty, true);
         self.begin_kind(open, style, NodeKind::Container)
     }
 
     /// Opens an element that inserts nothing.
-    ///
-    /// # Errors
-    ///
-    /// `OutOfMemory` if an allocation is refused.
     #[inline(always)]
     pub fn open_plain(
         &mut self,
@@ -210,9 +163,8 @@ impl Conversion {
         kind: ElementKind,
         style: NodeStyle,
         if_empty: IfEmpty,
-    ) -> Result<(), Error>
-        ensures ok { OnOk result (self.new ≡ opened (record { kind = kind; style = style; if_empty = if_empty; texts = no_texts }) self.old) }
-        ensures err { OnlyOutOfMemory result }
+    ) -> Result<(), AllocError>
+        ensures { OnOk result (self.new ≡ opened (record { kind = kind; style = style; if_empty = if_empty; texts = no_texts }) self.old) }
     {
         match kind {
             ElementKind::Node(kind) => self.open_node(kind, style, if_empty),
@@ -224,10 +176,6 @@ impl Conversion {
     }
 
     /// Opens a part of a table, or a table, that inserts nothing.
-    ///
-    /// # Errors
-    ///
-    /// `OutOfMemory` if an allocation is refused.
     #[inline(never)]
     fn open_plain_part(
         &mut self,
@@ -235,10 +183,9 @@ impl Conversion {
         part: Part,
         style: NodeStyle,
         if_empty: IfEmpty,
-    ) -> Result<(), Error>
-        ensures ok { OnOk result (self.new
+    ) -> Result<(), AllocError>
+        ensures { OnOk result (self.new
             ≡ opened (record { kind = ElementKind.Part part; style = style; if_empty = if_empty; texts = no_texts }) self.old) }
-        ensures err { OnlyOutOfMemory result }
     {
         let is_due = !self.innermost.due.is_none();
         match part {
@@ -250,10 +197,6 @@ impl Conversion {
     }
 
     /// Opens an element that becomes a node and inserts these texts: in the node, or round it in a container that closes with it.
-    ///
-    /// # Errors
-    ///
-    /// `OutOfMemory` if an allocation is refused.
     #[tactic(auto, unfolding(crate::specs::Steps::opened))]
     #[inline(never)]
     fn open_inserting(
@@ -263,10 +206,9 @@ impl Conversion {
         style: NodeStyle,
         if_empty: IfEmpty,
         texts: ElementTexts,
-    ) -> Result<(), Error>
+    ) -> Result<(), AllocError>
         requires { has_any texts ≡ true }
-        ensures ok { OnOk result (self.new ≡ opened (record { kind = ElementKind.Node kind; style = style; if_empty = if_empty; texts = texts }) self.old) }
-        ensures err { OnlyOutOfMemory result }
+        ensures { OnOk result (self.new ≡ opened (record { kind = ElementKind.Node kind; style = style; if_empty = if_empty; texts = texts }) self.old) }
     {
         let keeping = Keeping::of(&kind);
         if kind.holds_insertions() {
@@ -287,14 +229,9 @@ impl Conversion {
     }
 
     /// Takes the own insertion of the innermost open element, if this is of the right kind.
-    ///
-    /// # Errors
-    ///
-    /// `OutOfMemory` if an allocation is refused.
-    fn take_own(&mut self, alloc: Global, is_taken: bool) -> Result<InsertedNodes, Error>
+    fn take_own(&mut self, alloc: Global, is_taken: bool) -> Result<InsertedNodes, AllocError>
         ensures own { IfOk result (λ i. insertion_in i ≡ taken_own is_taken self.old.element) }
         ensures left { OnOk result (self.new ≡ left is_taken without_own self.old) }
-        ensures err { OnlyOutOfMemory result }
     {
         if !is_taken {
             return Ok(InsertedNodes::new(alloc));
@@ -303,14 +240,9 @@ impl Conversion {
     }
 
     /// Takes what is due in the innermost open element, if this is of the right kind.
-    ///
-    /// # Errors
-    ///
-    /// `OutOfMemory` if an allocation is refused.
-    fn take_due(&mut self, alloc: Global, is_taken: bool) -> Result<InsertedNodes, Error>
+    fn take_due(&mut self, alloc: Global, is_taken: bool) -> Result<InsertedNodes, AllocError>
         ensures due { IfOk result (λ i. insertion_in i ≡ taken is_taken self.old.element) }
         ensures left { OnOk result (self.new ≡ left is_taken emptied self.old) }
-        ensures err { OnlyOutOfMemory result }
     {
         if !is_taken {
             return Ok(InsertedNodes::new(alloc));
@@ -319,10 +251,6 @@ impl Conversion {
     }
 
     /// Opens a part of a table.
-    ///
-    /// # Errors
-    ///
-    /// `OutOfMemory` if an allocation is refused.
     #[tactic(auto, unfolding(crate::specs::Steps::opened))]
     #[inline(never)]
     fn open_rows(
@@ -330,10 +258,9 @@ impl Conversion {
         alloc: Global,
         if_empty: IfEmpty,
         texts: ElementTexts,
-    ) -> Result<(), Error>
-        ensures ok { (style : NodeStyle) → OnOk result (self.new
+    ) -> Result<(), AllocError>
+        ensures { (style : NodeStyle) → OnOk result (self.new
             ≡ opened (record { kind = ElementKind.Part Part.Body; style = style; if_empty = if_empty; texts = texts }) self.old) }
-        ensures err { OnlyOutOfMemory result }
     {
         let in_table = matches!(self.innermost.kind, OpenKind::Parts(_));
         let given = self.take_own(alloc, in_table)?;
@@ -343,20 +270,15 @@ impl Conversion {
     }
 
     /// Opens a row of a table.
-    ///
-    /// # Errors
-    ///
-    /// `OutOfMemory` if an allocation is refused.
     #[tactic(auto, unfolding(crate::specs::Steps::opened))]
     fn open_row(
         &mut self,
         alloc: Global,
         style: NodeStyle,
         texts: ElementTexts,
-    ) -> Result<(), Error>
-        ensures ok { (if_empty : IfEmpty) → OnOk result (self.new
+    ) -> Result<(), AllocError>
+        ensures { (if_empty : IfEmpty) → OnOk result (self.new
             ≡ opened (record { kind = ElementKind.Part Part.Row; style = style; if_empty = if_empty; texts = texts }) self.old) }
-        ensures err { OnlyOutOfMemory result }
     {
         let in_rows = matches!(self.innermost.kind, OpenKind::Rows(_));
         let outer = self.take_due(alloc, in_rows)?;
@@ -367,10 +289,6 @@ impl Conversion {
     }
 
     /// Opens a cell of a row.
-    ///
-    /// # Errors
-    ///
-    /// `OutOfMemory` if an allocation is refused.
     #[tactic(auto, using(crate::proofs::Entries::leaves_append), unfolding(crate::specs::Steps::opened))]
     fn open_cell(
         &mut self,
@@ -378,10 +296,9 @@ impl Conversion {
         span: CellSpan,
         style: NodeStyle,
         texts: ElementTexts,
-    ) -> Result<(), Error>
-        ensures ok { (if_empty : IfEmpty) → OnOk result (self.new
+    ) -> Result<(), AllocError>
+        ensures { (if_empty : IfEmpty) → OnOk result (self.new
             ≡ opened (record { kind = ElementKind.Part (Part.Cell span); style = style; if_empty = if_empty; texts = texts }) self.old) }
-        ensures err { OnlyOutOfMemory result }
     {
         let inserts = texts.has_any();
         let ElementTexts {
@@ -410,10 +327,6 @@ impl Conversion {
     }
 
     /// Opens a table, whose captions come next.
-    ///
-    /// # Errors
-    ///
-    /// `OutOfMemory` if an allocation is refused.
     #[tactic(auto, unfolding(crate::specs::Steps::opened))]
     fn open_table(
         &mut self,
@@ -421,20 +334,15 @@ impl Conversion {
         style: NodeStyle,
         if_empty: IfEmpty,
         texts: ElementTexts,
-    ) -> Result<(), Error>
-        ensures ok { OnOk result (self.new
+    ) -> Result<(), AllocError>
+        ensures { OnOk result (self.new
             ≡ opened (record { kind = ElementKind.Part Part.Table; style = style; if_empty = if_empty; texts = texts }) self.old) }
-        ensures err { OnlyOutOfMemory result }
     {
         let open = Open::new(OpenKind::Captions, Due::none(), if_empty, true);
         self.hold(alloc, open, node_in(style, NodeKind::Container), texts)
     }
 
     /// Opens a caption: a block in a table whose captions come, and a container anywhere else.
-    ///
-    /// # Errors
-    ///
-    /// `OutOfMemory` if an allocation is refused.
     #[tactic(auto, unfolding(crate::specs::Steps::opened))]
     fn open_caption(
         &mut self,
@@ -442,10 +350,9 @@ impl Conversion {
         style: NodeStyle,
         if_empty: IfEmpty,
         texts: ElementTexts,
-    ) -> Result<(), Error>
-        ensures ok { OnOk result (self.new
+    ) -> Result<(), AllocError>
+        ensures { OnOk result (self.new
             ≡ opened (record { kind = ElementKind.Part Part.Caption; style = style; if_empty = if_empty; texts = texts }) self.old) }
-        ensures err { OnlyOutOfMemory result }
     {
         let kind = match self.innermost.kind {
             OpenKind::Captions => NodeKind::Block,
@@ -456,10 +363,6 @@ impl Conversion {
     }
 
     /// Opens a part of a table, or a table.
-    ///
-    /// # Errors
-    ///
-    /// `OutOfMemory` if an allocation is refused.
     fn open_part(
         &mut self,
         alloc: Global,
@@ -467,10 +370,9 @@ impl Conversion {
         style: NodeStyle,
         if_empty: IfEmpty,
         texts: ElementTexts,
-    ) -> Result<(), Error>
-        ensures ok { OnOk result (self.new
+    ) -> Result<(), AllocError>
+        ensures { OnOk result (self.new
             ≡ opened (record { kind = ElementKind.Part part; style = style; if_empty = if_empty; texts = texts }) self.old) }
-        ensures err { OnlyOutOfMemory result }
     {
         match part {
             Part::Table => self.open_table(alloc, style, if_empty, texts),
@@ -482,13 +384,8 @@ impl Conversion {
     }
 
     /// Opens an element.
-    ///
-    /// # Errors
-    ///
-    /// `OutOfMemory` if an allocation is refused.
-    pub fn open(&mut self, alloc: Global, element: Element) -> Result<(), Error>
-        ensures ok { OnOk result (self.new ≡ opened element self.old) }
-        ensures err { OnlyOutOfMemory result }
+    pub fn open(&mut self, alloc: Global, element: Element) -> Result<(), AllocError>
+        ensures { OnOk result (self.new ≡ opened element self.old) }
     {
         let Element {
             kind,
@@ -506,10 +403,6 @@ impl Conversion {
     }
 
     /// Opens an element without a mark that becomes a node, under its style.
-    ///
-    /// # Errors
-    ///
-    /// `OutOfMemory` if an allocation is refused.
     #[tactic(auto, unfolding(crate::specs::Steps::opened))]
     #[inline(always)]
     fn open_styled_node(
@@ -518,9 +411,8 @@ impl Conversion {
         kind: NodeKind,
         if_empty: IfEmpty,
         style: &ComputedStyle,
-    ) -> Result<(), Error>
-        ensures ok { OnOk result (self.new ≡ opened (element_of (ElementKind.Node kind) if_empty None (style_of style.now)) self.old) }
-        ensures err { OnlyOutOfMemory result }
+    ) -> Result<(), AllocError>
+        ensures { OnOk result (self.new ≡ opened (element_of (ElementKind.Node kind) if_empty None style.now) self.old) }
     {
         let before = style.content_before.val();
         let after = style.content_after.val();
@@ -541,19 +433,14 @@ impl Conversion {
     }
 
     /// Opens an element without a mark, under its style.
-    ///
-    /// # Errors
-    ///
-    /// `OutOfMemory` if an allocation is refused.
     #[inline(never)]
     pub fn open_styled(
         &mut self,
         kind: ElementKind,
         if_empty: IfEmpty,
         style: &ComputedStyle,
-    ) -> Result<(), Error>
-        ensures ok { OnOk result (self.new ≡ opened (element_of kind if_empty None (style_of style.now)) self.old) }
-        ensures err { OnlyOutOfMemory result }
+    ) -> Result<(), AllocError>
+        ensures { OnOk result (self.new ≡ opened (element_of kind if_empty None style.now) self.old) }
     {
         let alloc = self.allocator();
         match kind {
@@ -566,13 +453,8 @@ impl Conversion {
     }
 
     /// Begins the rows of the innermost open table, whose captions have all come.
-    ///
-    /// # Errors
-    ///
-    /// `OutOfMemory` if an allocation is refused.
-    pub fn part(&mut self, alloc: Global) -> Result<(), Error>
-        ensures ok { OnOk result (self.new ≡ all_parted self.old) }
-        ensures err { OnlyOutOfMemory result }
+    pub fn part(&mut self, alloc: Global) -> Result<(), AllocError>
+        ensures { OnOk result (self.new ≡ all_parted self.old) }
     {
         if !matches!(self.innermost.kind, OpenKind::Captions) {
             return Ok(());

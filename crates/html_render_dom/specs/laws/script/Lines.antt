@@ -1,11 +1,10 @@
 -- Texts are cut at a byte, and scripts into lines.
-use Rattle.std.specs.Prelude.{◌≡◌, ◌≢◌, ◌==◌, ℕ, ◌+◌, ◌-◌, ◌<◌, List, [], ◌∷◌, ◌++◌, length, take, drop}
+use Rattle.std.specs.Prelude.{◌≡◌, ◌==◌, ℕ, ◌<◌, List, [], ◌∷◌, ◌++◌, length}
 use Rattle.std.specs.List.{after_first, before_first, position_or_len, slice_split}
 use Rattle.std.specs.Str.Lines.{lines, lines_of_parts, strip_carriage_return}
-use Rattle.std.proofs.Common.{refl, ap, sym, ◌∙◌, arith, get_or, inl, inr}
+use Rattle.std.proofs.Common.{refl, ap, ◌∙◌, arith, get_or}
 use Rattle.std.proofs.lemmas.Bool.{eqb-true, ne_eqb}
-use Rattle.std.proofs.lemmas.Bool.Decides.{eqb_tells}
-use Rattle.std.proofs.lemmas.List.{drop_all, drop_more, get_or-take, length-append, length-take-le, take-append-drop}
+use Rattle.std.proofs.lemmas.List.{get_or-take, length-append, length-take-le}
 use Rattle.std.proofs.lemmas.List.Splits.{slice_split_first, slice_split_none, length-slice_split}
 use Rattle.std.proofs.lemmas.List.Sums.{fails_before_first, passes_at_first, split_at_first}
 use Rattle.html_render_dom.specs.script.Plain.{Lacks}
@@ -43,20 +42,6 @@ cut_parts byte bs front back cut =
     )
 
 -- ---- lines
-
--- a line that doesn't end with a carriage return is left as it is
-pub strip-other : (line : List ℕ) → ((front : List ℕ) → line ≢ front ++ 13 ∷ []) → strip_carriage_return line ≡ line
-strip-other [] other = refl
-strip-other (b ∷ bs) other =
-    let line : List ℕ = b ∷ bs in
-    let n : ℕ = length line - 1 in
-    elim (eqb_tells (get_or line n 0) 13) [
-      | inl e ↦
-          let tail : drop n line ≡ 13 ∷ [] =
-          drop_more line n 0 (omega arith) ∙ (ap (λ (x : ℕ). x ∷ drop (n + 1) line) e.1 ∙ ap (λ (t : List ℕ). 13 ∷ t) (drop_all (n + 1) line (omega arith))) in
-          absurd (other (take n line) (sym (take-append-drop n line) ∙ ap (λ (t : List ℕ). take n line ++ t) tail))
-      | inr e ↦ rw e.0 refl
-    ]
 
 parts-more : (x : List ℕ) (parts : List (List ℕ)) → 0 < length parts → lines_of_parts (x ∷ parts) ≡ strip_carriage_return x ∷ lines_of_parts parts
 parts-more x [] some = absurd (omega arith)

@@ -7,8 +7,8 @@ use Rattle.html_render_layout_estimates.specs.laws.Words.{words-plain}
 use Rattle.html_render_layout_estimates.proofs.estimate.add_needed_words.Goals as goal
 use Rattle.html_render_layout_estimates.proofs.estimate.add_needed_words.Goals.{else-settings-via-then-settings+else-any_table, else-settings-via-else-settings}
 
-pub returns-else-settings-clause-ok : goal.returns-else-settings-clause-ok
-returns-else-settings-clause-ok c =
+pub returns-else-settings : goal.returns-else-settings
+returns-else-settings c =
     let all = forest_of c.args.entries.now.items in
     sym c.requires ∙ ap flatten (elim c.else-settings.branch [
       | else-settings-via-then-settings+else-any_table w ↦ sym (words-plain c.args.settings.now all (ap (λ es. has_table (forest_of es)) (sym w.deref.ensures.value) ∙ sym w.any_table.ensures ∙ w.if-any_table.false))

@@ -10,10 +10,10 @@ add_needed_words-requires g c =
 pub from_entries-requires : goal.from_entries-requires
 from_entries-requires g c =
     (done_words g.D.TextDecorator.decoration c.args.decorator.now c.args.settings.now c.args.tree _ _ _
-    c.into_entries-entries.ensures c.in_ok-measure_nodes.ensures.ok c.in_ok-add_needed_words.ensures.ok).kept
+    c.into_entries-entries.ensures c.in_ok-measure_nodes.ensures.ok c.in_ok-add_needed_words.ensures).kept
 
 pub returns-clause-ok : goal.returns-clause-ok
 returns-clause-ok g c =
     c.from_entries.ensures
     ∙ (done_words g.D.TextDecorator.decoration c.args.decorator.now c.args.settings.now c.args.tree _ _ _
-    c.into_entries-entries.ensures c.in_ok-measure_nodes.ensures.ok c.in_ok-add_needed_words.ensures.ok).is
+    c.into_entries-entries.ensures c.in_ok-measure_nodes.ensures.ok c.in_ok-add_needed_words.ensures).is

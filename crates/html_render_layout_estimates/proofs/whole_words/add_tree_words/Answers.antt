@@ -56,5 +56,5 @@ loop-at-preserved c =
     (c.in_ok-shape.ensures.node ∙ ap (λ (y : Entry RenderNode). worded_node y.node below) (sym there))
     (c.in_ok-shape.ensures.shape ∙ ap (λ (y : Entry RenderNode). node_shape c.args.settings.now (worded_node y.node below) below) (sym there)))
 
-pub returns-clause-ok : goal.returns-clause-ok
-returns-clause-ok c = (Backward-done c.loop-at.invariant (omega arith)).0 ∙ ap flatten (changed_worded c.args.settings.now (forest_of c.args.tree.now))
+pub returns : goal.returns
+returns c = (Backward-done c.loop-at.invariant (omega arith)).0 ∙ ap flatten (changed_worded c.args.settings.now (forest_of c.args.tree.now))

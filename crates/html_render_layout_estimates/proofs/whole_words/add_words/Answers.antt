@@ -32,7 +32,7 @@ pub loop-at-preserved-then-is_table : goal.loop-at-preserved-then-is_table
 loop-at-preserved-then-is_table c =
     let e = get_or c.loop-at.nodes c.loop-at.at c.index-nodes-at.result in
     let f = Onward-at _ _ _ _ e c.loop-at.invariant (omega arith) (ap (get_or c.loop-at.nodes c.loop-at.at) c.index-nodes-at.is) in
-    Onward-table _ _ _ _ _ e _ f (omega arith) c.in_ok-add_tree_words.ensures.ok
+    Onward-table _ _ _ _ _ e _ f (omega arith) c.in_ok-add_tree_words.ensures
 
 pub loop-at-preserved : goal.loop-at-preserved
 loop-at-preserved c =
@@ -40,7 +40,7 @@ loop-at-preserved c =
     let f = Onward-at _ _ _ _ e c.loop-at.invariant (omega arith) (ap (get_or c.loop-at.nodes c.loop-at.at) c.index-nodes-at.is) in
     Onward-past _ _ _ _ e f (sym c.is_table.ensures ∙ c.if-is_table.false)
 
-pub returns-clause-ok : goal.returns-clause-ok
-returns-clause-ok c =
+pub returns : goal.returns
+returns c =
     take_at c.loop-at.nodes _ _ (omega (arith, c.loop-at.auto.nodes, c.as_mut_slice-nodes.ensures.len, c.args.entries.now.ok.0))
     ∙ Onward-done _ _ _ _ c.loop-at.invariant (omega arith)

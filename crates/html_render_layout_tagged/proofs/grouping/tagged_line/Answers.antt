@@ -10,4 +10,4 @@ loop-part-init g c = λ now.
 pub loop-part-preserved : goal.loop-part-preserved
 loop-part-preserved g c = λ now rest.
     c.loop-part.invariant now (Takes-part g.A.PartialEq.eq c.args.stacks.now c.args.names.now c.loop-part.progress c.push_part.new.self now
-    (part_elements c.in-Some.part) c.next.new.self c.loop-part.left c.in-Some.ensures.some c.in_ok-push_part.ensures.ok rest)
+    (part_elements c.in-Some.part) c.next.new.self c.loop-part.left c.in-Some.ensures.some c.in_ok-push_part.ensures rest)

@@ -8,10 +8,10 @@ use Rattle.html_render_parts.proofs.GridMade.{made, refused}
 use Rattle.html_render_parts.proofs.SideBySide.{are-ordered, fit-columns, have-columns, stand-side_by_side}
 use Rattle.html_render_parts.proofs.table.table_grid.Goals as goal
 
-pub returns-in_err-placed-clause-err : goal.returns-in_err-placed-clause-err
-returns-in_err-placed-clause-err c =
+pub returns-in_err-placed-clause-grid : goal.returns-in_err-placed-clause-grid
+returns-in_err-placed-clause-grid c =
     let p = err_from_is_err_and c.from_residual.result c.from_residual.ensures.1 in
-    rw (p.1, p.2) (refused _ (lists c.args.rows.now) c.in_err-placed.ensures.err)
+    rw (p.1, p.2) (record { ok = tt; err = refused _ (lists c.args.rows.now) c.in_err-placed.ensures.err })
 
 pub numbered_rows-requires-clause-ordered : goal.numbered_rows-requires-clause-ordered
 numbered_rows-requires-clause-ordered c =
@@ -29,8 +29,7 @@ returns c =
     let cells : lists c.in_ok-rows.rows.items ≡ map (map (numbered (edges_of placed))) placed =
     rw (c.deref-2.ensures.value, edges, c.deref-3.ensures.value, done.0) at c.in_ok-rows.ensures in
     record {
-      ok = rw (edges, cells) done.1;
-      err = tt;
+      grid = record { ok = rw (edges, cells) done.1; err = tt };
       side_by_side = rw cells (stand-side_by_side rows c.requires);
       columns = rw cells (have-columns rows c.requires);
       in_table = rw (edges, cells) (fit-columns rows c.requires);

@@ -1,4 +1,5 @@
 use Rattle.std.proofs.Common.{arith}
+use Rattle.std.proofs.lemmas.Result.{IfOk-weaker}
 use Rattle.html_render_parts_widths.specs.laws.Cuts.{sum-ranges}
 use Rattle.html_render_parts_widths.proofs.CutLevels.{capped_sum-greatest}
 use Rattle.html_render_parts_widths.proofs.FairestCut.{column-cut}
@@ -14,4 +15,4 @@ find_level-probes-requires-clause-sum c =
     omega arith
 
 pub returns-clause-cut : goal.returns-clause-cut
-returns-clause-cut c = column-cut _ _ _ _ _ _ c.requires c.in_ok-cut.ensures
+returns-clause-cut c = IfOk-weaker c.level_form.result _ _ (λ _. column-cut _ _ _ _ _ _ c.requires) c.level_form.ensures

@@ -10,4 +10,4 @@ pub returns-in-Leaf-clause-ok : goal.returns-in-Leaf-clause-ok
 returns-in-Leaf-clause-ok c =
     let s = c.args.conversion.now in
     let puts = ap (λ m. run (done_at_once (plain_plan m)) s) c.in-Leaf.is ∙ leaf-run c.in-Leaf.kind s ∙ ap (λ n. Some (put n s)) (sym c.from.ensures) in
-    on_ok_weaker c.put.result (λ e. puts ∙ ap Some (sym e)) c.put.ensures.ok
+    on_ok_weaker c.put.result (λ e. puts ∙ ap Some (sym e)) c.put.ensures

@@ -17,15 +17,15 @@ nodes-written c =
 pub from_entries-requires : goal.from_entries-requires
 from_entries-requires c = (nodes-written c).preorder
 
-pub returns-clause-ok : goal.returns-clause-ok
-returns-clause-ok c =
-    let m = (goal.at.returns-clause-ok c).In_ok-entries in
-    (nodes-written m).is ∙ ap Some (sym c.from_entries.ensures)
+pub returns : goal.returns
+returns c =
+    let m = (goal.at.returns c).In_ok-entries in
+    record { ok = (nodes-written m).is ∙ ap Some (sym c.from_entries.ensures); err = tt }
 
-pub returns-in_err-entries-clause-err : goal.returns-in_err-entries-clause-err
-returns-in_err-entries-clause-err c =
+pub returns-in_err-entries : goal.returns-in_err-entries
+returns-in_err-entries c =
     let rules = map rule_of c.args.rules.now in
     let dom = c.args.dom.now in
     let e = c.in_err-entries.field-0.0 in
-    fails-handed c.from_residual.result e _ c.from_residual.ensures.1
+    fails-handed c.from_residual.result e _ _ c.from_residual.ensures.1
     (fails-tree e (render_tree_of rules dom) (Fails-same e _ _ (sym (documents_convert rules dom)) c.in_err-entries.ensures.err))

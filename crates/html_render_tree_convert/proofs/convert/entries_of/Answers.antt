@@ -1,9 +1,8 @@
 use Rattle.std.proofs.Common.{◌≡◌, ◌∷◌, [], ◌<◌, All, map, refl, subst, sym, ◌∙◌}
 use Rattle.std.proofs.lemmas.List.Elements.{All-nil}
-use Rattle.std.proofs.lemmas.Result.{IfErr-weaker, IfOk-weaker}
 use Rattle.html_render_dom_styles.specs.Rules.{rule_of}
 use Rattle.html_render_dom.specs.Dom.{IsNode, tree_of}
-use Rattle.html_render_parts.specs.laws.Refusal.{Fails-same}
+use Rattle.html_render_parts.specs.laws.Refusal.{Builds-same}
 use Rattle.html_render_tree_convert.specs.Plans.{plan_at}
 use Rattle.html_render_tree_convert.specs.Steps.{all_written, converted}
 use Rattle.html_render_tree_convert.specs.Visits.{followed}
@@ -28,7 +27,7 @@ visits-init c =
       comes = goes-on rules dom (plan_at rules dom document) document c.new-cursor.result c.convert_other.new.cursor
           c.in_ok-conversion.conversion c.convert_other.new.conversion
           (starts rules dom forest document c.new-cursor.result c.in_ok-conversion.conversion c.get_document.ensures.document c.new-cursor.ensures
-          c.in_ok-conversion.ensures.ok) c.in_ok-convert_other.ensures.cursor c.in_ok-convert_other.ensures.ok;
+          c.in_ok-conversion.ensures) c.in_ok-convert_other.ensures.cursor c.in_ok-convert_other.ensures.done.ok;
       nodes = subst (All holds) (sym c.in_ok-convert_other.ensures.cursor)
           (followed-nodes rules dom (plan_at rules dom document) document c.new-cursor.result at none);
     }
@@ -63,37 +62,37 @@ visits-preserved-in-Continue-branch-4 c =
     record {
       comes = goes-on rules dom plan h ps c.convert_node.new.cursor c.visits.conversion c.convert_node.new.conversion
           (visits-node rules dom c.get_document.ensures.forest h c.visits.cursor ps c.visits.conversion (comes-node m) c.visits.invariant.comes)
-          c.in_ok-convert_node-in-Node.ensures.cursor c.in_ok-convert_node-in-Node.ensures.ok;
+          c.in_ok-convert_node-in-Node.ensures.cursor c.in_ok-convert_node-in-Node.ensures.done.ok;
       nodes = subst (All holds) (sym c.in_ok-convert_node-in-Node.ensures.cursor)
           (followed-nodes rules dom plan h ps (node-visited m) c.next.ensures.nodes);
     }
 
-pub returns-in_err-convert_other-clause-err : goal.returns-in_err-convert_other-clause-err
-returns-in_err-convert_other-clause-err c =
+pub returns-in_err-convert_other : goal.returns-in_err-convert_other
+returns-in_err-convert_other c =
     let dom = c.args.dom.now in
     let rules = map rule_of c.args.rules.now in
     let h = c.get_document.result in
-    fails-whole rules dom c.from_residual-in_err-convert_other.result c.in_err-convert_other.field-0.0 _ (followed (plan_at rules dom h) h [])
+    fails-whole rules dom c.from_residual-in_err-convert_other.result c.in_err-convert_other.field-0.0 _ _ (followed (plan_at rules dom h) h [])
     (starts rules dom c.get_document.ensures.forest h [] c.in_ok-conversion.conversion c.get_document.ensures.document refl
-    c.in_ok-conversion.ensures.ok) c.in_err-convert_other.ensures.err c.from_residual-in_err-convert_other.ensures.1
+    c.in_ok-conversion.ensures) c.in_err-convert_other.ensures.done.err c.from_residual-in_err-convert_other.ensures.1
 
-pub returns-in_err-convert_node-in-Node-clause-err : goal.returns-in_err-convert_node-in-Node-clause-err
-returns-in_err-convert_node-in-Node-clause-err c =
+pub returns-in_err-convert_node-in-Node : goal.returns-in_err-convert_node-in-Node
+returns-in_err-convert_node-in-Node c =
     let dom = c.args.dom.now in
     let rules = map rule_of c.args.rules.now in
-    let m = (goal.at.returns-in_err-convert_node-in-Node-clause-err c).In-Node in
+    let m = (goal.at.returns-in_err-convert_node-in-Node c).In-Node in
     let h = c.in-Node.node in
     let ps = c.next.new.self in
-    fails-whole rules dom c.from_residual-in_err-convert_node-in-Node.result c.in_err-convert_node-in-Node.field-0.0 _ (followed (plan_at rules dom h) h ps)
+    fails-whole rules dom c.from_residual-in_err-convert_node-in-Node.result c.in_err-convert_node-in-Node.field-0.0 _ _ (followed (plan_at rules dom h) h ps)
     (visits-node rules dom c.get_document.ensures.forest h c.visits.cursor ps c.visits.conversion (comes-node m) c.visits.invariant.comes)
-    c.in_err-convert_node-in-Node.ensures.err c.from_residual-in_err-convert_node-in-Node.ensures.1
+    c.in_err-convert_node-in-Node.ensures.done.err c.from_residual-in_err-convert_node-in-Node.ensures.1
 
-pub returns-in_err-close-in-Close-clause-err : goal.returns-in_err-close-in-Close-clause-err
-returns-in_err-close-in-Close-clause-err c =
+pub returns-in_err-close-in-Close : goal.returns-in_err-close-in-Close
+returns-in_err-close-in-Close c =
     let dom = c.args.dom.now in
     let rules = map rule_of c.args.rules.now in
     let ps = c.next.new.self in
-    fails-whole rules dom c.from_residual-in_err-close-in-Close.result c.in_err-close-in-Close.field-0.0 _ ps
+    fails-whole rules dom c.from_residual-in_err-close-in-Close.result c.in_err-close-in-Close.field-0.0 _ _ ps
     (visits-close rules dom c.visits.cursor ps c.visits.conversion (rw c.in-Close.is at (rw c.in-Some.is at c.next.ensures.visit))
     c.visits.invariant.comes) c.in_err-close-in-Close.ensures.err c.from_residual-in_err-close-in-Close.ensures.1
 
@@ -103,12 +102,5 @@ written c =
     ended (map rule_of c.args.rules.now) c.args.dom.now c.visits.cursor c.visits.conversion (rw c.in_default.is at c.next.ensures.visit)
     c.visits.invariant.comes
 
-pub returns-clause-ok : goal.returns-clause-ok
-returns-clause-ok c =
-    let m = (goal.at.returns-clause-ok c).In_default in
-    IfOk-weaker c.into_entries.result _ _ (λ entries is. written m ∙ is) c.into_entries.ensures.ok
-
-pub returns-clause-err : goal.returns-clause-err
-returns-clause-err c =
-    let m = (goal.at.returns-clause-err c).In_default in
-    IfErr-weaker c.into_entries.result _ _ (λ e fails. Fails-same e _ _ (written m) fails) c.into_entries.ensures.err
+pub returns : goal.returns
+returns c = let m = (goal.at.returns c).In_default in Builds-same c.into_entries.result _ _ _ (written m) c.into_entries.ensures

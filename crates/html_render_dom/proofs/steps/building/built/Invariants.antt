@@ -1,12 +1,12 @@
 use Rattle.std.proofs.Common.{◌≤◌, length}
-use Rattle.html_render_dom.specs.laws.steps.Progress.{IsProgress}
+use Rattle.html_render_dom.specs.laws.steps.Determined.{IsAhead}
 use Rattle.html_render_dom.proofs.steps.building.built.Given as goal
 
--- the steps taken so far built the document
+-- the steps that are left have the outcome of all, from the document that is built
 abbrev pub invariant-loop-step : goal.invariant-loop-step
 invariant-loop-step l = record {
   within : length l.rest ≤ length l.steps;
-  progress : IsProgress l.text l.steps l.rest l.builder;
+  ahead : IsAhead l.text l.steps l.rest l.builder;
 }
 
 abbrev pub decreases-loop-step : goal.decreases-loop-step

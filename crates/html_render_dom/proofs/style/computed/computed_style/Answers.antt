@@ -1,15 +1,12 @@
 -- Each iteration of the loop applies the declarations of the next rule if it selects the element.
-use Rattle.std.proofs.Common.{◌≡◌, ℕ, List, [], Option, sym, ap, ◌∙◌, arith, codes, filter, map, option_copied}
+use Rattle.std.proofs.Common.{◌≡◌, [], sym, ap, ◌∙◌, arith, map, option_copied}
 use Rattle.std.specs.List.{flat_map}
 use Rattle.std.proofs.lemmas.List.{take_all}
 use Rattle.std.proofs.lemmas.List.Folds.{flat_map-map}
-use Rattle.html_render_dom_nodes.specs.Content.{property_of}
 use Rattle.html_render_dom_styles.specs.Rules.{rule_of}
-use Rattle.html_render_dom.specs.Attributes.{first_value}
 use Rattle.html_render_dom_styles.specs.Selectors.{selects}
-use Rattle.html_render_dom.specs.Applying.{applied, style_by, with_declarations}
-use Rattle.html_render_dom.specs.ElementStyle.{style_of}
-use Rattle.html_render_dom.proofs.Applies.{element_style-applied, said_to, said_to-all, said_to-selected, said_to-other, with_declarations-more}
+use Rattle.html_render_dom.specs.Applying.{style_by, with_declarations}
+use Rattle.html_render_dom.proofs.Applies.{said_to, said_to-all, said_to-selected, said_to-other, with_declarations-more}
 use Rattle.html_render_dom.proofs.style.computed.computed_style.Goals as goal
 use Rattle.html_render_dom.proofs.style.computed.computed_style.Goals.{then-selects+in_ok-update_all, else-selects}
 
@@ -17,14 +14,14 @@ pub loop-rule-preserved : goal.loop-rule-preserved
 loop-rule-preserved c =
     let asked = selects c.args.element.now (option_copied c.first_value-id.result) (option_copied c.first_value-classes.result) in
     let rule = c.rule-item.result in
-    let old = style_of c.loop-rule.style in
-    let turn : style_of c.if-selects.style ≡ with_declarations old (said_to asked (rule_of rule)) = elim c.if-selects.branch [
+    let old = c.loop-rule.style in
+    let turn : c.if-selects.style ≡ with_declarations old (said_to asked (rule_of rule)) = elim c.if-selects.branch [
       | then-selects+in_ok-update_all w ↦ (
-          ap style_of w.style-is
+          w.style-is
           ∙ w.in_ok-update_all.ensures
           ∙ ap (with_declarations old) (said_to-selected asked (rule_of rule) (sym c.selects.ensures ∙ w.if-selects.true))
           )
-      | else-selects w ↦ ap style_of w.style-is ∙ said_to-other asked (rule_of rule) old (sym c.selects.ensures ∙ w.if-selects.false)
+      | else-selects w ↦ w.style-is ∙ said_to-other asked (rule_of rule) old (sym c.selects.ensures ∙ w.if-selects.false)
     ] in
     turn
     ∙ ap (λ s. with_declarations s (said_to asked (rule_of rule))) c.loop-rule.invariant
@@ -33,13 +30,8 @@ loop-rule-preserved c =
 pub returns-clause-ok : goal.returns-clause-ok
 returns-clause-ok c =
     let rules = c.args.rules.now in
-    let properties = map property_of c.args.attrs.now in
-    let classes = option_copied c.first_value-classes.result in
-    let asked = selects c.args.element.now (option_copied c.first_value-id.result) classes in
-    let style_for = λ (v w : Option (List ℕ)). style_by (flat_map applied (filter (selects c.args.element.now v w) (map rule_of rules))) in
-    c.loop-rule.invariant
+    let asked = selects c.args.element.now (option_copied c.first_value-id.result) (option_copied c.first_value-classes.result) in
+    rw (← c.first_value-id.ensures, ← c.first_value-classes.ensures)
+    (c.loop-rule.invariant
     ∙ ap (λ rs. style_by (flat_map (λ rule. said_to asked (rule_of rule)) rs)) (take_all c.loop-rule.rule-index rules (omega arith))
-    ∙ ap style_by (sym (flat_map-map (said_to asked) rule_of rules) ∙ said_to-all asked (map rule_of rules))
-    ∙ ap (λ v. style_for v classes) c.first_value-id.ensures
-    ∙ ap (style_for (first_value (codes "id") properties)) c.first_value-classes.ensures
-    ∙ element_style-applied (map rule_of rules) c.args.element.now properties
+    ∙ ap style_by (sym (flat_map-map (said_to asked) rule_of rules) ∙ said_to-all asked (map rule_of rules)))

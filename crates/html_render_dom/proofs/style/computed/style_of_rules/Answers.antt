@@ -7,7 +7,6 @@ use Rattle.html_render_dom_styles.specs.declared.rules.StyleRule.{StyleRule}
 use Rattle.html_render_dom_styles.specs.Rules.{Rule, rule_of}
 use Rattle.html_render_dom_styles.specs.Selectors.{selects}
 use Rattle.html_render_dom.specs.Applying.{applied, style_by, with_declarations}
-use Rattle.html_render_dom.specs.ElementStyle.{style_of}
 use Rattle.html_render_dom.specs.RuleIndex.{said_at}
 use Rattle.html_render_dom.proofs.Applies.{still, said_to-selected, said_to-other, with_declarations-more}
 use Rattle.html_render_dom.proofs.style.computed.style_of_rules.Goals as goal
@@ -25,13 +24,13 @@ loop-number-preserved c =
     let numbers = c.args.numbers.now in
     let i = c.loop-number.number-index in
     let number = get_or numbers i 0 in
-    let old = style_of c.loop-number.style in
+    let old = c.loop-number.style in
     let at = said_at asked (map rule_of rules) in
-    let turn : style_of c.match-get.style ≡ with_declarations old (at number) = elim c.match-get.branch [
+    let turn : c.match-get.style ≡ with_declarations old (at number) = elim c.match-get.branch [
       | in-Some+then-selects+in_ok-update_all w ↦ (
           let rule = w.in-Some.rule.now in
           let found = w.in-Some.ensures.lookup.3 in
-          ap style_of w.style-is
+          w.style-is
           ∙ w.in_ok-update_all.ensures
           ∙ ap (with_declarations old) (said_to-selected asked (rule_of rule) (sym w.selects.ensures ∙ w.if-selects.true)
           ∙ read asked rules number (Some rule) (slice_get_read rules (length rules) number rule refl found.0 (found.1 rule)))
@@ -39,12 +38,12 @@ loop-number-preserved c =
       | in-Some+else-selects w ↦ (
           let rule = w.in-Some.rule.now in
           let found = w.in-Some.ensures.lookup.3 in
-          ap style_of w.style-is
+          w.style-is
           ∙ said_to-other asked (rule_of rule) old (sym w.selects.ensures ∙ w.if-selects.false)
           ∙ ap (with_declarations old) (read asked rules number (Some rule) (slice_get_read rules (length rules) number rule refl found.0 (found.1 rule)))
           )
       | in_default w ↦
-          ap style_of w.style-is ∙ still old ∙ ap (with_declarations old)
+          w.style-is ∙ still old ∙ ap (with_declarations old)
           (read asked rules number None (slice_get_past rules number w.in_default.ensures.lookup.3))
     ] in
     turn

@@ -15,5 +15,5 @@ returns-clause-own c =
     let row = c.args.row in
     let cells = c.args.cells.now in
     let done = c.args.placer.now in
-    let is = next-is row cells done c.place_row.new.self c.in_ok-place_row.ensures.ok in
+    let is = next-is row cells done c.place_row.new.self c.in_ok-place_row.ensures.placed.ok in
     subst (λ o. own_or_simple row cells o ≡ own_from row 0 done.hanging cells) (sym is.own) (stored-placed row done.hanging cells)

@@ -5,7 +5,7 @@ use Rattle.html_render_dom_nodes.specs.Elements.{completed}
 use Rattle.html_render_dom_nodes.specs.Nodes.{node_in}
 use Rattle.html_render_dom.specs.laws.Forests.{IsNode-element}
 use Rattle.html_render_dom.proofs.Forests.{IsForest-with_content, contents_in-completed}
-use Rattle.html_render_dom.proofs.Outcomes.{IsForest-changed}
+use Rattle.html_render_dom.proofs.Changed.{IsForest-changed}
 use Rattle.html_render_dom.proofs.dom.documents.RcDom.add_attrs_if_missing.Goals as goal
 
 pub invariant_of-self-2 : goal.invariant_of-self-2

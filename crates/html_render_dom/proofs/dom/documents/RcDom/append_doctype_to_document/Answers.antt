@@ -2,7 +2,7 @@ use Rattle.std.proofs.Common.{refl, string_bytes}
 use Rattle.html_render_dom_nodes.specs.Content.{doctype}
 use Rattle.html_render_dom_nodes.specs.Edits.{attached_new}
 use Rattle.html_render_dom.proofs.Forests.{IsForest-attach_new}
-use Rattle.html_render_dom.proofs.Outcomes.{IsForest-changed}
+use Rattle.html_render_dom.proofs.Changed.{IsForest-changed}
 use Rattle.html_render_dom.proofs.dom.documents.RcDom.append_doctype_to_document.Goals as goal
 
 pub invariant_of-self-2 : goal.invariant_of-self-2

@@ -1,31 +1,26 @@
-use Rattle.std.proofs.Common.{◌≡◌, ◌≢◌, ap, sym, ◌∙◌, subst, arith, rules, Some, [], ◌∷◌, inl, inr}
+use Rattle.std.proofs.Common.{◌≡◌, ◌≢◌, sym, ◌∙◌, subst, arith, rules, [], ◌∷◌, inl, inr}
 use Rattle.std.proofs.lemmas.Option.{same_Some}
-use Rattle.html_render_dom.specs.Dom.{IsNode, IsInclusiveAncestor, itself, above, parent_at, tree_of}
-use Rattle.html_render_dom.specs.laws.Forests.{IfSome-parent}
+use Rattle.html_render_dom.specs.Dom.{IsForest, IsNode, IsInclusiveAncestor, itself, above, tree_of}
 use Rattle.html_render_dom.specs.laws.Trees.{depth-child, depth-le, HaveTrees-tree_of, IsInclusiveAncestor-cases}
 use Rattle.html_render_dom.proofs.dom.documents.RcDom.is_inclusive_ancestor.Goals as goal
 
 pub loop-ancestor-smaller : goal.loop-ancestor-smaller
 loop-ancestor-smaller c =
     let dom = c.args.self.now in
-    let f = c.entry.ensures.forest in
-    let at = c.loop-ancestor.at in
+    let f = subst IsForest c.self.view_is c.self.invariant in
     let p = c.in-Some.parent in
-    let e : parent_at dom at ≡ Some p = sym (ap (λ n. n.parent) c.entry.ensures.node) ∙ sym c.get.ensures ∙ c.in-Some.is in
-    let in_p : IsNode dom p = IfSome-parent dom f at (Some p) (sym e) in
-    omega (arith, depth-child dom f at p e in_p, depth-le dom f (tree_of dom p) (p ∷ []) (HaveTrees-tree_of dom f p in_p))
+    let in_p = c.in-Some.ensures.is_node in
+    omega (arith, depth-child dom f c.loop-ancestor.at p (sym c.in-Some.ensures.parent) in_p, depth-le dom f (tree_of dom p) (p ∷ []) (HaveTrees-tree_of dom f p in_p))
 
 pub loop-ancestor-preserved : goal.loop-ancestor-preserved
 loop-ancestor-preserved c =
     let dom = c.args.self.now in
-    let f = c.entry.ensures.forest in
     let at = c.loop-ancestor.at in
     let p = c.in-Some.parent in
-    let e : parent_at dom at ≡ Some p = sym (ap (λ n. n.parent) c.entry.ensures.node) ∙ sym c.get.ensures ∙ c.in-Some.is in
-    let in_p : IsNode dom p = IfSome-parent dom f at (Some p) (sym e) in
+    let e = sym c.in-Some.ensures.parent in
     let other : at ≢ c.args.ancestor = search rules in
     let kept = c.loop-ancestor.invariant.1 in (
-      in_p,
+      c.in-Some.ensures.is_node,
       (
         λ up. elim (IsInclusiveAncestor-cases dom c.args.ancestor at (kept.0 up)) [
           | inl same ↦ absurd (other (sym same))

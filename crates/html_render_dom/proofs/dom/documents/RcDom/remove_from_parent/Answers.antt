@@ -1,7 +1,7 @@
 use Rattle.std.proofs.Common.{Some, sym, ◌∙◌}
 use Rattle.html_render_dom_nodes.specs.Moves.{taken_out}
 use Rattle.html_render_dom.proofs.Moves.{IsForest-out}
-use Rattle.html_render_dom.proofs.Outcomes.{IsForest-changed}
+use Rattle.html_render_dom.proofs.Changed.{IsForest-changed}
 use Rattle.html_render_dom.proofs.dom.documents.RcDom.remove_from_parent.Goals as goal
 
 pub invariant_of-self : goal.invariant_of-self

@@ -7,7 +7,7 @@ use Rattle.html_render_dom.specs.Documents.{dom_of}
 use Rattle.html_render_dom_nodes.specs.Nodes.{node_of}
 use Rattle.html_render_dom_nodes.specs.Moves.{reparented}
 use Rattle.html_render_dom.proofs.Moves.{IsForest-reparented}
-use Rattle.html_render_dom.proofs.Outcomes.{IsForest-changed}
+use Rattle.html_render_dom.proofs.Changed.{IsForest-changed}
 use Rattle.html_render_dom.proofs.dom.documents.RcDom.reparent_children.Goals as goal
 
 pub move_children-requires-clause-apart : goal.move_children-requires-clause-apart

@@ -25,4 +25,4 @@ returns-in_ok-push-clause-ok c =
     let p = child-facts dom c.entry.ensures.forest c.args.frame _ _ (c.as_slice-children.ensures
     ∙ ap (λ n. n.children) c.entry.ensures.node) (omega arith) c.index-children-frame.is in
     on_ok_weaker c.write_start.result
-    (λ e. e ∙ stepped dom c.entry.ensures.forest c.args.frame _ p _ c.args.frames.now.items _ c.in_ok-push.ensures.items) c.write_start.ensures.ok
+    (λ e. e ∙ stepped dom c.entry.ensures.forest c.args.frame _ p _ c.args.frames.now.items _ c.in_ok-push.ensures.items) c.write_start.ensures.text

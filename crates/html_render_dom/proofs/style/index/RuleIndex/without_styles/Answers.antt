@@ -35,8 +35,8 @@ loop-number-preserved c =
           )
     ]
 
-pub returns-clause-ok : goal.returns-clause-ok
-returns-clause-ok c =
+pub returns : goal.returns
+returns c =
     let has = c.loop-number.invariant in
     let over = c.loop-number-test.false in
     let long = length-map c.args.rules.now rule_of in (

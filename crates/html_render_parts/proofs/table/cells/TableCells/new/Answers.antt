@@ -32,12 +32,12 @@ invariant_of-result c =
     ∙ rows-own es 0 rows own ∙ ap (map (map (on_columns es))) c.in_ok-placed.ensures.own in
     rw (c.in_ok-shared.ensures.ok, c.in_ok-placed.ensures.edges, cells) (cells-valid rows c.requires c.in_ok-placed.ensures.fits)
 
-pub returns-clause-ok : goal.returns-clause-ok
-returns-clause-ok c =
+pub returns : goal.returns
+returns c =
     let rows = lists c.args.rows.now in
     let own = c.in_ok-placed.placed.own in
     let es = edges_of (placed_rows rows) in
     let cells : c.in_ok-rows.rows ≡ map (map (on_columns es)) (own_rows_from 0 [] rows) =
     (rw (c.deref.ensures.value, c.in_ok-placed.ensures.edges) at c.in_ok-rows.ensures)
     ∙ rows-own es 0 rows own ∙ ap (map (map (on_columns es))) c.in_ok-placed.ensures.own in
-    cells-own rows ∙ (rw (c.in_ok-shared.ensures.ok, c.in_ok-placed.ensures.edges, cells, c.in_ok-placed.ensures.fits) refl)
+    record { ok = cells-own rows ∙ (rw (c.in_ok-shared.ensures.ok, c.in_ok-placed.ensures.edges, cells, c.in_ok-placed.ensures.fits) refl); err = tt }
