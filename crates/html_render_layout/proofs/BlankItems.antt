@@ -24,12 +24,13 @@ use Rattle.html_render_layout_blocks.specs.laws.BlankItems.{blank_item}
 use Rattle.html_render_layout.specs.Layout.{OwnBlock}
 use Rattle.html_render_layout.specs.Layout as layout
 use Rattle.html_render_layout.specs.declared.state.Outer.{Outer}
+use Rattle.html_render_layout.specs.declared.state.Suspended.{Suspended}
 use Rattle.html_render_layout.specs.declared.state.Suspended.TheVariants.{Indented}
 use Rattle.html_render_layout.specs.declared.state.OpenNode.{OpenNode}
 use Rattle.html_render_layout.specs.declared.state.LayoutState.{LayoutState}
 use Rattle.html_render_layout.specs.Blank.{IsPlain, IsBlank}
-use Rattle.html_render_layout.specs.Layout.{Algebra, struck, style_steps, perform_all, spaces, within, block_of, text_style}
-use Rattle.html_render_layout.specs.Opening.{block_opened, opened_in, interrupted, block_kept, block_begun, kind_opened, keeping}
+use Rattle.html_render_layout.specs.Layout.{Algebra, struck, style_steps, perform_all, spaces, within, nested, block_of, text_style}
+use Rattle.html_render_layout.specs.Opening.{block_opened, opened_in, interrupted, block_entered, kind_opened, keeping}
 use Rattle.html_render_layout.specs.Working.{by_tags}
 
 struck-blank : (cs : List ℕ) → list_all is_collapsible cs ≡ true → struck cs ≡ cs
@@ -51,6 +52,10 @@ module _ {S A K T : Type 0} (d : Decoration S A) (push : K → T → A → K × 
 
   abbrev Ways : Type 0
   Ways = Way St (OpenNode S T (Prefixing (MachineBlock T ℕ) T) (MachineBlock T ℕ))
+
+  -- state in a node's block, and what the node suspends
+  abbrev Entered : Type 0
+  Entered = St × Suspended S (Prefixing (MachineBlock T ℕ) T) (MachineBlock T ℕ)
 
   -- a style that changes nothing
   pub plain-style : (q : St) (style : NodeStyle) → IsPlain style → perform_all algebra q (style_steps d style) q ≡ Some q
@@ -79,9 +84,8 @@ module _ {S A K T : Type 0} (d : Decoration S A) (push : K → T → A → K × 
         (machine.operations.add_inline_text sub style (chars is.content))
 
     abbrev kind_way : St → NodeKind → Option Ways
-    kind_way q k = option_and_then (λ p. option_and_then (λ w. keeping algebra (Indented outer) q.text w)
-        (kind_opened algebra (block_kept algebra (block_of d q.settings q.decorator k n.estimate) q) k n.estimate trees p))
-        (block_begun algebra (block_of d q.settings q.decorator k n.estimate) q)
+    kind_way q k = option_and_then (λ (e : Entered). option_and_then (λ w. keeping algebra (Indented outer) q.text w) (kind_opened algebra e.1 k n.estimate trees e.0))
+        (block_entered algebra (block_of d q.settings q.decorator k n.estimate) q)
 
     closed : (o : Option (MachineBlock T ℕ)) → past (option_map (λ (b : MachineBlock T ℕ). record s { block = b }) o) ≡ option_map left o
     closed None = refl
@@ -114,37 +118,58 @@ module _ {S A K T : Type 0} (d : Decoration S A) (push : K → T → A → K × 
           ∙ ap (λ cs. written false cs) (struck-same s.text.struck_out) ∙ added (machine.operations.add_inline_text sub style (chars is.content))
 
       abbrev kind_way-from : St → Option Ways
-      kind_way-from p = option_and_then (λ r. option_and_then (λ w. keeping algebra (Indented outer) s.text w)
-          (kind_opened algebra (block_kept algebra (block_of d p.settings p.decorator n.kind n.estimate) p) n.kind n.estimate trees r))
-          (block_begun algebra (block_of d p.settings p.decorator n.kind n.estimate) p)
+      kind_way-from p = option_and_then (λ (e : Entered). option_and_then (λ w. keeping algebra (Indented outer) s.text w) (kind_opened algebra e.1 n.kind n.estimate trees e.0))
+          (block_entered algebra (block_of d p.settings p.decorator n.kind n.estimate) p)
 
       node-way : opened_in algebra (Indented outer) n trees q ≡ option_map left (appended sub)
       node-way =
           ap (λ o. option_and_then kind_way-from o) (plain-style q n.style is.style)
           ∙ ap (λ k. kind_way q k) is.kind ∙ text-way
 
-    -- THE LAW: the item is a new line, if its sub-block isn't too narrow
-    pub blank_opened : (b : OwnBlock) → b ≡ layout.Indented prefix columns min_width → block_opened algebra n trees b s
-        ≡ option_map left (option_and_then (λ (sub : MachineBlock T ℕ). machine.operations.new_line s.block) (machine.operations.sub_block s.block columns min_width))
-    blank_opened b e =
-        ap (λ c. block_opened algebra n trees c s) e ∙ by (machine.operations.sub_block s.block columns min_width)
+    -- block after the item, in a state whose block is flushed
+    abbrev skipped : Option (MachineBlock T ℕ)
+    skipped = option_and_then (λ (sub : MachineBlock T ℕ). machine.operations.new_line s.block)
+        (machine.operations.sub_block s.block s.text.tag (chars prefix) (spaces columns) columns min_width)
+
+    item-opened : option_and_then (λ (e : Entered). opened_in algebra e.1 n trees e.0) (option_and_then (λ q. Some (q, Indented outer))
+        (nested algebra s.text.tag (chars prefix) (spaces columns) columns min_width s)) ≡ option_map left skipped
+    item-opened =
+        by (machine.operations.sub_block s.block s.text.tag (chars prefix) (spaces columns) columns min_width)
         ∙ ap (option_map left)
         (blank_item s.block columns min_width style (chars is.content) s.text.tag (chars prefix) (spaces columns) is.mode is.blank)
       where
-        by : (o : Option (MachineBlock T ℕ)) → option_and_then (λ q. opened_in algebra (Indented outer) n trees q) (option_map (λ (sub : MachineBlock T ℕ). within algebra sub s) o)
-            ≡ option_map left (option_and_then appended o)
+        by : (o : Option (MachineBlock T ℕ)) → option_and_then (λ (e : Entered). opened_in algebra e.1 n trees e.0) (option_and_then (λ q. Some (q, Indented outer))
+            (option_map (λ (sub : MachineBlock T ℕ). within algebra sub s) o)) ≡ option_map left (option_and_then appended o)
         by None = refl
         by (Some sub) = node-way sub
 
+  module _ (n : RenderNode) (trees : Forest RenderNode) (prefix : List ℕ) (columns min_width : ℕ) (s : St) (is : IsBlank n s.text) where
+    abbrev with_block : MachineBlock T ℕ → St
+    with_block b = record s { block = b }
+
     abbrev wanted : Option (MachineBlock T ℕ)
-    wanted = option_and_then (λ (sub : MachineBlock T ℕ). machine.operations.new_line s.block) (machine.operations.sub_block s.block columns min_width)
+    wanted = option_and_then (λ (r : MachineBlock T ℕ). skipped n trees prefix columns min_width (with_block r) is) (machine.operations.new_line s.block)
+
+    abbrev passed : MachineBlock T ℕ → Ways
+    passed b = Past (with_block b)
+
+    -- THE LAW: the item is a new line, if its sub-block isn't too narrow
+    pub blank_opened : (b : OwnBlock) → b ≡ layout.Indented prefix columns min_width → block_opened algebra n trees b s ≡ option_map passed wanted
+    blank_opened b e = ap (λ c. block_opened algebra n trees c s) e ∙ by (machine.operations.new_line s.block)
+      where
+        by : (o : Option (MachineBlock T ℕ)) → option_and_then (λ (e : Entered). opened_in algebra e.1 n trees e.0) (option_and_then (λ (r : St).
+            option_and_then (λ q. Some (q, Indented (interrupted algebra r prefix columns))) (nested algebra r.text.tag (chars prefix) (spaces columns) columns min_width r))
+            (option_map with_block o))
+            ≡ option_map passed (option_and_then (λ (r : MachineBlock T ℕ). skipped n trees prefix columns min_width (with_block r) is) o)
+        by None = refl
+        by (Some r) = item-opened n trees prefix columns min_width (with_block r) is
 
     pub blank_passed : (b : OwnBlock) → b ≡ layout.Indented prefix columns min_width → (new : MachineBlock T ℕ) → wanted ≡ Some new →
-        block_opened algebra n trees b s ≡ Some (left new)
-    blank_passed b e new done = blank_opened b e ∙ ap (option_map left) done
+        block_opened algebra n trees b s ≡ Some (passed new)
+    blank_passed b e new done = blank_opened b e ∙ ap (option_map passed) done
 
     pub blank_refused : (b : OwnBlock) → b ≡ layout.Indented prefix columns min_width → (error : Error) → Refuses error wanted →
         Refuses error (block_opened algebra n trees b s)
-    blank_refused b e TooNarrow refused = blank_opened b e ∙ ap (option_map left) refused
+    blank_refused b e TooNarrow refused = blank_opened b e ∙ ap (option_map passed) refused
     blank_refused b e Fail refused = absurd refused
     blank_refused b e OutOfMemory refused = tt

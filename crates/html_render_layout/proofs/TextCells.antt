@@ -21,7 +21,7 @@ use Rattle.html_render_layout.specs.declared.state.Suspended.TheVariants.{NoBloc
 use Rattle.html_render_layout.specs.declared.state.OpenNode.{OpenNode}
 use Rattle.html_render_layout.specs.declared.state.LayoutState.{LayoutState}
 use Rattle.html_render_layout.specs.Layout.{Algebra, struck, within, block_of, text_style, write}
-use Rattle.html_render_layout.specs.Opening.{block_begun, block_kept, kind_opened, keeping, cell_opened, opened_below, opened, closed}
+use Rattle.html_render_layout.specs.Opening.{block_entered, kind_opened, keeping, cell_opened, opened_below, opened, closed}
 use Rattle.html_render_layout.specs.TextCells.{IsTextCell, IsRow, IsOrdinary, cell_put}
 use Rattle.html_render_layout.specs.Working.{by_tags}
 use Rattle.html_render_layout.specs.laws.Opening.{texts_pass}
@@ -59,9 +59,8 @@ module _ {S A K T : Type 0} (d : Decoration S A) (push : K → T → A → K × 
     added o = option_and_then (λ (c : MachineBlock T ℕ). machine.operations.add_cell s.block c) o
 
     abbrev way_from : Forest RenderNode → St → NodeKind → Option (Way St Kept)
-    way_from f p k = option_and_then (λ r. option_and_then (λ w. keeping algebra item s.text w)
-        (kind_opened algebra (block_kept algebra (block_of d p.settings p.decorator k n.estimate) p) k n.estimate f r))
-        (block_begun algebra (block_of d p.settings p.decorator k n.estimate) p)
+    way_from f p k = option_and_then (λ (e : St × Suspended S (Prefixing (MachineBlock T ℕ) T) (MachineBlock T ℕ)). option_and_then (λ w. keeping algebra item s.text w) (kind_opened algebra e.1 k n.estimate f e.0))
+        (block_entered algebra (block_of d p.settings p.decorator k n.estimate) p)
 
     opens : (f : Forest RenderNode) → opened algebra (Some parent) number n f s ≡ Some (Into q kept)
     opens f =

@@ -243,27 +243,34 @@ module _ {S A K T B : Type 0} (m : Algebra S A K T B) where
   abbrev pub within : B → State → State
   within b s = record s { decorator = m.decoration.subblock s.decorator; block = b }
 
-  -- state inside an empty sub-block, with the columns that a prefix of `prefix` columns leaves, at least `min_width`; none where
-  -- it is too narrow
-  abbrev pub nested : (prefix min_width : ℕ) → State → Option State
-  nested prefix min_width s = option_map (λ b. within b s) (m.operations.sub_block s.block prefix min_width)
+  -- state inside an empty sub-block whose lines follow these prefixes, with the columns that `prefix` columns leave, at least
+  -- `min_width`; none where it is too narrow
+  abbrev pub nested : T → (first later : List ℕ) → (prefix min_width : ℕ) → State → Option State
+  nested tag first later prefix min_width s = option_map (λ b. within b s) (m.operations.sub_block s.block tag first later prefix min_width)
 
   -- state r with the decorator of s, and the block that f makes of the block of s and the sub-block of r
   abbrev pub joined : (B → B → Option B) → State → State → Option State
   joined f s r = option_map (λ b. record r { decorator = s.decorator; block = b }) (f s.block r.block)
 
-  -- block b after the lines of c are appended to it as a block, each after a prefix; none where it is too narrow
+  -- block b, in which a block was started, after the lines of c are appended to it and end that block; none where it is too narrow
   abbrev pub appended_block : T → (prefix : List ℕ) → B → B → Option B
-  appended_block tag prefix b c =
-      m.operations.start_block b >>= λ e. option_map m.operations.end_block (m.operations.append e c tag (chars prefix) (chars prefix))
+  appended_block tag prefix b c = option_map m.operations.end_block (m.operations.append b c tag (chars prefix) (chars prefix))
 
-  -- place of a node that is laid out into this block. Of an indented sub-block the first line is appended after the prefix, and
-  -- later ones after `columns` spaces
+  -- place of a node in a state; none without a state
+  abbrev pub place_in : (State → NodePlace State) → Option State → NodePlace State
+  place_in place None = Within None (λ r. Some r)
+  place_in place (Some q) = place q
+
+  -- place of a node that is laid out into this block. Before a sub-block with prefixes a block starts, and before an indented one
+  -- a new line. Of an indented sub-block the first line is appended after the prefix, and later ones after `columns` spaces
   abbrev pub block_place : OwnBlock → State → NodePlace State
   block_place Shared s = Bare
-  block_place (Prefixed prefix min_width) s = Within (nested (prefix_columns prefix) min_width s) (joined (appended_block s.text.tag prefix) s)
+  block_place (Prefixed prefix min_width) s =
+      place_in (λ q. Within (nested q.text.tag (chars prefix) (chars prefix) (prefix_columns prefix) min_width q)
+      (joined (appended_block q.text.tag prefix) q)) (on_block m.operations.start_block s)
   block_place (Indented prefix columns min_width) s =
-      Within (nested columns min_width s) (joined (λ b c. m.operations.append b c s.text.tag (chars prefix) (spaces columns)) s)
+      place_in (λ q. Within (nested q.text.tag (chars prefix) (spaces columns) columns min_width q)
+      (joined (λ b c. m.operations.append b c q.text.tag (chars prefix) (spaces columns)) q)) (on_block m.operations.new_line s)
 
   -- place of the next cell of a row, by its block; without one the cell is skipped
   abbrev pub cell_place : Option B → State → NodePlace State

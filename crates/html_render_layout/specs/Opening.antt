@@ -96,17 +96,18 @@ module _ {S A K T B : Type 0} (m : Algebra S A K T B) where
 
   -- ---- blocks
 
-  -- state after a node's block is begun; none where it is too narrow
-  abbrev pub block_begun : OwnBlock → State m → Option (State m)
-  block_begun Shared s = Some s
-  block_begun (Prefixed prefix min_width) s = nested m (prefix_columns prefix) min_width s
-  block_begun (layout.Indented prefix columns min_width) s = nested m columns min_width s
-
-  -- what a node suspends as its block is begun
-  abbrev pub block_kept : OwnBlock → State m → Suspended S (Prefixing B T) B
-  block_kept Shared s = NoBlock
-  block_kept (Prefixed prefix min_width) s = Quoted (interrupted s prefix (prefix_columns prefix))
-  block_kept (layout.Indented prefix columns min_width) s = Indented (interrupted s prefix columns)
+  -- state in the block of a node, and what it suspends; none where it is too narrow. Before a sub-block with prefixes a block is
+  -- started, and before an indented one a new line
+  abbrev pub block_entered : OwnBlock → State m → Option (State m × Suspended S (Prefixing B T) B)
+  block_entered Shared s = Some (s, NoBlock)
+  block_entered (Prefixed prefix min_width) s = do
+    r ← on_block m.operations.start_block s
+    q ← nested m r.text.tag (chars prefix) (chars prefix) (prefix_columns prefix) min_width r
+    Some (q, Quoted (interrupted r prefix (prefix_columns prefix)))
+  block_entered (layout.Indented prefix columns min_width) s = do
+    r ← on_block m.operations.new_line s
+    q ← nested m r.text.tag (chars prefix) (spaces columns) columns min_width r
+    Some (q, Indented (interrupted r prefix columns))
 
   -- ---- kinds of nodes
 
@@ -168,8 +169,8 @@ module _ {S A K T B : Type 0} (m : Algebra S A K T B) where
   abbrev pub opened_in : Suspended S (Prefixing B T) B → RenderNode → Forest RenderNode → State m → Option (Way (State m) (OpenNode S T (Prefixing B T) B))
   opened_in item n trees s = do
     q ← perform_all m s (style_steps m.decoration n.style) s
-    p ← block_begun (block_of m.decoration q.settings q.decorator n.kind n.estimate) q
-    w ← kind_opened (block_kept (block_of m.decoration q.settings q.decorator n.kind n.estimate) q) n.kind n.estimate trees p
+    e ← block_entered (block_of m.decoration q.settings q.decorator n.kind n.estimate) q
+    w ← kind_opened e.1 n.kind n.estimate trees e.0
     keeping item s.text w
 
   -- way of a text in the block of its siblings
@@ -187,8 +188,8 @@ module _ {S A K T B : Type 0} (m : Algebra S A K T B) where
   -- way of a node in this block
   abbrev pub block_opened : RenderNode → Forest RenderNode → OwnBlock → State m → Option (Way (State m) (OpenNode S T (Prefixing B T) B))
   block_opened n trees b s = do
-    q ← block_begun b s
-    opened_in (block_kept b s) n trees q
+    e ← block_entered b s
+    opened_in e.1 n trees e.0
 
   -- way of a child, by its parent's closing action and its number
   abbrev pub opened_below : CloseAction S T (Prefixing B T) B → (number : ℕ) → RenderNode → Forest RenderNode → State m → Option (Way (State m) (OpenNode S T (Prefixing B T) B))

@@ -7,11 +7,11 @@ ghost use Rattle.html_render_dom_values.specs.Outcome.{Refuses};
 ghost use Rattle.html_render_layout_estimates.specs.Estimates.{prefix_columns};
 ghost use Rattle.html_render_layout.specs.Blank.{IsBlank, IsIndented, IsPlain};
 ghost use Rattle.html_render_layout.specs.Layout.{Indented, padded};
-ghost use Rattle.html_render_layout.specs.Opening.{number_from, child_block, block_begun, block_kept};
+ghost use Rattle.html_render_layout.specs.Opening.{number_from, child_block, block_entered};
 ghost use Rattle.html_render_layout.specs.Working.{by_tags};
 
 use crate::bullet::Bullet;
-use crate::nesting::nest;
+use crate::nesting::begin_indented;
 use crate::spaces::padded;
 use crate::state::{CloseAction, Suspended, TextContext};
 use crate::tagging::Tagging;
@@ -38,16 +38,13 @@ fn begin_bulleted<D: TextDecorator, G: Tagging<D::Annotation>>(
     min_width: usize,
     state: &mut State<D, G>,
 ) -> Result<Interrupted<D, G>, Error>
-    ensures ok { OnOk result (block_begun (by_tags D.decoration G.annotated)
-        (Indented bullet.now (prefix_columns bullet.now) min_width) state.old ≡ Some state.new) }
-    ensures kept { IfOk result (λ i. i ≡ block_kept (by_tags D.decoration G.annotated)
-        (Indented bullet.now (prefix_columns bullet.now) min_width) state.old) }
-    ensures err { IfErr result (λ e. Refuses e (block_begun (by_tags D.decoration G.annotated)
+    ensures ok { IfOk result (λ i. block_entered (by_tags D.decoration G.annotated)
+        (Indented bullet.now (prefix_columns bullet.now) min_width) state.old ≡ Some (state.new, i)) }
+    ensures err { IfErr result (λ e. Refuses e (block_entered (by_tags D.decoration G.annotated)
         (Indented bullet.now (prefix_columns bullet.now) min_width) state.old)) }
 {
     let prefix = PrefixText::from_str(alloc, bullet.as_str())?;
-    let outer = nest(alloc, prefix, bullet.columns(), min_width, state)?;
-    Ok(Suspended::Indented(outer))
+    begin_indented(alloc, prefix, bullet.columns(), min_width, state)
 }
 
 /// Begins the sub-block of an item after a prefix, which is padded with spaces to `columns` columns. Returns the block that
@@ -59,16 +56,13 @@ fn begin_padded<D: TextDecorator, G: Tagging<D::Annotation>>(
     min_width: usize,
     state: &mut State<D, G>,
 ) -> Result<Interrupted<D, G>, Error>
-    ensures ok { OnOk result (block_begun (by_tags D.decoration G.annotated)
-        (Indented (padded columns (string_bytes prefix)) columns min_width) state.old ≡ Some state.new) }
-    ensures kept { IfOk result (λ i. i ≡ block_kept (by_tags D.decoration G.annotated)
-        (Indented (padded columns (string_bytes prefix)) columns min_width) state.old) }
-    ensures err { IfErr result (λ e. Refuses e (block_begun (by_tags D.decoration G.annotated)
+    ensures ok { IfOk result (λ i. block_entered (by_tags D.decoration G.annotated)
+        (Indented (padded columns (string_bytes prefix)) columns min_width) state.old ≡ Some (state.new, i)) }
+    ensures err { IfErr result (λ e. Refuses e (block_entered (by_tags D.decoration G.annotated)
         (Indented (padded columns (string_bytes prefix)) columns min_width) state.old)) }
 {
     let prefix = padded(prefix, columns)?;
-    let outer = nest(alloc, PrefixText::from(prefix), columns, min_width, state)?;
-    Ok(Suspended::Indented(outer))
+    begin_indented(alloc, PrefixText::from(prefix), columns, min_width, state)
 }
 
 /// Begins the sub-block of a child of a list with this closing action. Returns the block that it suspends. `number` is the
@@ -76,7 +70,7 @@ fn begin_padded<D: TextDecorator, G: Tagging<D::Annotation>>(
 ///
 /// # Errors
 ///
-/// `TooNarrow` if overflow is off and the prefix leaves fewer columns than the sub-block's minimum width. `OutOfMemory`.
+/// Those of [`begin_indented`].
 #[inline]
 pub fn begin_item<D: TextDecorator, G: Tagging<D::Annotation>>(
     alloc: Global,
@@ -84,11 +78,9 @@ pub fn begin_item<D: TextDecorator, G: Tagging<D::Annotation>>(
     number: usize,
     state: &mut State<D, G>,
 ) -> Result<Interrupted<D, G>, Error>
-    ensures ok { OnOk result (block_begun (by_tags D.decoration G.annotated)
-        (child_block (by_tags D.decoration G.annotated) state.old.decorator list.now number) state.old ≡ Some state.new) }
-    ensures kept { IfOk result (λ i. i ≡ block_kept (by_tags D.decoration G.annotated)
-        (child_block (by_tags D.decoration G.annotated) state.old.decorator list.now number) state.old) }
-    ensures err { IfErr result (λ e. Refuses e (block_begun (by_tags D.decoration G.annotated)
+    ensures ok { IfOk result (λ i. block_entered (by_tags D.decoration G.annotated)
+        (child_block (by_tags D.decoration G.annotated) state.old.decorator list.now number) state.old ≡ Some (state.new, i)) }
+    ensures err { IfErr result (λ e. Refuses e (block_entered (by_tags D.decoration G.annotated)
         (child_block (by_tags D.decoration G.annotated) state.old.decorator list.now number) state.old)) }
 {
     match list {

@@ -1,12 +1,12 @@
 //! Sub-blocks: beginning one, and appending its lines to the outer block.
 #![tactic(auto, using(html_render_dom_values::specs::laws::Outcome::refusals))]
 
-ghost use Rattle.std.specs.Prelude.{◌≡◌, Some, OnOk, IfOk, IfErr, string_bytes};
+ghost use Rattle.std.specs.Prelude.{◌≡◌, ℕ, List, Some, OnOk, IfOk, IfErr, string_bytes};
 ghost use Rattle.std.specs.Str.{chars};
 ghost use Rattle.html_render_dom_values.specs.Outcome.{Gives, Refuses};
 ghost use Rattle.html_render_layout_blocks.specs.Machine as machine;
 ghost use Rattle.html_render_layout.specs.Layout.{Prefixed, Indented, nested, spaces};
-ghost use Rattle.html_render_layout.specs.Opening.{interrupted, indent_closed, quote_closed, block_begun, block_kept};
+ghost use Rattle.html_render_layout.specs.Opening.{interrupted, indent_closed, quote_closed, block_entered};
 ghost use Rattle.html_render_layout.specs.Working.{by_tags};
 
 use crate::spaces::many_spaces;
@@ -29,16 +29,18 @@ use std::mem;
 /// # Errors
 ///
 /// `TooNarrow` if overflow is off and the prefix leaves fewer than `min_width` columns. `OutOfMemory`.
-pub fn nest<D: TextDecorator, G: Tagging<D::Annotation>>(
+fn nest<D: TextDecorator, G: Tagging<D::Annotation>>(
     alloc: Global,
     prefix: PrefixText,
     columns: usize,
     min_width: usize,
     state: &mut State<D, G>,
 ) -> Result<OuterBlock<D, G>, Error>
-    ensures ok { OnOk result (nested (by_tags D.decoration G.annotated) columns min_width state.old ≡ Some state.new) }
+    ensures ok { (first later : List ℕ) → OnOk result (nested (by_tags D.decoration G.annotated) state.old.text.tag first later columns min_width state.old
+        ≡ Some state.new) }
     ensures outer { IfOk result (λ outer. outer ≡ interrupted (by_tags D.decoration G.annotated) state.old prefix columns) }
-    ensures err { IfErr result (λ e. Refuses e (nested (by_tags D.decoration G.annotated) columns min_width state.old)) }
+    ensures err { (first later : List ℕ) → IfErr result (λ e. Refuses e (nested (by_tags D.decoration G.annotated) state.old.text.tag first later columns
+        min_width state.old)) }
 {
     let block = state.block.sub_block(columns, min_width)?;
     let decorator = state.decorator.make_subblock_decorator(alloc)?;
@@ -48,44 +50,66 @@ pub fn nest<D: TextDecorator, G: Tagging<D::Annotation>>(
     })
 }
 
-/// Begins a sub-block, each of whose lines follows the prefix. Returns the block that it suspends.
+/// Begins a block with a sub-block, each of whose lines follows the prefix. Returns the block that it suspends.
 ///
 /// # Errors
 ///
-/// `TooNarrow` if overflow is off and the prefix leaves fewer than `min_width` columns. `OutOfMemory`.
+/// `TooNarrow` if overflow is off and a character of the open paragraph is wider than a line, or the prefix leaves fewer than
+/// `min_width` columns. `OutOfMemory`.
 pub fn begin_prefixed<D: TextDecorator, G: Tagging<D::Annotation>>(
     alloc: Global,
     prefix: String,
     min_width: usize,
     state: &mut State<D, G>,
 ) -> Result<Interrupted<D, G>, Error>
-    ensures ok { OnOk result (block_begun (by_tags D.decoration G.annotated) (Prefixed (string_bytes prefix) min_width) state.old ≡ Some state.new) }
-    ensures kept { IfOk result (λ i. i ≡ block_kept (by_tags D.decoration G.annotated) (Prefixed (string_bytes prefix) min_width) state.old) }
-    ensures err { IfErr result (λ e. Refuses e (block_begun (by_tags D.decoration G.annotated) (Prefixed (string_bytes prefix) min_width) state.old)) }
+    ensures ok { IfOk result (λ i. block_entered (by_tags D.decoration G.annotated) (Prefixed (string_bytes prefix) min_width) state.old
+        ≡ Some (state.new, i)) }
+    ensures err { IfErr result (λ e. Refuses e (block_entered (by_tags D.decoration G.annotated) (Prefixed (string_bytes prefix) min_width) state.old)) }
 {
     let prefix = PrefixText::from(prefix);
     let columns = columns(prefix.as_str());
+    state.block.as_mut().start_block()?;
     let outer = nest(alloc, prefix, columns, min_width, state)?;
     Ok(Suspended::Quoted(outer))
+}
+
+/// Begins a new line with a sub-block, whose first line follows the prefix, and other lines `columns` spaces. Returns the block that it
+/// suspends.
+///
+/// # Errors
+///
+/// `TooNarrow` if overflow is off and a character of the open paragraph is wider than a line, or `columns` columns leave fewer
+/// than `min_width`. `OutOfMemory`.
+pub fn begin_indented<D: TextDecorator, G: Tagging<D::Annotation>>(
+    alloc: Global,
+    prefix: PrefixText,
+    columns: usize,
+    min_width: usize,
+    state: &mut State<D, G>,
+) -> Result<Interrupted<D, G>, Error>
+    ensures ok { IfOk result (λ i. block_entered (by_tags D.decoration G.annotated) (Indented prefix columns min_width) state.old ≡ Some (state.new, i)) }
+    ensures err { IfErr result (λ e. Refuses e (block_entered (by_tags D.decoration G.annotated) (Indented prefix columns min_width) state.old)) }
+{
+    state.block.as_mut().new_line()?;
+    let outer = nest(alloc, prefix, columns, min_width, state)?;
+    Ok(Suspended::Indented(outer))
 }
 
 /// Begins the sub-block of a description, whose first line follows two spaces. Returns the block that it suspends.
 ///
 /// # Errors
 ///
-/// `TooNarrow` if overflow is off and the spaces leave fewer than `min_width` columns. `OutOfMemory`.
+/// Those of [`begin_indented`].
 pub fn begin_description<D: TextDecorator, G: Tagging<D::Annotation>>(
     alloc: Global,
     min_width: usize,
     state: &mut State<D, G>,
 ) -> Result<Interrupted<D, G>, Error>
-    ensures ok { OnOk result (block_begun (by_tags D.decoration G.annotated) (Indented (spaces 2) 2 min_width) state.old ≡ Some state.new) }
-    ensures kept { IfOk result (λ i. i ≡ block_kept (by_tags D.decoration G.annotated) (Indented (spaces 2) 2 min_width) state.old) }
-    ensures err { IfErr result (λ e. Refuses e (block_begun (by_tags D.decoration G.annotated) (Indented (spaces 2) 2 min_width) state.old)) }
+    ensures ok { IfOk result (λ i. block_entered (by_tags D.decoration G.annotated) (Indented (spaces 2) 2 min_width) state.old ≡ Some (state.new, i)) }
+    ensures err { IfErr result (λ e. Refuses e (block_entered (by_tags D.decoration G.annotated) (Indented (spaces 2) 2 min_width) state.old)) }
 {
     let prefix = PrefixText::from_str(alloc, "  ")?;
-    let outer = nest(alloc, prefix, 2, min_width, state)?;
-    Ok(Suspended::Indented(outer))
+    begin_indented(alloc, prefix, 2, min_width, state)
 }
 
 /// Appends the lines of a sub-block, the first after its prefix and later ones after spaces of the prefix's columns.
@@ -139,7 +163,6 @@ pub fn close_quote<D: TextDecorator, G: Tagging<D::Annotation>>(
     let sub = state.block.resume(outer.block);
     let prefix = sub.prefix;
     let later = Prefix::new(prefix.as_str(), sub.tag);
-    state.block.as_mut().start_block()?;
     state.block.append(sub.block, prefix.as_str(), &later)?;
     state.block.as_mut().end_block();
     state.decorator = outer.decorator;

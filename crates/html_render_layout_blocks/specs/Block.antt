@@ -205,7 +205,7 @@ module _ {P R T M : Type 0} (parts : Parts P R T M) where
     -- The next text that isn't blank starts another block.
     end_block = λ b. record b { at_block_end = true };
     -- An empty block after a prefix of this width.
-    sub_block = λ b prefix inner. option_map (λ (w : ℕ). inner_block b w) (inner_width b.setting prefix inner);
+    sub_block = λ b tag first later prefix inner. option_map (λ (w : ℕ). inner_block b w) (inner_width b.setting prefix inner);
     append = append;
     -- A table begins on this grid, with borders under this tag if borders are drawn. Its cells are stacked if that is
     -- requested, or if its columns don't fit side by side.

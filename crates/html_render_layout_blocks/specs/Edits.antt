@@ -37,7 +37,7 @@ edited o end (NewLineHard next) b = o.new_line_hard b >>= λ c. edited o end nex
 edited o end (StartBlock next) b = o.start_block b >>= λ c. edited o end next c
 edited o end (EndBlock next) b = edited o end next (o.end_block b)
 edited o end (Nest prefix min_width inside tag first later next) b =
-    o.sub_block b prefix min_width >>= λ i. edited o end inside i >>= λ c. o.append b c tag first later >>= λ d. edited o end next d
+    o.sub_block b tag first later prefix min_width >>= λ i. edited o end inside i >>= λ c. o.append b c tag first later >>= λ d. edited o end next d
 edited o end (BeginTable tag borders stacked grid needs next) b = o.begin_table b tag borders stacked grid needs >>= λ c. edited o end next c
 edited o end (BeginRow next) b = edited o end next (o.begin_row b)
 edited o end (AddCell inside next) b =

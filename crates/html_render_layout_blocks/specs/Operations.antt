@@ -13,7 +13,8 @@ pub record Operations (B T M : Type 0) : Type 0 where
   pub new_line_hard : B → Option B
   pub start_block : B → Option B
   pub end_block : B → B
-  pub sub_block : B → ℕ → ℕ → Option B  -- by the columns of the prefix and the minimum width
+  -- with the tag and the prefixes of the lines that are appended later, the columns of the prefix and the minimum width
+  pub sub_block : B → T → (first later : List ℕ) → (prefix min_width : ℕ) → Option B
   pub append : B → B → T → List ℕ → List ℕ → Option B  -- a tag, and the prefixes of the first line and of the others
   pub begin_table : B → T → (borders stacked : Bool) → CellGrid → List ColumnNeed → Option B  -- with the tag of the borders
   pub begin_row : B → B

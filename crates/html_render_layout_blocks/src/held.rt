@@ -4,7 +4,7 @@
 //! `current.resume(suspended)` returns to it. The box of a block has room for the prefix of its sub-block's lines, so
 //! neither needs an allocation.
 
-ghost use Rattle.std.specs.Prelude.{◌≡◌, Some, OnOk, IfOk, IfErr, map, option_and_then, string_bytes};
+ghost use Rattle.std.specs.Prelude.{◌≡◌, ℕ, List, Some, OnOk, IfOk, IfErr, map, option_and_then, string_bytes};
 ghost use Rattle.std.specs.Borrow.{sem};
 ghost use Rattle.std.specs.Str.{chars};
 ghost use Rattle.html_render_dom_values.specs.Outcome.{Gives, OnlyOutOfMemory, Refuses};
@@ -235,8 +235,8 @@ impl<T: Tag, M: Copy> CurrentBlock<T, M> {
     #[tactic(auto, using(html_render_dom_values::specs::laws::Outcome::refusals), unfolding(crate::specs::Machine::operations))]
     pub fn sub_block(&mut self, prefix: usize, inner: usize) -> Result<BoxedBlock<T, M>, Error>
         ensures same { OnOk result (self.new ≡ self.old) }
-        ensures ok { IfOk result (λ sub. machine.operations.sub_block self.old prefix inner ≡ Some sub) }
-        ensures err { IfErr result (λ e. Refuses e (machine.operations.sub_block self.old prefix inner)) }
+        ensures ok { (tag : T) (first later : List ℕ) → IfOk result (λ sub. machine.operations.sub_block self.old tag first later prefix inner ≡ Some sub) }
+        ensures err { (tag : T) (first later : List ℕ) → IfErr result (λ e. Refuses e (machine.operations.sub_block self.old tag first later prefix inner)) }
     {
         match self.held.block.width_behind(prefix, inner) {
             Some(width) => self.inner_block(width),
@@ -252,8 +252,10 @@ impl<T: Tag, M: Copy> CurrentBlock<T, M> {
     /// - `TooNarrow`, as in [`sub_block`](CurrentBlock::sub_block) and [`Block::flush`].
     #[tactic(auto, using(html_render_dom_values::specs::laws::Outcome::refusals), unfolding(crate::specs::Machine::operations))]
     pub fn skip_sub_block(&mut self, prefix: usize, inner: usize) -> Result<(), Error>
-        ensures { Gives result (option_and_then (λ _. machine.operations.new_line self.old) (machine.operations.sub_block self.old prefix inner)) self.new }
+        ensures { (tag : T) (first later : List ℕ) → Gives result (option_and_then (λ b. option_and_then (λ _. machine.operations.new_line b)
+            (machine.operations.sub_block b tag first later prefix inner)) (machine.operations.new_line self.old)) self.new }
     {
+        self.held.block.new_line()?;
         match self.held.block.width_behind(prefix, inner) {
             Some(_) => self.held.block.new_line(),
             None => Err(Error::TooNarrow),

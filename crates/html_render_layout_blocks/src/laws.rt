@@ -41,8 +41,8 @@ fn white_space_alone_is_a_new_line<T, M>()
     ensures { (b : MachineBlock T M) (prefix inner : ℕ) (style : TextStyle T) (cs : List ℕ) (tag : T) (first later : List ℕ) → style.mode ≡ Normal →
         list_all is_collapsible cs ≡ true →
         option_and_then (λ sub. option_and_then (λ done. machine.operations.append b done tag first later)
-        (machine.operations.add_inline_text sub style cs)) (machine.operations.sub_block b prefix inner)
-        ≡ option_and_then (λ sub. machine.operations.new_line b) (machine.operations.sub_block b prefix inner) }
+        (machine.operations.add_inline_text sub style cs)) (machine.operations.sub_block b tag first later prefix inner)
+        ≡ option_and_then (λ sub. machine.operations.new_line b) (machine.operations.sub_block b tag first later prefix inner) }
 {}
 
 /// States that a table which is begun in a block, given the finished blocks of its cells and ended is one function of these

@@ -39,7 +39,7 @@ use Rattle.html_render_layout.specs.Kept.{visited_nodes, KeepsTexts}
 use Rattle.html_render_layout.specs.Layout.{Algebra, kind_text, Step, Write, WriteNumber, Annotate, Treat, Strike, Unstrike, Restore, NewLine, NewLineHard}
 use Rattle.html_render_layout.specs.Layout.{StartBlock, EndBlock, Fence, BeginTable, EndTable, AddTarget, AddMark}
 use Rattle.html_render_layout.specs.Layout.{Shape, Steps, Around, Items, Cells, block_of, shape_of, style_steps}
-use Rattle.html_render_layout.specs.Layout.{spaces, annotated, struck, on_block, text_style, write, perform, perform_all, joined, appended_block}
+use Rattle.html_render_layout.specs.Layout.{spaces, annotated, struck, on_block, text_style, write, perform, perform_all, nested, joined, place_in, appended_block}
 use Rattle.html_render_layout.specs.Layout.{block_place, cell_place, shape_layout, kind_layout, layout_of, Defined, by_stacks, empty_state, estimated, layout_lines}
 use Rattle.html_render_layout.specs.Ending.{closing_texts}
 
@@ -128,15 +128,14 @@ module _ {S A K T B : Type 0} (m : Algebra S A K T B) (v : B → ℕ) (w : List 
   block-joins : (s : State) (prefix : List ℕ) → Joins s (joined m (appended_block m s.text.tag prefix) s)
   block-joins s prefix r =
       map_if (λ b. counted s + counted r ≤ v b) _ _ (appended_block m s.text.tag prefix s.block r.block)
-      (bind_some _ _ _ (m.operations.start_block s.block) (h.start_block s.block) (λ b e.
-      map_if _ _ _ (m.operations.append b r.block s.text.tag (chars prefix) (chars prefix)) (h.append _ _ _ _ _)
-      (λ c a. omega (arith, h.end_block c)))) (λ b a. (refl, (refl, a)))
+      (map_if _ _ _ (m.operations.append s.block r.block s.text.tag (chars prefix) (chars prefix)) (h.append _ _ _ _ _)
+      (λ c a. omega (arith, a, h.end_block c))) (λ b a. (refl, (refl, a)))
 
   -- whether a place keeps the treatment of texts of s and lowers no count
   abbrev PlaceAdds : State → NodePlace State → Type 0
   PlaceAdds s Bare = Unit {0}
   PlaceAdds s (Skipped t) = Left s (counted s) t
-  PlaceAdds s (Within before after) = IfSome before (λ q. q.text ≡ s.text) × Joins s after
+  PlaceAdds s (Within before after) = IfSome before (λ q. (q.text ≡ s.text) × Joins s after)
 
   abbrev PlacesAdd : Places State → Type 0
   PlacesAdd places = (number : ℕ) (s : State) → PlaceAdds s (places number s)
@@ -165,13 +164,42 @@ module _ {S A K T B : Type 0} (m : Algebra S A K T B) (v : B → ℕ) (w : List 
       followed-adds (λ i. Has q.decorator (counted q + i)) (λ i. Has s.decorator (n + i)) (visit q) after
       (λ i r a. IfSome_then (after r) (k r) (λ t b. (b.1.0, omega (arith, le, a.1, b.1.1)))) (grows q (counted q) (omega arith))
 
+  -- a visit in a sub-block of a state that is reached from s
+  reached-adds : (s : State) (n : ℕ) (o : Option State) → IfSome o (Has s.decorator n) → (before : State → Option State)
+      (after : State → State → Option State) (visit : State → Visit State) → ((q : State) → Joins q (after q)) → Grows visit →
+      Adds (λ i. Has s.decorator (n + i)) (placed (place_in m (λ q. Within (before q) (after q)) o) visit s)
+  reached-adds s n None k before after visit joins grows = tt
+  reached-adds s n (Some q) k before after visit joins grows =
+      subst (λ d. Adds (λ i. Has d (n + i)) (placed (Within (before q) (after q)) visit q)) k.0
+      (inside-adds q n k.1 (before q) (after q) visit (joins q) grows)
+
   block-grows : (b : State → OwnBlock) (visit : State → Visit State) → Grows visit → Grows (λ s. placed (block_place m (b s) s) visit s)
   block-grows b visit grows s n le = by (b s)
     where
       by : (b : OwnBlock) → Adds (λ i. Has s.decorator (n + i)) (placed (block_place m b s) visit s)
       by Shared = grows s n le
-      by (Prefixed prefix min_width) = inside-adds s n le _ _ visit (block-joins s prefix) grows
-      by (Indented prefix columns min_width) = inside-adds s n le _ _ visit (appended-joins s prefix columns) grows
+      by (Prefixed prefix min_width) =
+          reached-adds s n (on_block m.operations.start_block s) (on_block-keeps m.operations.start_block h.start_block s.decorator n s (refl, le))
+          _ _ visit (λ q. block-joins q prefix) grows
+      by (Indented prefix columns min_width) =
+          reached-adds s n (on_block m.operations.new_line s) (on_block-keeps m.operations.new_line h.new_line s.decorator n s (refl, le))
+          _ _ visit (λ q. appended-joins q prefix columns) grows
+
+  -- an item lowers no count
+  item-adds : (prefix : List ℕ) (columns min_width : ℕ) (s : State) → PlaceAdds s (block_place m (Indented prefix columns min_width) s)
+  item-adds prefix columns min_width s =
+      by (on_block m.operations.new_line s) (map_if _ _ _ (m.operations.new_line s.block) (h.new_line s.block) (λ c p. (refl, (refl, p))))
+    where
+      by : (o : Option State) → IfSome o (Left s (counted s)) → PlaceAdds s (place_in m (λ q.
+          Within (nested m q.text.tag (chars prefix) (spaces columns) columns min_width q)
+          (joined m (λ b c. m.operations.append b c q.text.tag (chars prefix) (spaces columns)) q)) o)
+      by None k = tt
+      by (Some q) k =
+          map_if (λ b. Unit {0}) _ _ (m.operations.sub_block q.block q.text.tag (chars prefix) (spaces columns) columns min_width) (any _) (λ b x. (
+            k.0,
+            λ r. IfSome_then (joined m (λ b c. m.operations.append b c q.text.tag (chars prefix) (spaces columns)) q r) (appended-joins q prefix columns r)
+                (λ t a. (a.0, (a.1.0 ∙ k.1.0, omega (arith, a.1.1, k.1.1)))),
+          ))
 
   -- a shape lowers no count
   shape-adds : (x : Shape S A) (s : State) (n : ℕ) → n ≤ counted s → Adds (λ i. Has s.decorator (n + i)) (shape_layout m x s)
@@ -181,11 +209,10 @@ module _ {S A K T B : Type 0} (m : Algebra S A K T B) (v : B → ℕ) (w : List 
         steps-keep s ys s.decorator (n + k) r (b.0 ∙ a.0, omega (arith, a.1, b.1))),
     λ number q. tt,
   )
-  shape-adds (Items prefix columns min_width) s n le =
-      let c = columns s.decorator in (
-        λ k r a. (a.0, omega (arith, le, a.1)),
-        λ number q. (map_if (λ b. Unit {0}) _ _ (m.operations.sub_block q.block c min_width) (any _) (λ b k. refl), appended-joins q _ c),
-      )
+  shape-adds (Items prefix columns min_width) s n le = (
+    λ k r a. (a.0, omega (arith, le, a.1)),
+    λ number q. item-adds (prefix s.decorator q.decorator number) (columns s.decorator) min_width q,
+  )
   shape-adds Cells s n le = (
     λ k r a. on_block-keeps m.operations.end_row h.end_row s.decorator (n + k) r (a.0, omega (arith, le, a.1, h.begin_row s.block)),
     λ number q. cell-adds (m.operations.cell_block q.block) q,

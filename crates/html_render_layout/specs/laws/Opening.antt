@@ -9,7 +9,7 @@ use Rattle.html_render_layout_nodes.specs.declared.tree.Estimate.{Estimate}
 use Rattle.html_render_layout_nodes.specs.declared.tree.NodeKind.{NodeKind}
 use Rattle.html_render_layout_nodes.specs.declared.tree.NodeKind.TheVariants.{Text, Break, Header, BlockQuote, Dd, Superscript, Image, Svg, FragmentStart, Table}
 use Rattle.html_render_layout_nodes.specs.declared.tree.RenderNode.{RenderNode}
-use Rattle.html_render_layout_nodes.specs.Visits.{Visit, Leaf, Inner, followed, placed, places_in}
+use Rattle.html_render_layout_nodes.specs.Visits.{Visit, Leaf, Inner, Within, followed, placed, places_in}
 use Rattle.html_render_layout_nodes.specs.Visits.{Way, Past, past, opened_with, IsOpened}
 use Rattle.html_render_layout_nodes.specs.laws.Visits.{from_state}
 use Rattle.html_render_layout_estimates.specs.Estimates.{prefix_columns}
@@ -26,9 +26,9 @@ use Rattle.html_render_layout.specs.declared.state.LayoutState.{LayoutState}
 use Rattle.html_render_layout.specs.declared.state.TextContext.{TextContext}
 use Rattle.html_render_layout.specs.Layout.{Shape, Steps, Around, Write, NewLineHard, raised, start, end, image, write, perform}
 use Rattle.html_render_layout.specs.Layout.{Algebra, digits_of, block_of, shape_of, style_steps, perform_all, within}
-use Rattle.html_render_layout.specs.Layout.{block_place, cell_place, shape_layout, kind_layout, layout_of}
+use Rattle.html_render_layout.specs.Layout.{on_block, nested, spaces, place_in, joined, appended_block, block_place, cell_place, shape_layout, kind_layout, layout_of}
 use Rattle.html_render_layout.specs.Images.{shown_title}
-use Rattle.html_render_layout.specs.Opening.{interrupted, continued, keeping, block_begun, block_kept, kind_kept, kind_opened, kind_closed, child_block, kind_below}
+use Rattle.html_render_layout.specs.Opening.{interrupted, continued, keeping, block_entered, kind_kept, kind_opened, kind_closed, child_block, kind_below}
 use Rattle.html_render_layout.specs.Opening.{opened_in, text_opened, cell_opened, block_opened, opened_below, opened, below, closed, walk_visits, walk_below, walk_opened, walk_closed}
 
 -- shape of a superscript, by the digits in it
@@ -59,24 +59,34 @@ module _ {S A K T B : Type 0} (m : Algebra S A K T B) where
   superscript-stands None e s = (refl, λ r. some (kind_closed m (kind_kept m NoBlock Superscript e s) r))
   superscript-stands (Some digits) e s = tt
 
-  -- block that a node of this kind suspends with a block of its own, in the state q
-  abbrev own : NodeKind → Estimate → (q : State) → Suspended S (Prefixing B T) B
-  own k e q = block_kept m (block_of m.decoration q.settings q.decorator k e) q
+  -- state in a node's block, and what the node suspends
+  abbrev Entered : Type 0
+  Entered = State × Suspended S (Prefixing B T) B
 
-  kind-stands : (k : NodeKind) (e : Estimate) (trees : Forest RenderNode) (q s : State) →
-      StandsFor (kind_kept m (own k e q) k e s)
-      (followed (shape_layout m (shape_of m.decoration s.settings k e trees) s) (continued m (own k e q)))
-  kind-stands (Text t) e trees q s = tt
-  kind-stands Break e trees q s = tt
-  kind-stands (Image i) e trees q s = tt
-  kind-stands (Svg title) e trees q s = tt
-  kind-stands (FragmentStart name) e trees q s = tt
-  kind-stands Superscript e trees q s = superscript-stands (digits_of trees) e s
-  kind-stands (Header level) e trees q s = (refl, λ r. refl)
-  kind-stands BlockQuote e trees q s = (refl, λ r. refl)
-  kind-stands Dd e trees q s = (refl, λ r. refl)
-  kind-stands (Table grid) e trees q s = (refl, λ r. refl)
-  kind-stands k e trees q s = (refl, λ r. some (kind_closed m (kind_kept m (own k e q) k e s) r))
+  -- what a block that begins in the state r suspends
+  abbrev suspended : OwnBlock → (r : State) → Suspended S (Prefixing B T) B
+  suspended Shared r = NoBlock
+  suspended (Prefixed prefix min_width) r = Quoted (interrupted m r prefix (prefix_columns prefix))
+  suspended (Indented prefix columns min_width) r = interruption.Indented (interrupted m r prefix columns)
+
+  -- what a node of this kind in the state q suspends with a block of its own, which begins in the state r
+  abbrev own : NodeKind → Estimate → (q r : State) → Suspended S (Prefixing B T) B
+  own k e q r = suspended (block_of m.decoration q.settings q.decorator k e) r
+
+  kind-stands : (k : NodeKind) (e : Estimate) (trees : Forest RenderNode) (q r s : State) →
+      StandsFor (kind_kept m (own k e q r) k e s)
+      (followed (shape_layout m (shape_of m.decoration s.settings k e trees) s) (continued m (own k e q r)))
+  kind-stands (Text t) e trees q r s = tt
+  kind-stands Break e trees q r s = tt
+  kind-stands (Image i) e trees q r s = tt
+  kind-stands (Svg title) e trees q r s = tt
+  kind-stands (FragmentStart name) e trees q r s = tt
+  kind-stands Superscript e trees q r s = superscript-stands (digits_of trees) e s
+  kind-stands (Header level) e trees q r s = (refl, λ r. refl)
+  kind-stands BlockQuote e trees q r s = (refl, λ r. refl)
+  kind-stands Dd e trees q r s = (refl, λ r. refl)
+  kind-stands (Table grid) e trees q r s = (refl, λ r. refl)
+  kind-stands k e trees q r s = (refl, λ t. some (kind_closed m (kind_kept m (own k e q r) k e s) t))
 
   -- a superscript is opened alike with nothing done after it
   superscript-opened : (digits : Option (List ℕ)) (kept : CloseAction S T (Prefixing B T) B) (s : State) →
@@ -85,17 +95,17 @@ module _ {S A K T B : Type 0} (m : Algebra S A K T B) where
   superscript-opened None kept s = refl
   superscript-opened (Some digits) kept s = ap past (some (perform_all m s (Write (λ x. map raised digits) ∷ []) s))
 
-  kind-opened : (k : NodeKind) (e : Estimate) (trees : Forest RenderNode) (q s : State) (kept : CloseAction S T (Prefixing B T) B) →
+  kind-opened : (k : NodeKind) (e : Estimate) (trees : Forest RenderNode) (q r s : State) (kept : CloseAction S T (Prefixing B T) B) →
       let n = shape_layout m (shape_of m.decoration s.settings k e trees) s in
-      opened_with (followed n (continued m (own k e q))) kept ≡ opened_with n kept
-  kind-opened (Text t) e trees q s kept = ap past (some (write m (chars t) s))
-  kind-opened Break e trees q s kept = ap past (some (perform m s NewLineHard s))
-  kind-opened (Image i) e trees q s kept =
+      opened_with (followed n (continued m (own k e q r))) kept ≡ opened_with n kept
+  kind-opened (Text t) e trees q r s kept = ap past (some (write m (chars t) s))
+  kind-opened Break e trees q r s kept = ap past (some (perform m s NewLineHard s))
+  kind-opened (Image i) e trees q r s kept =
       ap past (some (perform_all m s (image m.decoration i.source (shown_title s.settings.empty_images i.source i.title)) s))
-  kind-opened (Svg title) e trees q s kept = ap past (some (perform_all m s (image m.decoration [] (shown_title s.settings.empty_images [] title)) s))
-  kind-opened (FragmentStart name) e trees q s kept = refl
-  kind-opened Superscript e trees q s kept = superscript-opened (digits_of trees) kept s
-  kind-opened k e trees q s kept = refl
+  kind-opened (Svg title) e trees q r s kept = ap past (some (perform_all m s (image m.decoration [] (shown_title s.settings.empty_images [] title)) s))
+  kind-opened (FragmentStart name) e trees q r s kept = refl
+  kind-opened Superscript e trees q r s kept = superscript-opened (digits_of trees) kept s
+  kind-opened k e trees q r s kept = refl
 
   abbrev Opened : Visit State → Option (Way State (OpenNode S T (Prefixing B T) B)) → Type 0
   Opened n w = IsOpened (below m) (closed m) n w
@@ -123,24 +133,47 @@ module _ {S A K T B : Type 0} (m : Algebra S A K T B) where
 
   -- in a sub-block of s, if there is one; `around` is the context of the visit
   nested-opened : (own : Suspended S (Prefixing B T) B) (c : Option B) (s : State) (visit : State → Visit State) (around : Visit State → Visit State) →
-      around (Leaf None) ≡ Leaf None → (f : State → Option (Way State (OpenNode S T (Prefixing B T) B))) →
-      ((q : State) → Opened (around (followed (visit q) (continued m own))) (f q)) →
+      around (Leaf None) ≡ Leaf None → (f : State → Suspended S (Prefixing B T) B → Option (Way State (OpenNode S T (Prefixing B T) B))) →
+      ((q : State) → Opened (around (followed (visit q) (continued m own))) (f q own)) →
       Opened (around (from_state (option_map (λ e. within m e s) c) (λ q. followed (visit q) (continued m own))))
-      (option_and_then f (option_map (λ e. within m e s) c))
+      (option_and_then (λ (e : Entered). f e.0 e.1) (option_and_then (λ q. Some (q, own)) (option_map (λ e. within m e s) c)))
   nested-opened own None s visit around same f h = subst (λ v. Opened v None) (sym same) (record { told = λ children. refl; asked = refl })
   nested-opened own (Some e) s visit around same f h = h (within m e s)
 
   -- in a node's block, whichever it is
   in-block : (b : OwnBlock) (s : State) (visit : State → Visit State) (around : Visit State → Visit State) → around (Leaf None) ≡ Leaf None →
-      (f : State → Option (Way State (OpenNode S T (Prefixing B T) B))) →
-      ((q : State) → Opened (around (followed (visit q) (continued m (block_kept m b s)))) (f q)) →
-      Opened (around (placed (block_place m b s) visit s)) (option_and_then f (block_begun m b s))
-  in-block Shared s visit around same f h = subst (λ v. Opened (around v) (f s)) (followed-some (visit s)) (h s)
-  in-block (Prefixed prefix min_width) s visit around same f h =
-      nested-opened (Quoted (interrupted m s prefix (prefix_columns prefix))) (m.operations.sub_block s.block (prefix_columns prefix) min_width) s visit
-      around same f h
-  in-block (Indented prefix columns min_width) s visit around same f h =
-      nested-opened (interruption.Indented (interrupted m s prefix columns)) (m.operations.sub_block s.block columns min_width) s visit around same f h
+      (f : State → Suspended S (Prefixing B T) B → Option (Way State (OpenNode S T (Prefixing B T) B))) →
+      ((r q : State) → Opened (around (followed (visit q) (continued m (suspended b r)))) (f q (suspended b r))) →
+      Opened (around (placed (block_place m b s) visit s)) (option_and_then (λ (e : Entered). f e.0 e.1) (block_entered m b s))
+  in-block Shared s visit around same f h = subst (λ v. Opened (around v) (f s NoBlock)) (followed-some (visit s)) (h s s)
+  in-block (Prefixed prefix min_width) s visit around same f h = by (on_block m.operations.start_block s)
+    where
+      kept : State → Suspended S (Prefixing B T) B
+      kept r = Quoted (interrupted m r prefix (prefix_columns prefix))
+
+      sub : State → Option State
+      sub r = nested m r.text.tag (chars prefix) (chars prefix) (prefix_columns prefix) min_width r
+
+      by : (o : Option State) → Opened (around (placed (place_in m (λ r. Within (sub r) (joined m (appended_block m r.text.tag prefix) r)) o) visit s))
+          (option_and_then (λ (e : Entered). f e.0 e.1) (option_and_then (λ (r : State). option_and_then (λ q. Some (q, kept r)) (sub r)) o))
+      by None = subst (λ v. Opened v None) (sym same) (record { told = λ children. refl; asked = refl })
+      by (Some r) =
+          nested-opened (kept r) (m.operations.sub_block r.block r.text.tag (chars prefix) (chars prefix) (prefix_columns prefix) min_width) r visit
+          around same f (h r)
+  in-block (Indented prefix columns min_width) s visit around same f h = by (on_block m.operations.new_line s)
+    where
+      kept : State → Suspended S (Prefixing B T) B
+      kept r = interruption.Indented (interrupted m r prefix columns)
+
+      sub : State → Option State
+      sub r = nested m r.text.tag (chars prefix) (spaces columns) columns min_width r
+
+      by : (o : Option State) → Opened (around (placed (place_in m (λ r. Within (sub r)
+          (joined m (λ b c. m.operations.append b c r.text.tag (chars prefix) (spaces columns)) r)) o) visit s))
+          (option_and_then (λ (e : Entered). f e.0 e.1) (option_and_then (λ (r : State). option_and_then (λ q. Some (q, kept r)) (sub r)) o))
+      by None = subst (λ v. Opened v None) (sym same) (record { told = λ children. refl; asked = refl })
+      by (Some r) =
+          nested-opened (kept r) (m.operations.sub_block r.block r.text.tag (chars prefix) (spaces columns) columns min_width) r visit around same f (h r)
 
   -- a node is opened as its visit in its place says
   node-kept : (n : RenderNode) (trees : Forest RenderNode) (item : Suspended S (Prefixing B T) B) (s : State) →
@@ -149,34 +182,31 @@ module _ {S A K T B : Type 0} (m : Algebra S A K T B) where
     where
       by : (o : Option State) →
           Opened (followed (from_state o (λ q. followed (kind_layout m n.kind n.estimate trees q) (λ r. Some (record r { text = s.text }))))
-          (continued m item)) (option_and_then (λ (q : State). option_and_then (λ (p : State).
-          option_and_then (λ w. keeping m item s.text w) (kind_opened m (own n.kind n.estimate q) n.kind n.estimate trees p)) (block_begun m (block_of m.decoration q.settings q.decorator n.kind n.estimate) q)) o)
+          (continued m item)) (option_and_then (λ (q : State). option_and_then (λ (e : Entered).
+          option_and_then (λ w. keeping m item s.text w) (kind_opened m e.1 n.kind n.estimate trees e.0))
+          (block_entered m (block_of m.decoration q.settings q.decorator n.kind n.estimate) q)) o)
       by None = record { told = λ children. refl; asked = refl }
       by (Some q) =
           in-block (block_of m.decoration q.settings q.decorator n.kind n.estimate) q
           (λ p. shape_layout m (shape_of m.decoration p.settings n.kind n.estimate trees) p)
           (λ v. followed (followed v (λ r. Some (record r { text = s.text }))) (continued m item)) refl
-          (λ p. option_and_then (λ w. keeping m item s.text w) (kind_opened m (own n.kind n.estimate q) n.kind n.estimate trees p)) (λ p.
-          let kept = kind_kept m (own n.kind n.estimate q) n.kind n.estimate p in
-          let visit = followed (shape_layout m (shape_of m.decoration p.settings n.kind n.estimate trees) p) (continued m (own n.kind n.estimate q)) in
+          (λ p i. option_and_then (λ w. keeping m item s.text w) (kind_opened m i n.kind n.estimate trees p)) (λ r p.
+          let kept = kind_kept m (own n.kind n.estimate q r) n.kind n.estimate p in
+          let visit = followed (shape_layout m (shape_of m.decoration p.settings n.kind n.estimate trees) p) (continued m (own n.kind n.estimate q r)) in
           subst (λ w. Opened (followed (followed visit (λ r. Some (record r { text = s.text }))) (continued m item))
-          (option_and_then (λ w. keeping m item s.text w) w)) (kind-opened n.kind n.estimate trees q p kept)
-          (kept-opened visit kept item s.text (kind-stands n.kind n.estimate trees q p)))
+          (option_and_then (λ w. keeping m item s.text w) w)) (kind-opened n.kind n.estimate trees q r p kept)
+          (kept-opened visit kept item s.text (kind-stands n.kind n.estimate trees q r p)))
 
   -- a node is opened by its style, its block and its kind, with what the block suspends
-  pub opened-by : (item before : Suspended S (Prefixing B T) B) (n : RenderNode) (trees : Forest RenderNode) (s q p : State) (b : OwnBlock) →
-      perform_all m s (style_steps m.decoration n.style) s ≡ Some q → b ≡ block_of m.decoration q.settings q.decorator n.kind n.estimate →
-      block_begun m b q ≡ Some p → before ≡ block_kept m b q →
+  pub opened-by : (item before : Suspended S (Prefixing B T) B) (n : RenderNode) (trees : Forest RenderNode) (s q p : State) →
+      perform_all m s (style_steps m.decoration n.style) s ≡ Some q →
+      block_entered m (block_of m.decoration q.settings q.decorator n.kind n.estimate) q ≡ Some (p, before) →
       opened_in m item n trees s ≡ option_and_then (λ w. keeping m item s.text w) (kind_opened m before n.kind n.estimate trees p)
-  opened-by item before n trees s q p b style block begun kept =
-      let next : Suspended S (Prefixing B T) B → State → Option (Way State (OpenNode S T (Prefixing B T) B)) =
-      λ i p. option_and_then (λ w. keeping m item s.text w) (kind_opened m i n.kind n.estimate trees p) in
-      ap (option_and_then (λ (q : State). option_and_then (λ (p : State).
-      option_and_then (λ w. keeping m item s.text w)
-      (kind_opened m (block_kept m (block_of m.decoration q.settings q.decorator n.kind n.estimate) q) n.kind n.estimate trees p))
-      (block_begun m (block_of m.decoration q.settings q.decorator n.kind n.estimate) q))) style
-      ∙ ap (λ (c : OwnBlock). option_and_then (λ p. next (block_kept m c q) p) (block_begun m c q)) (sym block)
-      ∙ ap (option_and_then (λ p. next (block_kept m b q) p)) begun ∙ ap (λ i. next i p) (sym kept)
+  opened-by item before n trees s q p style entered =
+      let next : Entered → Option (Way State (OpenNode S T (Prefixing B T) B)) =
+      λ e. option_and_then (λ w. keeping m item s.text w) (kind_opened m e.1 n.kind n.estimate trees e.0) in
+      ap (option_and_then (λ (q : State). option_and_then next (block_entered m (block_of m.decoration q.settings q.decorator n.kind n.estimate) q))) style
+      ∙ ap (option_and_then next) entered
 
   -- a text has no pending work
   pub texts_pass : (n : RenderNode) (t : List ℕ) (trees : Forest RenderNode) (s : State) → n.kind ≡ Text t →
@@ -199,7 +229,7 @@ module _ {S A K T B : Type 0} (m : Algebra S A K T B) where
   block-opened : (b : OwnBlock) (n : RenderNode) (trees : Forest RenderNode) (s : State) →
       Opened (placed (block_place m b s) (layout_of m n trees) s) (block_opened m n trees b s)
   block-opened b n trees s =
-      in-block b s (layout_of m n trees) (λ v. v) refl (λ q. opened_in m (block_kept m b s) n trees q) (λ q. node-kept n trees (block_kept m b s) q)
+      in-block b s (layout_of m n trees) (λ v. v) refl (λ q i. opened_in m i n trees q) (λ r q. node-kept n trees (suspended b r) q)
 
   cell-opened : (n : RenderNode) (trees : Forest RenderNode) (s : State) (b : Option B) →
       Opened (placed (cell_place m b s) (layout_of m n trees) s) (cell_opened m n trees b s)

@@ -28,7 +28,7 @@ use Rattle.html_render_layout.specs.Layout.{StartBlock, EndBlock, Fence, BeginTa
 use Rattle.html_render_layout.specs.Layout.{Cells, spaces, block_of, shape_of, style_steps, struck, white_space_in, on_block}
 use Rattle.html_render_layout.specs.Layout.{text_style, write, annotated, fence, perform, perform_all, within, nested, joined}
 use Rattle.html_render_layout.specs.Opening.{add_styled}
-use Rattle.html_render_layout.specs.Layout.{appended_block, block_place, cell_place, shape_layout, kind_layout, layout_of, shown_after}
+use Rattle.html_render_layout.specs.Layout.{appended_block, place_in, block_place, cell_place, shape_layout, kind_layout, layout_of, shown_after}
 
 -- treatment of texts under another tag
 abbrev pub context : {T U : Type 0} → TextContext T → U → TextContext U
@@ -259,14 +259,6 @@ module _ {S A K T B L U C I : Type 0} (m : Algebra S A K T B) (pull : L → U �
       (x (stacks_of r u) l (blocks_later i (stacks_of s v) (stacks_of r u) s.block v.block k.1.1 l) r.block u.block z.1.1) (λ b c y.
       record { other = record u { block = c }; is = refl; later = stays (stacks_of r u); holds = (z.0, (z.1.0, y)) })
 
-  block-related : (prefix : List ℕ) (i j : I) (s : State) (v : Different) → Holds i s v →
-      JoinRelated i j s v (appended_block m s.text.tag prefix) (appended_block n v.tag prefix)
-  block-related prefix i j s v k w l x b c y =
-      Both-then N M weak (Blocks i w) (Blocks i w) _ _ _ _ (h.start_block i w s.block v.block x) (λ e f z.
-      Both-map N M (Blocks i w) (Blocks i w) _ _ _ _
-      (h.append i j w s.text.tag v.tag (chars prefix) (chars prefix) (tags_later (stacks_of s v) w s.text.tag v.tag k.0 l) e f z b c y)
-      (λ q r o. h.end_block i w q r o))
-
   -- ---- visits
 
   -- whether states inside a node are related, and related states after its children lead to related states after the node
@@ -377,26 +369,62 @@ module _ {S A K T B L U C I : Type 0} (m : Algebra S A K T B) (pull : L → U �
   bare-related : PlacesRelated bare bare
   bare-related number i s v k = tt
 
-  -- the place of a sub-block, if joining it to its outer block keeps blocks related
-  sub_block-related : (f : B → B → Option B) (g : C → C → Option C) (prefix min_width : ℕ) (i : I) (s : State) (v : Different) → Holds i s v →
-      ((j : I) → JoinRelated i j s v f g) →
-      Both N M (λ q e. After i (stacks_of s v) q e (joined m f s) (joined n g (with_other s v)))
-      (nested m prefix min_width s) (nested n prefix min_width (with_other s v))
-  unfolding here
-  sub_block-related f g prefix min_width i s v k x =
-      Both-map N M (λ b c. (j : I) × Blocks j (stacks_of s v) b c) (λ q e. After i (stacks_of s v) q e (joined m f s) (joined n g (with_other s v)))
-      _ _ (m.operations.sub_block s.block prefix min_width) (p.sub_block v.block prefix min_width)
-      (h.sub_block i (stacks_of s v) prefix min_width s.block v.block k.1.1) (λ b c z.
-      (z.0, (here z.0 (within m b s) (record v { block = c }) (k.0, (k.1.0, z.1)), joined-related f g i z.0 s v k (x z.0))))
-
+  -- the place of a sub-block
   indent-related : (prefix : List ℕ) (columns min_width : ℕ) (i : I) (s : State) (v : Different) → Holds i s v →
       Both N M (λ q e. After i (stacks_of s v) q e (joined m (λ b c. m.operations.append b c s.text.tag (chars prefix) (spaces columns)) s)
       (joined n (λ b c. p.append b c v.tag (chars prefix) (spaces columns)) (with_other s v)))
-      (nested m columns min_width s) (nested n columns min_width (with_other s v))
+      (nested m s.text.tag (chars prefix) (spaces columns) columns min_width s) (nested n v.tag (chars prefix) (spaces columns) columns min_width (with_other s v))
+  unfolding here
   indent-related prefix columns min_width i s v k =
-      sub_block-related (λ b c. m.operations.append b c s.text.tag (chars prefix) (spaces columns))
-      (λ b c. p.append b c v.tag (chars prefix) (spaces columns)) columns min_width i s v k (λ j w l x b c y.
-      h.append i j w s.text.tag v.tag (chars prefix) (spaces columns) (tags_later (stacks_of s v) w s.text.tag v.tag k.0 l) s.block v.block x b c y)
+      Both-map N M _ (λ q e. After i (stacks_of s v) q e (joined m (λ b c. m.operations.append b c s.text.tag (chars prefix) (spaces columns)) s)
+      (joined n (λ b c. p.append b c v.tag (chars prefix) (spaces columns)) (with_other s v)))
+      _ _ (m.operations.sub_block s.block s.text.tag (chars prefix) (spaces columns) columns min_width)
+      (p.sub_block v.block v.tag (chars prefix) (spaces columns) columns min_width)
+      (h.nested i (stacks_of s v) s.text.tag v.tag (chars prefix) (spaces columns) columns min_width k.0 s.block v.block k.1.1) (λ b c z. (
+        z.0,
+        (
+          here z.0 (within m b s) (record v { block = c }) (k.0, (k.1.0, z.1.0)),
+          joined-related (λ b c. m.operations.append b c s.text.tag (chars prefix) (spaces columns)) (λ b c. p.append b c v.tag (chars prefix) (spaces columns)) i z.0 s v k
+              (λ w l x e f y. z.1.1 w l (tags_later (stacks_of s v) w s.text.tag v.tag k.0 l) x e f y),
+        ),
+      ))
+
+  quote-related : (prefix : List ℕ) (min_width : ℕ) (i : I) (s : State) (v : Different) → Holds i s v →
+      Both N M (λ q e. After i (stacks_of s v) q e (joined m (appended_block m s.text.tag prefix) s) (joined n (appended_block n v.tag prefix) (with_other s v)))
+      (nested m s.text.tag (chars prefix) (chars prefix) (prefix_columns prefix) min_width s)
+      (nested n v.tag (chars prefix) (chars prefix) (prefix_columns prefix) min_width (with_other s v))
+  unfolding here
+  quote-related prefix min_width i s v k =
+      Both-map N M _ (λ q e. After i (stacks_of s v) q e (joined m (appended_block m s.text.tag prefix) s) (joined n (appended_block n v.tag prefix) (with_other s v)))
+      _ _ (m.operations.sub_block s.block s.text.tag (chars prefix) (chars prefix) (prefix_columns prefix) min_width)
+      (p.sub_block v.block v.tag (chars prefix) (chars prefix) (prefix_columns prefix) min_width)
+      (h.nested i (stacks_of s v) s.text.tag v.tag (chars prefix) (chars prefix) (prefix_columns prefix) min_width k.0 s.block v.block k.1.1) (λ b c z. (
+        z.0,
+        (
+          here z.0 (within m b s) (record v { block = c }) (k.0, (k.1.0, z.1.0)),
+          joined-related (appended_block m s.text.tag prefix) (appended_block n v.tag prefix) i z.0 s v k (λ w l x e f y.
+              Both-map N M (Blocks i w) (Blocks i w) _ _ _ _ (z.1.1 w l (tags_later (stacks_of s v) w s.text.tag v.tag k.0 l) x e f y) (λ q r o. h.end_block i w q r o)),
+        ),
+      ))
+
+  -- with M, a place that isn't reached is related to any
+  none-after : (i : I) (w : K × L) (f : State → Option State) (g : OtherState → Option OtherState) (b : Option OtherState) → M → Both N M (λ q e. After i w q e f g) None b
+  none-after i w f g None x = weak x
+  none-after i w f g (Some e) x = x
+
+  -- places from states that are reached
+  place_in-related : (a : State → Option State) (f : State → State → Option State) (b : OtherState → Option OtherState)
+      (g : OtherState → OtherState → Option OtherState) (i : I) (w : K × L) →
+      ((q : State) (u : Different) → Holds i q u → Both N M (λ r e. After i (stacks_of q u) r e (f q) (g (with_other q u))) (a q) (b (with_other q u))) →
+      (x : Option State) (y : Option OtherState) → Both N M (Reached i w) x y →
+      PlaceRelated i w (place_in m (λ q. Within (a q) (f q)) x) (place_in n (λ q. Within (b q) (g q)) y)
+  place_in-related a f b g i w next None None k = k
+  place_in-related a f b g i w next None (Some e) k = none-after i w (λ r. Some r) (g e) (b e) k
+  place_in-related a f b g i w next (Some q) None k = absurd k
+  place_in-related a f b g i w next (Some q) (Some e) k =
+      rw k.is (Both-weaken N M (λ r e. After i (stacks_of q k.other) r e (f q) (g (with_other q k.other))) (λ r e. After i w r e (f q) (g (with_other q k.other)))
+      (a q) (b (with_other q k.other)) (next q k.other k.holds)
+      (λ r e c. (c.0, (since c.0 w q k.other r e k.later c.1.0, c.1.1))))
 
   cell-related : (i : I) (s : State) (v : Different) → Holds i s v → (a : Option B) (b : Option C) →
       Both (Unit {0}) ⊥ (λ e f. (j : I) × (Blocks j (stacks_of s v) e f × ((w : K × L) → Later (stacks_of s v) w → Blocks i w s.block v.block →
@@ -416,13 +444,28 @@ module _ {S A K T B L U C I : Type 0} (m : Algebra S A K T B) (pull : L → U �
     ),
   )
 
+  indented-related : (prefix : List ℕ) (columns min_width : ℕ) (i : I) (s : State) (v : Different) → Holds i s v →
+      PlaceRelated i (stacks_of s v) (block_place m (Indented prefix columns min_width) s) (block_place n (Indented prefix columns min_width) (with_other s v))
+  indented-related prefix columns min_width i s v k =
+      place_in-related (λ q. nested m q.text.tag (chars prefix) (spaces columns) columns min_width q)
+      (λ q. joined m (λ b c. m.operations.append b c q.text.tag (chars prefix) (spaces columns)) q)
+      (λ q. nested n q.text.tag (chars prefix) (spaces columns) columns min_width q)
+      (λ q. joined n (λ b c. p.append b c q.text.tag (chars prefix) (spaces columns)) q) i (stacks_of s v)
+      (λ q u z. indent-related prefix columns min_width i q u z)
+      (on_block m.operations.new_line s) (on_block p.new_line (with_other s v))
+      (on_block-related m.operations.new_line p.new_line i s v k (h.new_line i (stacks_of s v) s.block v.block k.1.1))
+
   block_place-related : (x : OwnBlock) (i : I) (s : State) (v : Different) → Holds i s v →
       PlaceRelated i (stacks_of s v) (block_place m x s) (block_place n x (with_other s v))
   block_place-related Shared i s v k = tt
   block_place-related (Prefixed prefix min_width) i s v k =
-      sub_block-related (appended_block m s.text.tag prefix) (appended_block n v.tag prefix) (prefix_columns prefix) min_width i s v k (λ j.
-      block-related prefix i j s v k)
-  block_place-related (Indented prefix columns min_width) i s v k = indent-related prefix columns min_width i s v k
+      place_in-related (λ q. nested m q.text.tag (chars prefix) (chars prefix) (prefix_columns prefix) min_width q)
+      (λ q. joined m (appended_block m q.text.tag prefix) q)
+      (λ q. nested n q.text.tag (chars prefix) (chars prefix) (prefix_columns prefix) min_width q)
+      (λ q. joined n (appended_block n q.text.tag prefix) q) i (stacks_of s v) (λ q u z. quote-related prefix min_width i q u z)
+      (on_block m.operations.start_block s) (on_block p.start_block (with_other s v))
+      (on_block-related m.operations.start_block p.start_block i s v k (h.start_block i (stacks_of s v) s.block v.block k.1.1))
+  block_place-related (Indented prefix columns min_width) i s v k = indented-related prefix columns min_width i s v k
 
   shape-related : (x : Shape S A) (i : I) (s : State) (v : Different) → Holds i s v →
       Related i (stacks_of s v) (shape_layout m x s) (shape_layout n x (with_other s v))
@@ -435,7 +478,7 @@ module _ {S A K T B L U C I : Type 0} (m : Algebra S A K T B) (pull : L → U �
   )
   shape-related (Items prefix columns min_width) i s v k = (
     around-related i (stacks_of s v) (Some s) (Some (with_other s v)) (λ r. Some r) (λ r. Some r) (here i s v k) (λ r u l z. here i r u z),
-    λ number j r u z. indent-related (prefix s.decorator r.decorator number) (columns s.decorator) min_width j r u z,
+    λ number j r u z. indented-related (prefix s.decorator r.decorator number) (columns s.decorator) min_width j r u z,
   )
   shape-related Cells i s v k = (
     around-related i (stacks_of s v) (Some (record s { block = m.operations.begin_row s.block }))

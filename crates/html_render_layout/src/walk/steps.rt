@@ -11,7 +11,7 @@ ghost use Rattle.html_render_parts.specs.Decoration.{link};
 ghost use Rattle.html_render_layout_estimates.specs.Estimates.{number_columns};
 ghost use Rattle.html_render_layout.specs.Layout.{AddTarget, BeginTable, Fence, NewLine, StartBlock, Strike, block_of, perform_all};
 ghost use Rattle.html_render_layout.specs.Layout.{start};
-ghost use Rattle.html_render_layout.specs.Opening.{child_block, children_share, block_begun, block_kept, continued};
+ghost use Rattle.html_render_layout.specs.Opening.{child_block, children_share, block_entered, continued};
 ghost use Rattle.html_render_layout.specs.Opening.{kind_opened, kind_closed, opened_in, text_opened, cell_opened, block_opened, keeping};
 ghost use Rattle.html_render_layout.specs.Opening.{opened, closed};
 ghost use Rattle.html_render_layout.specs.Working.{by_tags};
@@ -189,11 +189,9 @@ fn begin_sub_block<D: TextDecorator, G: Tagging<D::Annotation>>(
     estimate: &Estimate,
     state: &mut State<D, G>,
 ) -> Result<Interrupted<D, G>, Error>
-    ensures ok { OnOk result (block_begun (by_tags D.decoration G.annotated)
-        (block_of D.decoration state.old.settings state.old.decorator kind.now estimate.now) state.old ≡ Some state.new) }
-    ensures kept { IfOk result (λ i. i ≡ block_kept (by_tags D.decoration G.annotated)
-        (block_of D.decoration state.old.settings state.old.decorator kind.now estimate.now) state.old) }
-    ensures err { IfErr result (λ e. Refuses e (block_begun (by_tags D.decoration G.annotated)
+    ensures ok { IfOk result (λ i. block_entered (by_tags D.decoration G.annotated)
+        (block_of D.decoration state.old.settings state.old.decorator kind.now estimate.now) state.old ≡ Some (state.new, i)) }
+    ensures err { IfErr result (λ e. Refuses e (block_entered (by_tags D.decoration G.annotated)
         (block_of D.decoration state.old.settings state.old.decorator kind.now estimate.now) state.old)) }
 {
     let min_width = inner_least(estimate);
@@ -220,11 +218,9 @@ fn begin_block<D: TextDecorator, G: Tagging<D::Annotation>>(
     estimate: &Estimate,
     state: &mut State<D, G>,
 ) -> Result<Interrupted<D, G>, Error>
-    ensures ok { OnOk result (block_begun (by_tags D.decoration G.annotated)
-        (block_of D.decoration state.old.settings state.old.decorator kind.now estimate.now) state.old ≡ Some state.new) }
-    ensures kept { IfOk result (λ i. i ≡ block_kept (by_tags D.decoration G.annotated)
-        (block_of D.decoration state.old.settings state.old.decorator kind.now estimate.now) state.old) }
-    ensures err { IfErr result (λ e. Refuses e (block_begun (by_tags D.decoration G.annotated)
+    ensures ok { IfOk result (λ i. block_entered (by_tags D.decoration G.annotated)
+        (block_of D.decoration state.old.settings state.old.decorator kind.now estimate.now) state.old ≡ Some (state.new, i)) }
+    ensures err { IfErr result (λ e. Refuses e (block_entered (by_tags D.decoration G.annotated)
         (block_of D.decoration state.old.settings state.old.decorator kind.now estimate.now) state.old)) }
 {
     match kind {

@@ -94,8 +94,8 @@ module _ {T M : Type 0} where
   pub blank_item : (b : MachineBlock T M) (prefix inner : ℕ) (style : TextStyle T) (cs : List ℕ) (tag : T) (first later : List ℕ) → style.mode ≡ Normal →
       list_all is_collapsible cs ≡ true →
       option_and_then (λ (sub : MachineBlock T M). option_and_then (λ (done : MachineBlock T M). machine.operations.append b done tag first later)
-      (machine.operations.add_inline_text sub style cs)) (machine.operations.sub_block b prefix inner)
-      ≡ option_and_then (λ (sub : MachineBlock T M). machine.operations.new_line b) (machine.operations.sub_block b prefix inner)
+      (machine.operations.add_inline_text sub style cs)) (machine.operations.sub_block b tag first later prefix inner)
+      ≡ option_and_then (λ (sub : MachineBlock T M). machine.operations.new_line b) (machine.operations.sub_block b tag first later prefix inner)
   unfolding operations
   blank_item b prefix inner style cs tag first later mode all = by (inner_width b.setting prefix inner)
     where

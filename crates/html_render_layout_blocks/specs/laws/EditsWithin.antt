@@ -47,9 +47,13 @@ module _ (T : Type 0) where
   edits-beside (StartBlock next) v b c k = then (Beside v) v _ _ _ _ (steps.start_block v tt b c k) (edits-beside next v)
   edits-beside (EndBlock next) v b c k = edits-beside next v _ _ (steps.end_block v tt b c k)
   edits-beside (Nest prefix min_width inside tag first later next) v b c k =
-      then (λ e f. (j : ℕ) × Beside j e f) v _ _ _ _ (steps.sub_block v tt prefix min_width b c k) (λ e f l.
-      then (Beside l.0) v _ _ _ _ (edits-beside inside l.0 e f l.1) (λ d i m.
-      then (Beside v) v _ _ _ _ (steps.append v l.0 tt tag tag first later refl b c k d i m) (edits-beside next v)))
+      then Nested v _ _ _ _ (steps.nested v tt tag tag first later prefix min_width refl b c k) (λ e f l.
+      then (Beside l.0) v _ _ _ _ (edits-beside inside l.0 e f l.1.0) (λ d i m.
+      then (Beside v) v _ _ _ _ (l.1.1 tt tt refl k d i m) (edits-beside next v)))
+    where
+      Nested : DefinedBlock T ℕ → DefinedBlock T ℕ → Type 0
+      Nested e f = (j : ℕ) × (Beside j e f × ((w : Unit {0}) → Unit {0} → tag ≡ tag → Beside v b c → (e f : DefinedBlock T ℕ) → Beside j e f →
+          BothBeside v (operations.append b e tag first later) (operations.append c f tag first later)))
   edits-beside (BeginTable tag borders stacked grid needs next) v b c k =
       then (Beside v) v _ _ _ _ (steps.begin_table v tt tag tag borders stacked grid needs refl b c k) (edits-beside next v)
   edits-beside (BeginRow next) v b c k = edits-beside next v _ _ (steps.begin_row v tt b c k)

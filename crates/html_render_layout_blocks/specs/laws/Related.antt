@@ -48,10 +48,11 @@ pub record Relates {I W B C T U : Type 0} (o : Operations B T ℕ) (p : Operatio
   pub new_line_hard : (i : I) (w : W) (b : B) (c : C) → Blocks i w b c → Both N M (Blocks i w) (o.new_line_hard b) (p.new_line_hard c)
   pub start_block : (i : I) (w : W) (b : B) (c : C) → Blocks i w b c → Both N M (Blocks i w) (o.start_block b) (p.start_block c)
   pub end_block : (i : I) (w : W) (b : B) (c : C) → Blocks i w b c → Blocks i w (o.end_block b) (p.end_block c)
-  pub sub_block : (i : I) (w : W) (prefix min_width : ℕ) (b : B) (c : C) → Blocks i w b c →
-      Both N M (λ e f. (j : I) × Blocks j w e f) (o.sub_block b prefix min_width) (p.sub_block c prefix min_width)
-  pub append : (i j : I) (w : W) (t : T) (u : U) (first later : List ℕ) → Tags w t u → (b : B) (c : C) → Blocks i w b c →
-      (e : B) (f : C) → Blocks j w e f → Both N M (Blocks i w) (o.append b e t first later) (p.append c f u first later)
+  -- A sub-block, and the outer block after its lines are appended.
+  pub nested : (i : I) (w : W) (t : T) (u : U) (first later : List ℕ) (prefix min_width : ℕ) → Tags w t u → (b : B) (c : C) → Blocks i w b c →
+      Both N M (λ e f. (j : I) × (Blocks j w e f × ((v : W) → Later w v → Tags v t u → Blocks i v b c →
+      (e : B) (f : C) → Blocks j v e f → Both N M (Blocks i v) (o.append b e t first later) (p.append c f u first later))))
+      (o.sub_block b t first later prefix min_width) (p.sub_block c u first later prefix min_width)
   pub begin_table : (i : I) (w : W) (t : T) (u : U) (borders stacked : Bool) (grid : CellGrid) (needs : List ColumnNeed) → Tags w t u →
       (b : B) (c : C) → Blocks i w b c →
       Both N M (Blocks i w) (o.begin_table b t borders stacked grid needs) (p.begin_table c u borders stacked grid needs)
@@ -296,13 +297,6 @@ module _ {P R Q S T U W : Type 0} (from : Parts P R T ℕ) (to : Parts Q S U ℕ
   inner_block-related : (v x : ℕ) (w : W) (b : First) (c : Second) → Related v w b c → Related x w (inner_block from b x) (inner_block to c x)
   inner_block-related v x w b c k = empty-related x w _ _ b.padding c.padding (h.inner v x b.setting c.setting k.settings) k.padding
 
-  sub_block-related : (v : ℕ) (w : W) (prefix min_width : ℕ) (b : First) (c : Second) → Related v w b c →
-      Both N M (λ e f. (x : ℕ) × Related x w e f) ((operations from).sub_block b prefix min_width) ((operations to).sub_block c prefix min_width)
-  sub_block-related v w prefix min_width b c k =
-      Both-map N M (λ x y. x ≡ y) (λ e f. (x : ℕ) × Related x w e f) _ _ (inner_width b.setting prefix min_width) (inner_width c.setting prefix min_width)
-      (h.inner_width v b.setting c.setting prefix min_width k.settings) (λ x y e.
-      (x, rw (sym e) (inner_block-related v x w b c k)))
-
   put_lines-related : (v : ℕ) (w : W) (a : List (Line T ℕ)) (e : List (Line U ℕ)) (ms ns : List ℕ) → ns ≡ ms → Lines v w a e →
       (b : First) (c : Second) → Flushed v w b c → Related v w (put_lines from b a ms) (put_lines to c e ns)
   put_lines-related v w a e ms ns same l b c k = rw same (by a e l)
@@ -360,6 +354,19 @@ module _ {P R Q S T U W : Type 0} (from : Parts P R T ℕ) (to : Parts Q S U ℕ
       (flush from (end_table from e)) (flush to (end_table to f)) (ended_flush x w e f l) (λ a i n.
       Both-map N M (Lines v w) (Related v w) _ _ _ _ (h.joined v x w d.setting g.setting t u first later a.lines i.lines m.0.settings y n.0.lines)
       (λ p q o. put_lines-related v w p q _ _ (h.waiting x w a.paragraph i.paragraph n.1) o d g m)))
+
+  -- Sub-blocks, whose lines can be appended to the outer blocks under all later meanings of tags.
+  abbrev Nested : (v : ℕ) (w : W) (t : T) (u : U) (first later : List ℕ) → First → Second → First → Second → Type 0
+  Nested v w t u first later b c e f = (x : ℕ) × (Related x w e f × ((z : W) → Later w z → Tags z t u → Related v z b c →
+      (e : First) (f : Second) → Related x z e f → Both N M (Related v z) (append from b e t first later) (append to c f u first later)))
+
+  nested-related : (v : ℕ) (w : W) (t : T) (u : U) (first later : List ℕ) (prefix min_width : ℕ) → Tags w t u → (b : First) (c : Second) → Related v w b c →
+      Both N M (Nested v w t u first later b c) ((operations from).sub_block b t first later prefix min_width)
+      ((operations to).sub_block c u first later prefix min_width)
+  nested-related v w t u first later prefix min_width y b c k =
+      Both-map N M (λ x z. x ≡ z) (Nested v w t u first later b c) _ _ (inner_width b.setting prefix min_width) (inner_width c.setting prefix min_width)
+      (h.inner_width v b.setting c.setting prefix min_width k.settings) (λ x o same.
+      (x, rw (sym same) (inner_block-related v x w b c k, λ z l a m e f n. append-related v x z t u first later a b c m e f n)))
 
   -- Blocks with a border of one character.
   add_border-related : (v : ℕ) (w : W) (character : ℕ) → width_of character ≡ 1 →
@@ -556,8 +563,7 @@ module _ {P R Q S T U W : Type 0} (from : Parts P R T ℕ) (to : Parts Q S U ℕ
     new_line_hard = λ v w b c k. flushed v w _ _ (new_line_hard-related v w b c k);
     start_block = λ v w b c k. flushed v w _ _ (start_block-related v w b c k);
     end_block = λ v w b c k. with_end v w b c true k;
-    sub_block = sub_block-related;
-    append = append-related;
+    nested = nested-related;
     begin_table = begin_table-related;
     begin_row = λ v w b c k. with_table v w b c _ _ k (begin_row-related v w b.table c.table k.table);
     cell = cell-related;

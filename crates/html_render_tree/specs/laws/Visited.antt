@@ -27,7 +27,7 @@ use Rattle.html_render_layout_estimates.specs.declared.words.WordShape.{WordShap
 use Rattle.html_render_layout_estimates.specs.declared.settings.LayoutSettings.{LayoutSettings}
 use Rattle.html_render_parts.specs.Decoration.{Decoration}
 use Rattle.html_render_layout.specs.Layout.{Algebra, Write, Shape, Steps, Around, Items, Cells, digits_of, raised, block_of, shape_of, style_steps}
-use Rattle.html_render_layout.specs.Layout.{perform_all, block_place, shape_layout, kind_layout, layout_of}
+use Rattle.html_render_layout.specs.Layout.{on_block, perform_all, place_in, block_place, shape_layout, kind_layout, layout_of}
 use Rattle.html_render_layout.specs.Layout.{by_stacks, empty_state, estimated, layout_lines}
 use Rattle.html_render_layout.specs.laws.Opening.{superscript}
 use Rattle.html_render_tree.specs.GoodTrees.{TreePlace, Anywhere, InTable, InRow, places_around, are_good}
@@ -172,11 +172,16 @@ module _ {S A K T B : Type 0} (m : Algebra S A K T B) where
     within-has s None after visit h = tt
     within-has s (Some q) after visit h = followed-has (visit q) after (h q)
 
+    reached-has : (s : State) (o : Option State) (before : State → Option State) (after : State → State → Option State) (visit : State → Visit State) →
+        ((q : State) → OnVisit P Q (visit q)) → OnVisit P Q (placed (place_in m (λ q. Within (before q) (after q)) o) visit s)
+    reached-has s None before after visit h = tt
+    reached-has s (Some q) before after visit h = within-has s (before q) (after q) visit h
+
     block-has : (b : OwnBlock) (s : State) (visit : State → Visit State) → ((q : State) → OnVisit P Q (visit q)) →
         OnVisit P Q (placed (block_place m b s) visit s)
     block-has Shared s visit h = h s
-    block-has (Prefixed prefix min_width) s visit h = within-has s _ _ visit h
-    block-has (Indented prefix columns min_width) s visit h = within-has s _ _ visit h
+    block-has (Prefixed prefix min_width) s visit h = reached-has s (on_block m.operations.start_block s) _ _ visit h
+    block-has (Indented prefix columns min_width) s visit h = reached-has s (on_block m.operations.new_line s) _ _ visit h
 
     node-has : (n : RenderNode) (children : Forest RenderNode) (s : State) →
         ((q : State) → OnVisit P Q (kind_layout m n.kind n.estimate children q)) → OnVisit P Q (layout_of m n children s)
@@ -310,10 +315,16 @@ module _ {S A K T B : Type 0} (m : Algebra S A K T B) where
   has_cells Cells = true
   has_cells x = false
 
+  -- a place in a sub-block isn't skipped
+  not-skipped : (before : State → Option State) (after : State → State → Option State) (o : Option State) →
+      is_skipped (place_in m (λ q. Within (before q) (after q)) o) ≡ false
+  not-skipped before after None = refl
+  not-skipped before after (Some q) = refl
+
   shape-skips : (x : Shape S A) (s : State) → SkipsBelow (has_cells x) (shape_layout m x s)
   shape-skips (Steps xs) s = always (Unit {0}) (perform_all m s xs s) tt
   shape-skips (Around xs ys) s = λ number q e. e
-  shape-skips (Items prefix columns min_width) s = λ number q e. e
+  shape-skips (Items prefix columns min_width) s = λ number q e. sym (not-skipped _ _ (on_block m.operations.new_line q)) ∙ e
   shape-skips Cells s = λ number q e. refl
 
   kind-cells : (settings : LayoutSettings) (kind : NodeKind) (e : Estimate) (children : Forest RenderNode) →

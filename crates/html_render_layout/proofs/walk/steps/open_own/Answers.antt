@@ -13,8 +13,8 @@ returns-clause-ok g c =
     let m = by_tags g.D.TextDecorator.decoration g.G.Tagging.annotated in
     let s = c.args.state.now in
     IfOk-weaker c.open_kind.result _ _
-    (λ k e item. opened-by m item c.in_ok-own.own c.args.node.now (forest_of c.args.children.now) s _ _ _
-    c.in_ok-begin_style.ensures.ok refl c.in_ok-own.ensures.ok c.in_ok-own.ensures.kept
+    (λ k e item. opened-by m item c.in_ok-own.own c.args.node.now (forest_of c.args.children.now) s _ _
+    c.in_ok-begin_style.ensures.ok c.in_ok-own.ensures.ok
     ∙ ap (option_and_then (λ w. keeping m item s.text w)) e)
     c.open_kind.ensures.ok
 
@@ -24,7 +24,7 @@ returns-clause-err g c =
     let s = c.args.state.now in
     IfErr-weaker c.open_kind.result _ _
     (λ e k item. subst (λ o. Refuses e o)
-    (sym (opened-by m item c.in_ok-own.own c.args.node.now (forest_of c.args.children.now) s _ _ _
-    c.in_ok-begin_style.ensures.ok refl c.in_ok-own.ensures.ok c.in_ok-own.ensures.kept))
+    (sym (opened-by m item c.in_ok-own.own c.args.node.now (forest_of c.args.children.now) s _ _
+    c.in_ok-begin_style.ensures.ok c.in_ok-own.ensures.ok))
     (Refuses-then e _ (λ w. keeping m item s.text w) k))
     c.open_kind.ensures.err
