@@ -5,4 +5,5 @@ pub mod BehindLines
 pub mod WordParts
 pub mod PieceLines
 pub mod PartLines
+pub mod BlockWidths
 pub mod OpenBlocks

@@ -16,6 +16,7 @@ pub mod Words
 pub mod Parts
 -- finished lines in pieces
 pub mod Pieces
--- lines of blocks in blocks, and how they are stored
+-- lines of blocks in blocks, how wide they are, and how they are stored
 pub mod Nested
+pub mod Widths
 pub mod Levels

@@ -5,7 +5,8 @@ use Rattle.html_render_layout_lines.specs.TaggedText.{under}
 use Rattle.html_render_layout_buffer.specs.Marked.{marked_behind}
 use Rattle.html_render_layout_buffer.specs.Prefixed.{prefixed}
 
--- A block that is open around another one: its lines and its waiting marks; and the prefixes of the inner block's lines, under a tag.
+-- A block that is open around another one: its lines; the marks that wait around the inner block, which precede the first prefix; and the
+-- prefixes of the inner block's lines, under a tag.
 pub record Outer (T M : Type 0) : Type 0 where
   pub lines : List (Line T M)
   pub waiting : List M
@@ -13,15 +14,13 @@ pub record Outer (T M : Type 0) : Type 0 where
   pub first : List ℕ
   pub later : List ℕ
 
--- The innermost open block: its ended lines, its open line and its waiting marks; and the blocks around it, outermost first.
+-- The lines of the innermost open block; and the blocks around it, outermost first.
 pub record Nested (T M : Type 0) : Type 0 where
   pub lines : List (Line T M)
-  pub line : Line T M
-  pub waiting : List M
   pub outer : List (Outer T M)
 
 abbrev pub no_blocks : {T M : Type 0} → Nested T M
-no_blocks = record { lines = []; line = []; waiting = []; outer = [] }
+no_blocks = record { lines = []; outer = [] }
 
 -- what precedes the first line of the inner block: the marks that wait around it, and the first prefix
 abbrev pub front : {T M : Type 0} → Outer T M → Line T M
@@ -36,47 +35,28 @@ abbrev pub full : {T M : Type 0} → List (Outer T M) → List (Line T M) → Li
 full [] ls = ls
 full (o ∷ os) ls = o.lines ++ placed_in o (full os ls)
 
--- the prefix of the line that follows these lines of the inner block
-abbrev pub next_prefix : {T M : Type 0} → Outer T M → List (Line T M) → Line T M
-next_prefix o [] = front o
-next_prefix o (l ∷ ls) = under o.tag o.later
-
--- all prefixes of the line that follows these lines of the innermost block
-abbrev pub margin : {T M : Type 0} → List (Outer T M) → List (Line T M) → Line T M
-margin [] ls = []
-margin (o ∷ os) ls = next_prefix o (full os ls) ++ margin os ls
-
 -- ---- steps
 
--- elements at the end of the open line
-abbrev pub with_elements : {T M : Type 0} → Nested T M → Line T M → Nested T M
-with_elements v t = record { lines = v.lines; line = v.line ++ t; waiting = v.waiting; outer = v.outer }
+-- lines at the end of the innermost block
+abbrev pub with_lines : {T M : Type 0} → Nested T M → List (Line T M) → Nested T M
+with_lines v ls = record { lines = v.lines ++ ls; outer = v.outer }
 
-abbrev pub with_line_ended : {T M : Type 0} → Nested T M → Nested T M
-with_line_ended v = record { lines = v.lines ++ v.line ∷ []; line = []; waiting = v.waiting; outer = v.outer }
-
--- the waiting marks at the end of the open line
-abbrev pub with_waiting_put : {T M : Type 0} → Nested T M → Nested T M
-with_waiting_put v = record { lines = v.lines; line = v.line ++ marks_line v.waiting; waiting = []; outer = v.outer }
-
-abbrev pub with_mark_held : {T M : Type 0} → Nested T M → M → Nested T M
-with_mark_held v m = record { lines = v.lines; line = v.line; waiting = v.waiting ++ m ∷ []; outer = v.outer }
+-- marks at the end of the innermost block's last line
+abbrev pub with_last_marked : {T M : Type 0} → Nested T M → List M → Nested T M
+with_last_marked v ms = record { lines = marked_behind ms v.lines; outer = v.outer }
 
 -- a block in the innermost one
-abbrev pub with_block_begun : {T M : Type 0} → Nested T M → (tag : T) → (first later : List ℕ) → Nested T M
-with_block_begun v tag first later = record {
+abbrev pub with_block_begun : {T M : Type 0} → Nested T M → (waiting : List M) → (tag : T) → (first later : List ℕ) → Nested T M
+with_block_begun v waiting tag first later = record {
   lines = [];
-  line = [];
-  waiting = [];
-  outer = v.outer ++ record { lines = v.lines; waiting = v.waiting; tag = tag; first = first; later = later } ∷ [];
+  outer = v.outer ++ record { lines = v.lines; waiting = waiting; tag = tag; first = first; later = later } ∷ [];
 }
 
 -- The block around, which is the last of the outer ones, with the lines of the innermost block. The marks that still wait in that are put
--- at the end of its last line. Without lines they wait in the block around.
-abbrev pub with_block_ended : {T M : Type 0} → List (Outer T M) → Outer T M → Nested T M → Nested T M
-with_block_ended os o v = record {
-  lines = o.lines ++ placed_in o (marked_behind v.waiting v.lines);
-  line = [];
-  waiting = if is_empty v.lines then o.waiting ++ v.waiting else [];
-  outer = os;
-}
+-- at the end of its last line.
+abbrev pub with_block_ended : {T M : Type 0} → List (Outer T M) → Outer T M → Nested T M → List M → Nested T M
+with_block_ended os o v marks = record { lines = o.lines ++ placed_in o (marked_behind marks v.lines); outer = os }
+
+-- the marks that wait in the block around after the end of the innermost block: those of both, if that has no lines
+abbrev pub waiting_after : {T M : Type 0} → Outer T M → Nested T M → List M → List M
+waiting_after o v marks = if is_empty v.lines then o.waiting ++ marks else []

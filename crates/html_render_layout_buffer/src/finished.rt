@@ -3,7 +3,7 @@
 //! Lines are copied from one value to another only where they are few. A large value is moved whole, so that the lines of
 //! blocks in blocks aren't copied at each of them.
 
-ghost use Rattle.std.specs.Prelude.{◌≡◌, ℕ, ◌==◌, ◌<◌, ◌++◌, [], ◌∷◌, Some, length, OnOk, IfOk, IfSome};
+ghost use Rattle.std.specs.Prelude.{◌≡◌, ℕ, ◌==◌, ◌<◌, nat_lt, ◌++◌, [], ◌∷◌, Some, length, OnOk, IfOk, IfSome};
 ghost use Rattle.std.specs.Str.{chars};
 ghost use Rattle.html_render_layout_lines.specs.Line.{marks_line};
 ghost use Rattle.html_render_layout_lines.specs.TaggedText.{counted, text_columns, under};
@@ -33,8 +33,8 @@ const SMALL: usize = 4096;
 pub struct FinishedLines<T, M> {
     // the first lines
     pieces: Pieces<T, M>,
-    // the lines after them
-    last: LineBuffer<T, M>,
+    /// The lines after them.
+    pub(crate) last: LineBuffer<T, M>,
 }
 
 impl<T, M> Model for FinishedLines<T, M> {
@@ -110,6 +110,18 @@ impl<T: Tag, M: Copy> FinishedLines<T, M> {
             return Ok(self.last.line_count());
         }
         longer(self.pieces.line_count(), self.last.line_count())
+    }
+
+    /// Reports whether there are more than `count` lines.
+    #[inline]
+    pub(crate) fn has_more_than(&self, count: usize) -> bool
+        ensures { result ≡ nat_lt count (length self.now) }
+    {
+        match self.pieces.line_count().checked_add(self.last.line_count()) {
+            Some(lines) => count < lines,
+            // A machine word doesn't hold their number.
+            None => true,
+        }
     }
 
     /// Borrows the lines as a buffer. `None` if they aren't few, so that they are best moved whole.

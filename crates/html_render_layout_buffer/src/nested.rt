@@ -1,33 +1,32 @@
-//! Lines of blocks in blocks. Each character is written once, into the line that it stays in, after the prefixes of all open blocks.
+//! Lines of blocks in blocks. Each line is written once, after the prefixes of all open blocks, so that ending a block moves no line.
 
-ghost use Rattle.std.specs.Prelude.{◌≡◌, ◌==◌, ◌%◌, [], ◌∷◌, ◌++◌, List, length, map, OnOk, OnErr};
-ghost use Rattle.std.specs.Bool.{OnTrue};
+ghost use Rattle.std.specs.Prelude.{◌≡◌, ◌==◌, List, [], ◌∷◌, ◌++◌, length, OnOk, IfOk};
 ghost use Rattle.std.specs.Str.{chars};
-ghost use Rattle.html_render_layout_lines.specs.Character.{width_of};
-ghost use Rattle.html_render_layout_lines.specs.Line.{columns, element_of, marks_line};
-ghost use Rattle.html_render_layout_lines.specs.TaggedText.{counted, text_columns, items_of, under};
-ghost use Rattle.html_render_layout_buffer.specs.Padding.{repeated};
+ghost use Rattle.html_render_layout_lines.specs.Line.{marks_line};
+ghost use Rattle.html_render_layout_lines.specs.TaggedText.{counted, text_columns, under};
+ghost use Rattle.html_render_layout_buffer.specs.Lines.{no_lines};
+ghost use Rattle.html_render_layout_buffer.specs.Pieces.{fits_after};
 ghost use Rattle.html_render_layout_buffer.specs.Levels.{later_characters};
-ghost use Rattle.html_render_layout_buffer.specs.Nested.{Outer, no_blocks, with_elements, with_line_ended, with_waiting_put, with_mark_held, with_block_begun, with_block_ended};
+ghost use Rattle.html_render_layout_buffer.specs.Nested.{Outer, no_blocks, with_lines, with_last_marked, with_block_begun, with_block_ended, waiting_after};
 
 use crate::buffer::LineBuffer;
+use crate::finished::FinishedLines;
 use crate::prefix::Prefix;
-use html_render_layout_lines::character::TextStyle;
-use html_render_layout_lines::line::{Element, TaggedText};
 use html_render_layout_lines::tag::Tag;
 use std::alloc::{AllocError, Global};
 use std::marker::Model;
+use std::mem;
 use stored::StoredBlocks;
 
 mod prefixes;
 mod stored;
+mod widths;
 
 pub use prefixes::Later;
 
-/// Lines of blocks in blocks. Those of the innermost open block are written, and an ended line has the prefixes of all open blocks.
+/// Lines of blocks in blocks. Lines are appended to the innermost open block, and have the prefixes of all open blocks.
 ///
-/// The line of a block is empty until something is appended to it. It follows the first prefix of the block around if that has no line
-/// from inside yet, and the later prefix otherwise.
+/// A block's first line follows the marks that wait around the block and the first prefix, and its other lines the later prefix.
 #[derive(Drop)]
 pub struct NestedLines<T, M> {
     blocks: StoredBlocks<T, M>,
@@ -54,7 +53,7 @@ impl<T: Tag, M: Copy> NestedLines<T, M> {
         }
     }
 
-    /// Removes all blocks but the outermost, all lines and all waiting marks, and keeps the memory.
+    /// Removes all blocks but the outermost, and all lines, and keeps the memory.
     pub fn clear(&mut self)
         ensures { self.new ≡ no_blocks }
     {
@@ -69,56 +68,26 @@ impl<T: Tag, M: Copy> NestedLines<T, M> {
     pub fn reserve(&mut self, bytes: usize, lines: usize) -> Result<(), AllocError>
         ensures { self.new ≡ self.old }
     {
-        self.blocks.reserve(bytes, lines)
+        self.blocks.lines.reserve(bytes, lines)
     }
 
-    /// Returns the number of ended lines of the innermost block.
+    /// Reports whether the innermost block has no lines.
     #[inline]
-    pub fn line_count(&self) -> usize
-        ensures { result ≡ length self.now.lines }
+    pub fn is_empty(&self) -> bool
+        ensures { result ≡ (length self.now.lines == 0) }
     {
-        self.blocks.line_count()
+        !self.blocks.has_lines()
     }
 
-    /// Reports whether the open line has neither a character nor a mark. Prefixes don't count.
-    #[inline]
-    pub fn is_line_empty(&self) -> bool
-        ensures test { result ≡ (length self.now.line == 0) }
-        ensures empty { OnTrue result (self.now.line ≡ []) }
-    {
-        self.blocks.is_line_empty()
-    }
-
-    /// Returns the columns of the open line, without those of prefixes. Always `Some`.
-    #[inline]
-    pub fn open_columns(&self) -> Option<usize>
-        ensures { result ≡ counted (columns self.now.line) }
-    {
-        Some(self.blocks.open_columns())
-    }
-
-    /// Returns how many columns the open line is past a multiple of 8, from the first column after the prefixes.
-    pub fn past_tab_stop(&self) -> usize
-        ensures { result ≡ columns self.now.line % 8 }
-    {
-        self.blocks.open_columns() % 8
-    }
-
-    /// Appends a text of `width` columns to the open line, under a tag.
+    /// Appends a line of marks alone to the innermost block.
     ///
     /// # Errors
     ///
     /// `AllocError`. There are no blocks and no lines then.
-    #[inline]
-    pub fn push_str(&mut self, text: &str, width: usize, tag: T) -> Result<(), AllocError>
-        requires { width ≡ text_columns (chars text.now) }
-        ensures ok { OnOk result (self.new ≡ with_elements self.old (under tag (chars text.now))) }
-        ensures err { OnErr result (self.new ≡ no_blocks) }
+    pub fn push_marks_line(&mut self, marks: &[M]) -> Result<(), AllocError>
+        ensures { OnOk result (self.new ≡ with_lines self.old (marks_line marks.now ∷ [])) }
     {
-        if text.is_empty() {
-            return Ok(());
-        }
-        let put = self.blocks.push_str(text, width, tag);
+        let put = self.blocks.push_marks_line(marks);
         match put {
             Ok(()) => {}
             // Memory ran out.
@@ -127,67 +96,21 @@ impl<T: Tag, M: Copy> NestedLines<T, M> {
         put
     }
 
-    /// Appends a character of `width` columns to the open line, under a tag.
+    /// Appends a line with a text under a tag to the innermost block. Its columns are counted before; `None` if they pass a machine word.
     ///
     /// # Errors
     ///
     /// `AllocError`. There are no blocks and no lines then.
-    #[inline]
-    pub fn push_char(&mut self, c: char, width: usize, tag: T) -> Result<(), AllocError>
-        requires { width ≡ width_of c }
-        ensures ok { OnOk result (self.new ≡ with_elements self.old (Element.Character c tag ∷ [])) }
-        ensures err { OnErr result (self.new ≡ no_blocks) }
-    {
-        let put = self.blocks.push_char(c, width, tag);
-        match put {
-            Ok(()) => {}
-            // Memory ran out.
-            Err(_) => self.blocks.clear(),
-        }
-        put
-    }
-
-    /// Appends `count` spaces to the open line, under a tag.
-    ///
-    /// # Errors
-    ///
-    /// `AllocError`. There are no blocks and no lines then.
-    pub fn push_spaces(&mut self, count: usize, tag: T) -> Result<(), AllocError>
-        ensures ok { OnOk result (self.new ≡ with_elements self.old (repeated tag 32 count)) }
-        ensures err { OnErr result (self.new ≡ no_blocks) }
-    {
-        if count == 0 {
-            return Ok(());
-        }
-        let put = self.blocks.push_spaces(count, tag);
-        match put {
-            Ok(()) => {}
-            // Memory ran out.
-            Err(_) => self.blocks.clear(),
-        }
-        put
-    }
-
-    /// Appends a word of `width` columns to the open line, with the tags of a line that continues another, or of an ordinary line.
-    ///
-    /// # Errors
-    ///
-    /// `AllocError`. There are no blocks and no lines then.
-    #[inline]
-    pub fn append_word(
+    pub fn push_text_line(
         &mut self,
-        word: &TaggedText<TextStyle<T>, M>,
-        width: usize,
-        continues: bool,
+        text: &str,
+        columns: Option<usize>,
+        tag: T,
     ) -> Result<(), AllocError>
-        requires { width ≡ columns word.now.elements }
-        ensures ok { OnOk result (self.new ≡ with_elements self.old (map (element_of continues) (items_of word.now.elements))) }
-        ensures err { OnErr result (self.new ≡ no_blocks) }
+        requires { columns ≡ counted (text_columns (chars text.now)) }
+        ensures { OnOk result (self.new ≡ with_lines self.old (under tag (chars text.now) ∷ [])) }
     {
-        if word.is_empty() {
-            return Ok(());
-        }
-        let put = self.blocks.append_word(word, width, continues);
+        let put = self.blocks.push_text_line(text, columns, tag);
         match put {
             Ok(()) => {}
             // Memory ran out.
@@ -196,41 +119,19 @@ impl<T: Tag, M: Copy> NestedLines<T, M> {
         put
     }
 
-    /// Appends marks to the open line.
-    ///
-    /// # Errors
-    ///
-    /// `AllocError`. There are no blocks and no lines then.
-    pub fn push_marks(&mut self, marks: &[M]) -> Result<(), AllocError>
-        ensures ok { OnOk result (self.new ≡ with_elements self.old (marks_line marks.now)) }
-        ensures err { OnErr result (self.new ≡ no_blocks) }
-    {
-        if marks.is_empty() {
-            return Ok(());
-        }
-        let put = self.blocks.push_marks(marks);
-        match put {
-            Ok(()) => {}
-            // Memory ran out.
-            Err(_) => self.blocks.clear(),
-        }
-        put
-    }
-
-    /// Moves the marks that wait in the innermost block to the end of the open line.
+    /// Moves the lines of a buffer, whose open line must be empty, to the end of the innermost block.
     ///
     /// # Errors
     ///
     /// `AllocError`. There are no blocks and no lines then.
     #[inline]
-    pub fn push_waiting(&mut self) -> Result<(), AllocError>
-        ensures ok { OnOk result (self.new ≡ with_waiting_put self.old) }
-        ensures err { OnErr result (self.new ≡ no_blocks) }
+    pub fn append_buffer(&mut self, lines: &mut LineBuffer<T, M>) -> Result<(), AllocError>
+        requires { lines.old.line ≡ [] }
+        ensures ok { OnOk result (self.new ≡ with_lines self.old lines.old.lines) }
+        ensures moved { OnOk result (lines.new ≡ no_lines) }
+        ensures open { lines.new.line ≡ [] }
     {
-        if !self.blocks.has_waiting() {
-            return Ok(());
-        }
-        let put = self.blocks.push_waiting();
+        let put = self.blocks.append_buffer(lines);
         match put {
             Ok(()) => {}
             // Memory ran out.
@@ -239,17 +140,15 @@ impl<T: Tag, M: Copy> NestedLines<T, M> {
         put
     }
 
-    /// Ends the open line, and opens an empty one. An empty line has the prefixes of all open blocks too.
+    /// Moves other lines to the end of the innermost block.
     ///
     /// # Errors
     ///
     /// `AllocError`. There are no blocks and no lines then.
-    #[inline]
-    pub fn end_line(&mut self) -> Result<(), AllocError>
-        ensures ok { OnOk result (self.new ≡ with_line_ended self.old) }
-        ensures err { OnErr result (self.new ≡ no_blocks) }
+    pub fn append(&mut self, other: &mut FinishedLines<T, M>) -> Result<(), AllocError>
+        ensures { OnOk result (self.new ≡ with_lines self.old other.old) }
     {
-        let put = self.blocks.end_line();
+        let put = self.blocks.append(other);
         match put {
             Ok(()) => {}
             // Memory ran out.
@@ -258,16 +157,15 @@ impl<T: Tag, M: Copy> NestedLines<T, M> {
         put
     }
 
-    /// Adds a mark to those that wait in the innermost block.
+    /// Appends marks to the innermost block's last line. Does nothing without lines.
     ///
     /// # Errors
     ///
     /// `AllocError`. There are no blocks and no lines then.
-    pub fn hold_mark(&mut self, mark: M) -> Result<(), AllocError>
-        ensures ok { OnOk result (self.new ≡ with_mark_held self.old mark) }
-        ensures err { OnErr result (self.new ≡ no_blocks) }
+    pub fn mark_last(&mut self, marks: &[M]) -> Result<(), AllocError>
+        ensures { OnOk result (self.new ≡ with_last_marked self.old marks.now) }
     {
-        let put = self.blocks.hold_mark(mark);
+        let put = self.blocks.mark_last(marks);
         match put {
             Ok(()) => {}
             // Memory ran out.
@@ -276,19 +174,30 @@ impl<T: Tag, M: Copy> NestedLines<T, M> {
         put
     }
 
-    /// Begins a block in the innermost one, whose open line must be empty. Its first line follows the marks that wait in the block around
-    /// and the prefix, and other lines follow the later prefix.
+    /// Reports whether each line of the innermost block, which is in another one, fits in `width` columns after its prefix. Reads no line.
+    pub fn fits(&self, width: usize) -> bool
+        ensures { (os : List (Outer T M)) (o : Outer T M) → self.now.outer ≡ os ++ o ∷ [] →
+            result ≡ fits_after (text_columns o.first) (text_columns o.later) width self.now.lines }
+    {
+        self.blocks.fits(width)
+    }
+
+    /// Begins a block in the innermost one. Its first line follows the marks that wait around it and the prefix, and other lines follow the
+    /// later prefix.
     ///
     /// # Errors
     ///
     /// `AllocError`. There are no blocks and no lines then.
-    pub fn begin_block(&mut self, prefix: &Prefix<'_, T>, later: Later) -> Result<(), AllocError>
-        requires { self.old.line ≡ [] }
-        ensures ok { OnOk result (self.new ≡ with_block_begun self.old prefix.now.tag (chars prefix.now.text.now)
+    pub fn begin_block(
+        &mut self,
+        waiting: &[M],
+        prefix: &Prefix<'_, T>,
+        later: Later,
+    ) -> Result<(), AllocError>
+        ensures { OnOk result (self.new ≡ with_block_begun self.old waiting.now prefix.now.tag (chars prefix.now.text.now)
             (later_characters later (chars prefix.now.text.now))) }
-        ensures err { OnErr result (self.new ≡ no_blocks) }
     {
-        let put = self.blocks.open_level(prefix, later);
+        let put = self.blocks.open_level(waiting, prefix, later);
         match put {
             Ok(()) => {}
             // Memory ran out.
@@ -297,34 +206,40 @@ impl<T: Tag, M: Copy> NestedLines<T, M> {
         put
     }
 
-    /// Ends the innermost block, whose open line must be empty. Its lines become lines of the block around, where its waiting marks are put
-    /// at the end of the last one. Without lines, these marks wait in the block around. Does nothing to the outermost block.
+    /// Ends the innermost block, in which `marks` still wait. Its lines become lines of the block around, with these marks at the end of the
+    /// last one. Returns the marks that wait in the block around after that: without lines, those that waited there before and `marks`.
+    /// Does nothing to the outermost block.
     ///
     /// # Errors
     ///
     /// `AllocError`. There are no blocks and no lines then.
-    pub fn end_block(&mut self) -> Result<(), AllocError>
-        requires { self.old.line ≡ [] }
-        ensures ok { OnOk result ((os : List (Outer T M)) (o : Outer T M) → self.old.outer ≡ os ++ o ∷ [] → self.new ≡ with_block_ended os o self.old) }
-        ensures err { OnErr result (self.new ≡ no_blocks) }
+    pub fn end_block(&mut self, marks: &[M]) -> Result<Vec<M>, AllocError>
+        ensures block { OnOk result ((os : List (Outer T M)) (o : Outer T M) → self.old.outer ≡ os ++ o ∷ [] →
+            self.new ≡ with_block_ended os o self.old marks.now) }
+        ensures waiting { IfOk result (λ ms. (os : List (Outer T M)) (o : Outer T M) → self.old.outer ≡ os ++ o ∷ [] →
+            ms.items ≡ waiting_after o self.old marks.now) }
     {
         let Some(level) = self.blocks.pop_level() else {
-            return Ok(());
+            return Ok(Vec::new(self.blocks.alloc()));
         };
-        let put = self.blocks.close_level(level);
-        match put {
-            Ok(()) => {}
+        let left = self.blocks.close_level(&level, marks);
+        match left {
+            Ok(waiting) => Ok(waiting),
             // Memory ran out.
-            Err(_) => self.blocks.clear(),
+            Err(error) => {
+                self.blocks.clear();
+                Err(error)
+            }
         }
-        put
     }
 
-    /// Returns the lines of the outermost block, whose blocks have ended. Marks that still wait are dropped.
-    pub fn into_buffer(self) -> LineBuffer<T, M>
-        requires { self.outer ≡ [] }
-        ensures { result ≡ record { lines = self.lines; line = self.line } }
+    /// Moves the lines of the outermost block out, in which no block is open.
+    pub fn take_lines(&mut self) -> FinishedLines<T, M>
+        requires { self.old.outer ≡ [] }
+        ensures lines { result ≡ self.old.lines }
+        ensures left { self.new ≡ no_blocks }
     {
-        self.blocks.into_buffer()
+        let none = FinishedLines::new(self.blocks.alloc());
+        mem::replace(&mut self.blocks.lines, none)
     }
 }

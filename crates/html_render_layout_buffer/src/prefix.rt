@@ -19,7 +19,7 @@ pub struct Prefix<'a, T> {
 }
 
 /// Returns a number of columns that is known.
-fn known(columns: usize) -> Option<usize>
+pub(crate) fn known(columns: usize) -> Option<usize>
     ensures { result ≡ counted columns }
 {
     Some(columns)

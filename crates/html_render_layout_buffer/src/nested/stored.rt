@@ -1,42 +1,36 @@
 //! How blocks in blocks are stored: the steps on the fields, without what they mean.
 
-ghost use Rattle.std.specs.Prelude.{◌≡◌, ℕ, ◌-◌, ◌≤◌, ◌<◌, ◌^◌, nat_lt, [], ◌∷◌, ◌++◌, length, map, take, drop, OnOk, IfOk, IfSome, IfNone};
-ghost use Rattle.std.specs.Bool.{OnTrue};
+ghost use Rattle.std.specs.Prelude.{◌≡◌, List, ◌-◌, ◌≤◌, [], ◌∷◌, ◌++◌, length, take, OnOk, IfOk, IfSome, IfNone, if◌then◌else◌};
 ghost use Rattle.std.specs.Str.{chars};
-ghost use Rattle.html_render_layout_lines.specs.Character.{width_of};
-ghost use Rattle.html_render_layout_lines.specs.Line.{columns, element_of, marks_line, is_empty};
-ghost use Rattle.html_render_layout_lines.specs.TaggedText.{counted, text_columns, items_of, under};
+ghost use Rattle.html_render_layout_lines.specs.Line.{is_empty, marks_line};
+ghost use Rattle.html_render_layout_lines.specs.TaggedText.{counted, text_columns, under};
 ghost use Rattle.html_render_layout_buffer.specs.Lines.{no_lines};
-ghost use Rattle.html_render_layout_buffer.specs.Marked.{marked_behind};
-ghost use Rattle.html_render_layout_buffer.specs.Padding.{repeated};
-ghost use Rattle.html_render_layout_buffer.specs.Levels.{marks_in, line_started, elements_put, line_put, waiting_put, level_opened, block_around, later_characters, level_closed};
+ghost use Rattle.html_render_layout_buffer.specs.Widths.{with_line, with_each, with_block, fit};
+ghost use Rattle.html_render_layout_buffer.specs.Levels.{nothing_stored, lines_after, lines_added, has_lines, end_marked, level_opened, block_around, later_characters, level_closed, last_marks, waiting_left};
 
-use super::prefixes::{Later, Level, LinePrefix, has_prefix, put_prefixes};
+use super::prefixes::{Later, Level, LinePrefix, has_prefix, put_lines, put_prefixes};
+use super::widths::Widths;
 use crate::buffer::LineBuffer;
+use crate::finished::FinishedLines;
 use crate::prefix::Prefix;
-use html_render_layout_lines::character::TextStyle;
-use html_render_layout_lines::line::{Element, TaggedText};
 use html_render_layout_lines::tag::Tag;
 use std::alloc::{AllocError, Global};
 use std::marker::Model;
+use std::mem;
 
 /// Lines of blocks in blocks, as they are stored.
 #[derive(Drop)]
 pub(super) struct StoredBlocks<T, M> {
-    // the lines of all blocks
-    buffer: LineBuffer<T, M>,
+    /// The lines of all blocks.
+    pub lines: FinishedLines<T, M>,
     // the prefixes of the open blocks that have some, outermost block first
-    prefixes: Vec<LinePrefix<T>>,
+    prefixes: Vec<LinePrefix<T, M>>,
     // the blocks that are open in others, outermost first
     levels: Vec<Level<T>>,
-    // the waiting marks of all open blocks, outermost block first
-    waiting: Vec<M>,
     // number of lines of the outer blocks: that of the innermost block's first line
     start: usize,
-    // number of marks that wait in the outer blocks
-    around: usize,
-    // columns of the prefixes on the open line
-    margin: usize,
+    // widths of the innermost block's lines, if it is in another one
+    widths: Widths,
 }
 
 impl<T, M> Model for StoredBlocks<T, M> {
@@ -45,253 +39,192 @@ impl<T, M> Model for StoredBlocks<T, M> {
     ghost Value = { NestedFields T M };
 
     ghost view = { λ s. record {
-      buffer = s.buffer;
+      lines = s.lines;
       prefixes = s.prefixes.items;
       levels = s.levels.items;
-      waiting = s.waiting.items;
       start = s.start;
-      around = s.around;
-      margin = s.margin;
+      widths = s.widths;
     } };
 }
 
 impl<T: Tag, M: Copy> StoredBlocks<T, M> {
     /// Returns an outermost block without lines.
     pub(super) fn new(alloc: Global) -> StoredBlocks<T, M>
-        ensures { result ≡ record { buffer = no_lines; prefixes = []; levels = []; waiting = []; start = 0; around = 0; margin = 0 } }
+        ensures { result ≡ nothing_stored }
     {
         StoredBlocks {
-            buffer: LineBuffer::new(alloc),
+            lines: FinishedLines::new(alloc),
             prefixes: Vec::new(alloc),
             levels: Vec::new(alloc),
-            waiting: Vec::new(alloc),
             start: 0,
-            around: 0,
-            margin: 0,
+            widths: Widths::NoLines,
         }
     }
 
     /// Removes all blocks but the outermost, and all lines, and keeps the memory.
     pub(super) fn clear(&mut self)
-        ensures { self.new ≡ record { buffer = no_lines; prefixes = []; levels = []; waiting = []; start = 0; around = 0; margin = 0 } }
+        ensures { self.new ≡ nothing_stored }
     {
-        self.buffer.clear();
+        self.lines.clear();
         self.prefixes.clear();
         self.levels.clear();
-        self.waiting.clear();
         self.start = 0;
-        self.around = 0;
-        self.margin = 0;
+        self.widths = Widths::NoLines;
     }
 
-    /// Reserves memory for `bytes` more bytes of text and `lines` more lines.
-    pub(super) fn reserve(&mut self, bytes: usize, lines: usize) -> Result<(), AllocError>
-        ensures { self.new ≡ self.old }
-    {
-        self.buffer.reserve(bytes, lines)
+    /// Returns the allocator.
+    pub(super) fn alloc(&self) -> Global {
+        *self.levels.allocator()
     }
 
-    /// Returns the number of ended lines of the innermost block.
+    /// Reports whether the innermost block has lines.
     #[inline]
-    pub(super) fn line_count(&self) -> usize
-        ensures { result ≡ length self.now.buffer.lines - self.now.start }
+    pub(super) fn has_lines(&self) -> bool
+        ensures { result ≡ has_lines self.now }
     {
-        self.buffer.line_count().saturating_sub(self.start)
+        self.lines.has_more_than(self.start)
     }
 
-    /// Reports whether the open line is empty.
-    #[inline]
-    pub(super) fn is_line_empty(&self) -> bool
-        ensures test { result ≡ is_empty self.now.buffer.line }
-        ensures empty { OnTrue result (self.now.buffer.line ≡ []) }
+    /// Notes the columns of a line that is added to the innermost block, if that is in another one.
+    fn note(&mut self, columns: Option<usize>)
+        ensures { self.new ≡ record self.old { widths = if is_empty self.old.levels then self.old.widths else with_line self.old.widths columns } }
     {
-        self.buffer.is_line_empty()
-    }
-
-    /// Returns the columns of the open line after its prefixes.
-    #[inline]
-    pub(super) fn open_columns(&self) -> usize
-        requires { columns self.now.buffer.line < 2 ^ 64 }
-        ensures { result ≡ columns self.now.buffer.line - self.now.margin }
-    {
-        match self.buffer.open_columns() {
-            Some(columns) => columns.saturating_sub(self.margin),
-            None => 0,
+        if self.levels.is_empty() {
+            return;
         }
+        self.widths = self.widths.with_line(columns);
     }
 
-    /// Reports whether marks wait in the innermost block.
-    #[inline]
-    pub(super) fn has_waiting(&self) -> bool
-        ensures { result ≡ nat_lt self.now.around (length self.now.waiting) }
+    /// Notes the columns of lines that are added to the innermost block, if that is in another one.
+    fn note_each(&mut self, lines: &LineBuffer<T, M>)
+        ensures { self.new ≡ record self.old { widths = if is_empty self.old.levels then self.old.widths else with_each self.old.widths lines.now.lines } }
     {
-        self.around < self.waiting.len()
-    }
-
-    /// Puts the prefixes of all open blocks on the open line, which is empty.
-    #[inline(never)]
-    fn put_prefixes(&mut self) -> Result<(), AllocError>
-        requires marks { marks_in self.old.prefixes ≤ length self.old.waiting }
-        requires line { self.old.buffer.line ≡ [] }
-        ensures { OnOk result (self.new ≡ line_started self.old) }
-    {
-        put_prefixes(
-            &mut self.buffer,
-            self.prefixes.as_slice(),
-            self.waiting.as_slice(),
-        )?;
-        self.margin = known(self.buffer.open_columns())?;
-        Ok(())
-    }
-
-    /// Puts the prefixes of all open blocks on the open line, if that is empty.
-    #[inline]
-    fn start_line(&mut self) -> Result<(), AllocError>
-        requires { marks_in self.old.prefixes ≤ length self.old.waiting }
-        ensures { OnOk result (self.new ≡ line_started self.old) }
-    {
-        if self.buffer.is_line_empty() {
-            return self.put_prefixes();
+        if self.levels.is_empty() {
+            return;
         }
+        self.widths = self.widths.with_each(lines);
+    }
+
+    /// Appends a line of marks alone.
+    pub(super) fn push_marks_line(&mut self, marks: &[M]) -> Result<(), AllocError>
+        ensures { OnOk result (self.new ≡ lines_added self.old (marks_line marks.now ∷ [])) }
+    {
+        let number = self.lines.line_count()?;
+        put_prefixes(&mut self.lines.last, number, self.prefixes.as_slice())?;
+        self.lines.last.push_marks(marks)?;
+        self.lines.last.end_line()?;
+        self.note(Some(0));
         Ok(())
     }
 
-    /// Returns `AllocError` if the columns of the open line pass a machine word.
-    #[inline]
-    fn count_line(&self) -> Result<(), AllocError>
-        ensures { OnOk result (columns self.now.buffer.line < 2 ^ 64) }
-    {
-        known(self.buffer.open_columns())?;
-        Ok(())
-    }
-
-    /// Appends a text of `width` columns to the open line, under a tag, after the prefixes.
-    #[inline]
-    pub(super) fn push_str(&mut self, text: &str, width: usize, tag: T) -> Result<(), AllocError>
-        requires marks { marks_in self.old.prefixes ≤ length self.old.waiting }
-        requires width { width ≡ text_columns (chars text.now) }
-        ensures ok { OnOk result (self.new ≡ elements_put self.old (under tag (chars text.now))) }
-        ensures counted { OnOk result (columns self.new.buffer.line < 2 ^ 64) }
-    {
-        self.start_line()?;
-        self.buffer.push_str(text, width, tag)?;
-        self.count_line()
-    }
-
-    /// Appends a character of `width` columns to the open line, under a tag, after the prefixes.
-    #[inline]
-    pub(super) fn push_char(&mut self, c: char, width: usize, tag: T) -> Result<(), AllocError>
-        requires marks { marks_in self.old.prefixes ≤ length self.old.waiting }
-        requires width { width ≡ width_of c }
-        ensures ok { OnOk result (self.new ≡ elements_put self.old (Element.Character c tag ∷ [])) }
-        ensures counted { OnOk result (columns self.new.buffer.line < 2 ^ 64) }
-    {
-        self.start_line()?;
-        self.buffer.push_char(c, width, tag)?;
-        self.count_line()
-    }
-
-    /// Appends `count` spaces to the open line, under a tag, after the prefixes.
-    pub(super) fn push_spaces(&mut self, count: usize, tag: T) -> Result<(), AllocError>
-        requires marks { marks_in self.old.prefixes ≤ length self.old.waiting }
-        ensures ok { OnOk result (self.new ≡ elements_put self.old (repeated tag 32 count)) }
-        ensures counted { OnOk result (columns self.new.buffer.line < 2 ^ 64) }
-    {
-        self.start_line()?;
-        self.buffer.push_spaces(count, tag)?;
-        self.count_line()
-    }
-
-    /// Appends a word of `width` columns to the open line, after the prefixes.
-    #[inline]
-    pub(super) fn append_word(
+    /// Appends a line with a text under a tag. Its columns are counted before; `None` if they pass a machine word.
+    pub(super) fn push_text_line(
         &mut self,
-        word: &TaggedText<TextStyle<T>, M>,
-        width: usize,
-        continues: bool,
+        text: &str,
+        columns: Option<usize>,
+        tag: T,
     ) -> Result<(), AllocError>
-        requires marks { marks_in self.old.prefixes ≤ length self.old.waiting }
-        requires width { width ≡ columns word.now.elements }
-        ensures ok { OnOk result (self.new ≡ elements_put self.old (map (element_of continues) (items_of word.now.elements))) }
-        ensures counted { OnOk result (columns self.new.buffer.line < 2 ^ 64) }
+        requires { columns ≡ counted (text_columns (chars text.now)) }
+        ensures { OnOk result (self.new ≡ lines_added self.old (under tag (chars text.now) ∷ [])) }
     {
-        self.start_line()?;
-        self.buffer.append_word(word, width, continues)?;
-        self.count_line()
-    }
-
-    /// Appends marks to the open line, after the prefixes.
-    pub(super) fn push_marks(&mut self, marks: &[M]) -> Result<(), AllocError>
-        requires marks { marks_in self.old.prefixes ≤ length self.old.waiting }
-        ensures ok { OnOk result (self.new ≡ elements_put self.old (marks_line marks.now)) }
-        ensures counted { OnOk result (columns self.new.buffer.line < 2 ^ 64) }
-    {
-        self.start_line()?;
-        self.buffer.push_marks(marks)?;
-        self.count_line()
-    }
-
-    /// Moves the marks that wait in the innermost block to the end of the open line, after the prefixes.
-    pub(super) fn push_waiting(&mut self) -> Result<(), AllocError>
-        requires marks { marks_in self.old.prefixes ≤ length self.old.waiting }
-        requires around { self.old.around ≤ length self.old.waiting }
-        ensures ok { OnOk result (self.new ≡ waiting_put self.old) }
-        ensures counted { OnOk result (columns self.new.buffer.line < 2 ^ 64) }
-    {
-        self.start_line()?;
-        self.buffer
-            .push_marks(&self.waiting.as_slice()[self.around..])?;
-        self.waiting.truncate(self.around);
-        self.count_line()
-    }
-
-    /// Ends the open line, after the prefixes.
-    #[inline]
-    pub(super) fn end_line(&mut self) -> Result<(), AllocError>
-        requires { marks_in self.old.prefixes ≤ length self.old.waiting }
-        ensures { OnOk result (self.new ≡ line_put self.old) }
-    {
-        // An empty line has prefixes too.
-        self.start_line()?;
-        self.buffer.end_line()?;
-        self.margin = 0;
+        let number = self.lines.line_count()?;
+        put_prefixes(&mut self.lines.last, number, self.prefixes.as_slice())?;
+        self.lines.last.push_counted(text, columns, tag)?;
+        self.lines.last.end_line()?;
+        self.note(columns);
         Ok(())
     }
 
-    /// Adds a mark to those that wait in the innermost block.
-    pub(super) fn hold_mark(&mut self, mark: M) -> Result<(), AllocError>
-        ensures { OnOk result (self.new ≡ record self.old { waiting = self.old.waiting ++ mark ∷ [] }) }
+    /// Appends copies of a buffer's ended lines.
+    fn put_copies(&mut self, lines: &LineBuffer<T, M>) -> Result<(), AllocError>
+        ensures { OnOk result (self.new ≡ record self.old {
+          lines = self.old.lines ++ lines_after (length self.old.lines) self.old.prefixes lines.now.lines;
+        }) }
     {
-        self.waiting.push(mark)?;
+        let number = self.lines.line_count()?;
+        let prefixes = self.prefixes.as_slice();
+        put_lines(&mut self.lines.last, lines, number, prefixes)
+    }
+
+    /// Moves the lines of a buffer to the end. They are copied if an open block has a prefix.
+    pub(super) fn append_buffer(&mut self, lines: &mut LineBuffer<T, M>) -> Result<(), AllocError>
+        requires { lines.old.line ≡ [] }
+        ensures ok { OnOk result (self.new ≡ lines_added self.old lines.old.lines) }
+        ensures moved { OnOk result (lines.new ≡ no_lines) }
+        ensures open { lines.new.line ≡ [] }
+    {
+        self.note_each(lines);
+        if self.prefixes.is_empty() {
+            self.lines.append_buffer(lines)?;
+            return Ok(());
+        }
+        self.put_copies(lines)?;
+        lines.clear();
         Ok(())
+    }
+
+    /// Moves other lines to the end.
+    pub(super) fn append(&mut self, other: &mut FinishedLines<T, M>) -> Result<(), AllocError>
+        requires { length self.old.prefixes ≤ length self.old.levels }
+        ensures { OnOk result (self.new ≡ lines_added self.old other.old) }
+    {
+        if self.levels.is_empty() {
+            self.lines.append(other)?;
+            return Ok(());
+        }
+        let none = FinishedLines::new(self.alloc());
+        let mut lines = mem::replace(other, none).into_buffer()?;
+        self.append_buffer(&mut lines)
+    }
+
+    /// Appends marks to the innermost block's last line. Does nothing without lines.
+    pub(super) fn mark_last(&mut self, marks: &[M]) -> Result<(), AllocError>
+        ensures { OnOk result (self.new ≡ end_marked self.old marks.now) }
+    {
+        if !self.has_lines() {
+            return Ok(());
+        }
+        self.lines.mark_last(marks)
+    }
+
+    /// Reports whether the lines of the innermost block fit in `width` columns after its prefixes.
+    pub(super) fn fits(&self, width: usize) -> bool
+        ensures { (vs : List (Level T)) (v : Level T) → self.now.levels ≡ vs ++ v ∷ [] → result ≡ fit self.now.widths v.first v.later width }
+    {
+        let count = self.levels.len();
+        if count == 0 {
+            return true;
+        }
+        let level = self.levels[count - 1];
+        self.widths.fit(level.first, level.later, width)
     }
 
     /// Adds the level of a block, and its prefixes if it has some.
     pub(super) fn open_level(
         &mut self,
+        waiting: &[M],
         prefix: &Prefix<'_, T>,
         later: Later,
     ) -> Result<(), AllocError>
-        requires { self.old.around ≤ length self.old.waiting }
         ensures { OnOk result (self.new ≡ level_opened self.old
-            (block_around self.old prefix.now.tag (chars prefix.now.text.now) (later_characters later (chars prefix.now.text.now)))) }
+            (block_around waiting.now prefix.now.tag (chars prefix.now.text.now) (later_characters later (chars prefix.now.text.now)))) }
     {
-        let start = self.buffer.line_count();
-        let lines = self.line_count();
-        let marks = self.waiting.len() - self.around;
-        let has_prefix = has_prefix(marks, prefix.text, later);
+        let start = self.lines.line_count()?;
+        let has_prefix = has_prefix(waiting, prefix.text, later);
         if has_prefix {
-            let own = LinePrefix::new(self.buffer.alloc(), prefix, later, start, marks)?;
+            let own = LinePrefix::new(self.alloc(), waiting, prefix, later, start)?;
             self.prefixes.push(own)?;
         }
         self.levels.push(Level {
-            lines,
-            marks,
+            lines: start.saturating_sub(self.start),
             tag: prefix.tag,
             has_prefix,
+            first: prefix.columns,
+            later: later.columns(prefix.columns),
+            widths: self.widths,
         })?;
         self.start = start;
-        self.around = self.waiting.len();
+        self.widths = Widths::NoLines;
         Ok(())
     }
 
@@ -304,57 +237,61 @@ impl<T: Tag, M: Copy> StoredBlocks<T, M> {
         self.levels.pop()
     }
 
-    /// Puts copies of the marks that wait in the innermost block at the end of its last line.
-    fn mark_last(&mut self) -> Result<(), AllocError>
-        requires line { self.old.buffer.line ≡ [] }
-        requires around { self.old.around ≤ length self.old.waiting }
-        ensures { OnOk result (self.new ≡ record self.old {
-          buffer = record { lines = marked_behind (drop self.old.around self.old.waiting) self.old.buffer.lines; line = [] };
-        }) }
+    /// Removes the innermost block's prefixes, if it has some. Returns the marks that precede them.
+    fn pop_prefix(&mut self, has_prefix: bool) -> Vec<M>
+        ensures left { self.new ≡ record self.old {
+          prefixes = if has_prefix then take (length self.old.prefixes - 1) self.old.prefixes else self.old.prefixes;
+        } }
+        ensures marks { result.items ≡ (if has_prefix then last_marks self.old.prefixes else []) }
     {
-        if !self.has_waiting() {
-            return Ok(());
+        if !has_prefix {
+            return Vec::new(self.alloc());
         }
-        self.buffer
-            .mark_last(&self.waiting.as_slice()[self.around..])
+        match self.prefixes.pop() {
+            Some(prefix) => prefix.into_marks(),
+            None => Vec::new(self.alloc()),
+        }
     }
 
-    /// Closes a level: removes its prefixes, and puts the block's waiting marks at the end of its last line, if it has lines.
-    pub(super) fn close_level(&mut self, level: Level<T>) -> Result<(), AllocError>
-        requires line { self.old.buffer.line ≡ [] }
-        requires around { self.old.around ≤ length self.old.waiting }
-        requires marks { level.marks ≤ self.old.around }
-        ensures { OnOk result (self.new ≡ level_closed self.old level) }
+    /// Returns the marks that wait in the block around the innermost one after its end: `own` and `marks`, if it has no lines.
+    fn waiting_left(&self, own: Vec<M>, marks: &[M]) -> Result<Vec<M>, AllocError>
+        ensures { IfOk result (λ ms. ms.items ≡ (if has_lines self.now then [] else own.items ++ marks.now)) }
     {
-        let left = self.around - level.marks;
-        if self.buffer.line_count() > self.start {
-            self.mark_last()?;
-            self.waiting.truncate(left);
+        if self.has_lines() {
+            return Ok(Vec::new(self.alloc()));
         }
+        let mut all = own;
+        all.extend_from_slice(marks)?;
+        Ok(all)
+    }
+
+    /// Returns the widths of the lines of the block around the innermost one after its end, if it is in another one.
+    fn widths_left(&self, level: &Level<T>) -> Widths
+        ensures { result ≡ (if is_empty self.now.levels then Widths.NoLines else with_block level.now.widths level.now.first level.now.later self.now.widths) }
+    {
+        if self.levels.is_empty() {
+            return Widths::NoLines;
+        }
+        level
+            .widths
+            .with_block(level.first, level.later, self.widths)
+    }
+
+    /// Closes the innermost block, whose level is taken off the list, and puts `marks` at the end of its last line. Returns the marks that
+    /// wait in the block around after that.
+    pub(super) fn close_level(
+        &mut self,
+        level: &Level<T>,
+        marks: &[M],
+    ) -> Result<Vec<M>, AllocError>
+        ensures closed { OnOk result (self.new ≡ level_closed (end_marked self.old marks.now) level.now) }
+        ensures waiting { IfOk result (λ ms. ms.items ≡ waiting_left self.old level.now marks.now) }
+    {
+        let own = self.pop_prefix(level.has_prefix);
+        let waiting = self.waiting_left(own, marks)?;
+        self.mark_last(marks)?;
         self.start = self.start.saturating_sub(level.lines);
-        self.around = left;
-        if level.has_prefix {
-            let others = self.prefixes.len().saturating_sub(1);
-            self.prefixes.truncate(others);
-        }
-        Ok(())
-    }
-
-    /// Returns the lines of all blocks.
-    pub(super) fn into_buffer(self) -> LineBuffer<T, M>
-        ensures { result ≡ self.buffer }
-    {
-        self.buffer
-    }
-}
-
-/// Returns a number of columns. `AllocError` if it passes a machine word.
-#[inline]
-fn known(columns: Option<usize>) -> Result<usize, AllocError>
-    ensures { (n : ℕ) → columns ≡ counted n → IfOk result (λ k. (k ≡ n) × (n < 2 ^ 64)) }
-{
-    match columns {
-        Some(columns) => Ok(columns),
-        None => Err(AllocError),
+        self.widths = self.widths_left(level);
+        Ok(waiting)
     }
 }

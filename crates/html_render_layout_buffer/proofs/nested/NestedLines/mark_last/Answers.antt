@@ -1,0 +1,8 @@
+use Rattle.html_render_layout_buffer.proofs.OpenBlocks.{made, is-nested, opened, marked}
+use Rattle.html_render_layout_buffer.proofs.nested.NestedLines.mark_last.Goals as goal
+
+pub invariant_of-self : goal.invariant_of-self
+invariant_of-self g c = is-nested _ _ (marked _ _ _ c.args.marks.now (opened _ _ c.self.invariant c.self.view_is) c.in-Ok.ensures)
+
+pub returns-in-Ok : goal.returns-in-Ok
+returns-in-Ok g c = rw c.in-Ok.is (made _ _ (marked _ _ _ c.args.marks.now (opened _ _ c.self.invariant c.self.view_is) c.in-Ok.ensures))

@@ -1,0 +1,11 @@
+use Rattle.std.proofs.Common.{[], ◌∷◌}
+use Rattle.std.specs.Str.{chars}
+use Rattle.html_render_layout_lines.specs.TaggedText.{under}
+use Rattle.html_render_layout_buffer.proofs.OpenBlocks.{made, is-nested, opened, added}
+use Rattle.html_render_layout_buffer.proofs.nested.NestedLines.push_text_line.Goals as goal
+
+pub invariant_of-self : goal.invariant_of-self
+invariant_of-self g c = is-nested _ _ (added _ _ _ (under c.args.tag (chars c.args.text.now) ∷ []) (opened _ _ c.self.invariant c.self.view_is) c.in-Ok.ensures)
+
+pub returns-in-Ok : goal.returns-in-Ok
+returns-in-Ok g c = rw c.in-Ok.is (made _ _ (added _ _ _ (under c.args.tag (chars c.args.text.now) ∷ []) (opened _ _ c.self.invariant c.self.view_is) c.in-Ok.ensures))
